@@ -1,0 +1,100 @@
+-- "32 strips of 12 bytes, 384 in all." The cells of a strip, what an entry writes, and how three boards are merged.
+use Prim.Native.Nat.{ℕ, zero, suc, _+_, _-_, _*_, _^_}
+use mathlib.Core.Bool.{Bool, true, false, cond, _&&_, _||_}
+use mathlib.Core.List.{List, [], _∷_, _++_}
+use lib.Bits.{bitAnd, bitOr}
+use lib.Dec.{eqb, ltb}
+use lib.ListN.{getD, set}
+use Rattle.buffer.specs.Field.{word, wordAt, putWord, zeros}
+use Rattle.buffer.specs.Row.{bit}
+
+abbrev pub stripSize : ℕ
+stripSize = 12
+
+abbrev pub stripCount : ℕ
+stripCount = 32
+
+abbrev pub boardSize : ℕ
+boardSize = stripSize * stripCount
+
+-- "Version 0 has an empty board"
+abbrev pub emptyBoard : List ℕ
+emptyBoard = zeros boardSize
+
+-- "Offsets: 0 level, 2 heading, 4 marks, 6 calls, 8 alert count, each 16 bits; 10 alert flag (0 or 1); 11 always zero."
+-- The place of a cell of strip k.
+abbrev pub levelAt : ℕ → ℕ
+levelAt k = stripSize * k
+
+abbrev pub headingAt : ℕ → ℕ
+headingAt k = stripSize * k + 2
+
+abbrev pub marksAt : ℕ → ℕ
+marksAt k = stripSize * k + 4
+
+abbrev pub callsAt : ℕ → ℕ
+callsAt k = stripSize * k + 6
+
+abbrev pub alertsAt : ℕ → ℕ
+alertsAt k = stripSize * k + 8
+
+abbrev pub flagAt : ℕ → ℕ
+flagAt k = stripSize * k + 10
+
+-- a flag is on when its byte is 1
+abbrev pub flagOn : List ℕ → ℕ → Bool
+flagOn s k = eqb (getD s (flagAt k) 0) 1
+
+-- "a without l": the marks of a that l does not have
+abbrev pub without : ℕ → ℕ → ℕ
+without a l = a - bitAnd a l
+
+-- "level and heading, each alone: b if a = l, else a."
+abbrev pub mergeSetting : ℕ → ℕ → ℕ → ℕ
+mergeSetting l a b = cond (eqb a l) b a
+
+-- "marks: (a and b) or (a without l) or (b without l)."
+abbrev pub mergeMarks : ℕ → ℕ → ℕ → ℕ
+mergeMarks l a b = bitOr (bitOr (bitAnd a b) (without a l)) (without b l)
+
+-- "calls and alert count: a + b − l."
+abbrev pub mergeCount : ℕ → ℕ → ℕ → ℕ
+mergeCount l a b = a + b - l
+
+-- "alert flag: if a's and b's flags agree, that flag; otherwise 1 exactly when the side whose flag is 1 has an alert count above l's."
+-- The flags of a and b, then the alert counts of l, a and b.
+unfoldable pub mergeFlag : Bool → Bool → ℕ → ℕ → ℕ → Bool
+mergeFlag true true l a b = true
+mergeFlag false false l a b = false
+mergeFlag true false l a b = ltb l a
+mergeFlag false true l a b = ltb l b
+
+-- "Merging base l, receiver a, giver b, strip by strip": strip k of the three boards
+unfoldable pub mergeStrip : List ℕ → List ℕ → List ℕ → ℕ → List ℕ
+mergeStrip l a b k =
+    word (mergeSetting (wordAt l (levelAt k)) (wordAt a (levelAt k)) (wordAt b (levelAt k)))
+    ++ word (mergeSetting (wordAt l (headingAt k)) (wordAt a (headingAt k)) (wordAt b (headingAt k)))
+    ++ word (mergeMarks (wordAt l (marksAt k)) (wordAt a (marksAt k)) (wordAt b (marksAt k)))
+    ++ word (mergeCount (wordAt l (callsAt k)) (wordAt a (callsAt k)) (wordAt b (callsAt k)))
+    ++ word (mergeCount (wordAt l (alertsAt k)) (wordAt a (alertsAt k)) (wordAt b (alertsAt k)))
+    ++ (bit (mergeFlag (flagOn a k) (flagOn b k) (wordAt l (alertsAt k)) (wordAt a (alertsAt k)) (wordAt b (alertsAt k))) ∷ 0 ∷ [])
+
+-- the first n strips
+unfoldable pub mergeStrips : List ℕ → List ℕ → List ℕ → ℕ → List ℕ
+mergeStrips l a b zero = []
+mergeStrips l a b (suc n) = mergeStrips l a b n ++ mergeStrip l a b n
+
+abbrev pub mergeBoard : List ℕ → List ℕ → List ℕ → List ℕ
+mergeBoard l a b = mergeStrips l a b stripCount
+
+-- "06 adds 1 to calls; 07 adds 1 to the alert count and sets the flag; 08 clears the flag only." 02 writes the level, 03 the heading,
+-- 04 puts the mark, 05 takes it. The board after an entry of this code on strip k with operand x.
+unfoldable pub enter : ℕ → ℕ → ℕ → List ℕ → List ℕ
+enter code k x s =
+    cond (eqb code 0x02) (putWord s (levelAt k) x)
+    (cond (eqb code 0x03) (putWord s (headingAt k) x)
+    (cond (eqb code 0x04) (putWord s (marksAt k) (bitOr (wordAt s (marksAt k)) (2 ^ x)))
+    (cond (eqb code 0x05) (putWord s (marksAt k) (without (wordAt s (marksAt k)) (2 ^ x)))
+    (cond (eqb code 0x06) (putWord s (callsAt k) (wordAt s (callsAt k) + 1))
+    (cond (eqb code 0x07) (set (putWord s (alertsAt k) (wordAt s (alertsAt k) + 1)) (flagAt k) 1)
+    (cond (eqb code 0x08) (set s (flagAt k) 0) s))))))

@@ -1,0 +1,29 @@
+-- "one bit per version": a set of numbers as a row of bits, eight to a byte, the lowest number in the lowest bit of the first byte.
+use Prim.Native.Nat.{ℕ, zero, suc, _+_, _*_, _/_, _%_, _^_}
+use mathlib.Core.Bool.{Bool, true, false}
+use mathlib.Core.List.{List, [], _∷_}
+use lib.Dec.{eqb}
+use lib.ListN.{getD}
+
+abbrev pub bit : Bool → ℕ
+bit true = 1
+bit false = 0
+
+-- the byte that holds the members v to v + 7
+abbrev pub rowByte : (ℕ → Bool) → ℕ → ℕ
+rowByte f v =
+    bit (f v) + 2 * bit (f (v + 1)) + 4 * bit (f (v + 2)) + 8 * bit (f (v + 3))
+    + 16 * bit (f (v + 4)) + 32 * bit (f (v + 5)) + 64 * bit (f (v + 6)) + 128 * bit (f (v + 7))
+
+-- n bytes of the row, from the one that starts with the member v
+unfoldable pub rowFrom : (ℕ → Bool) → ℕ → ℕ → List ℕ
+rowFrom f v zero = []
+rowFrom f v (suc n) = rowByte f v ∷ rowFrom f (v + 8) n
+
+-- the row of the members below 8 times n
+abbrev pub row : (ℕ → Bool) → ℕ → List ℕ
+row f n = rowFrom f 0 n
+
+-- v is a member of the row
+abbrev pub member : List ℕ → ℕ → Bool
+member s v = eqb (getD s (v / 8) 0 / 2 ^ (v % 8) % 2) 1

@@ -1,0 +1,74 @@
+-- "One code byte, then operands; the code alone decides the length." Codes of commands and of tape records, the widths of what follows
+-- each, and which numbers may stand there.
+use Prim.Native.Nat.{ℕ, _+_}
+use mathlib.Core.Bool.{Bool, true, false, cond, _&&_, _||_}
+use mathlib.Core.List.{List, [], _∷_}
+use lib.Dec.{eqb, leb, ltb}
+use lib.ListN.{getD}
+use Rattle.buffer.specs.Field.{wordAt}
+use Rattle.board.specs.Board.{stripCount}
+use Rattle.command.specs.declared.Shape.{Shape}
+use Rattle.command.specs.declared.Shape.the-variants.{Known, Unknown}
+use Rattle.command.specs.declared.Operands.{Operands}
+
+-- "up to 16 consoles"
+abbrev pub consoleCount : ℕ
+consoleCount = 16
+
+-- "mark k is the bit worth 2 to the k, k from 0 to 15"
+abbrev pub markCount : ℕ
+markCount = 16
+
+abbrev pub within : ℕ → ℕ → ℕ → Bool
+within low high x = leb low x && leb x high
+
+-- "01 fork", "02 level", .. "0A fast-forward"; the tape's records are 20 to 24
+unfoldable pub shapeOf : ℕ → Shape
+shapeOf code =
+    cond (eqb code 0x01) (Known 1 1 0 0)
+    (cond (within 0x02 0x03 code) (Known 1 1 2 0)
+    (cond (within 0x04 0x05 code) (Known 1 1 1 0)
+    (cond (within 0x06 0x08 code) (Known 1 1 0 0)
+    (cond (within 0x09 0x0A code) (Known 1 1 0 0)
+    (cond (eqb code 0x20) (Known 2 0 0 0)
+    (cond (eqb code 0x21) (Known 2 1 1 2)
+    (cond (eqb code 0x22) (Known 2 2 0 0)
+    (cond (eqb code 0x23) (Known 1 2 0 0)
+    (cond (eqb code 0x24) (Known 0 0 0 0) Unknown)))))))))
+
+-- how many bytes a code and what follows it take
+unfoldable pub lengthOf : Shape → ℕ
+lengthOf (Known a b c d) = 1 + a + b + c + d
+lengthOf Unknown = 0
+
+-- the number that stands at a place, one or two bytes wide; no byte gives 0
+unfoldable pub numberAt : List ℕ → ℕ → ℕ → ℕ
+numberAt s at width = cond (eqb width 2) (wordAt s at) (cond (eqb width 1) (getD s at 0) 0)
+
+-- what follows the code at the front of these bytes
+unfoldable pub operandsOf : Shape → List ℕ → Operands
+operandsOf (Known a b c d) s =
+    record
+      { first = numberAt s 1 a
+      ; second = numberAt s (1 + a) b
+      ; third = numberAt s (1 + a + b) c
+      ; fourth = numberAt s (1 + a + b + c) d
+      }
+operandsOf Unknown s = record { first = 0; second = 0; third = 0; fourth = 0 }
+
+-- "Codes 02 to 08 make an entry version"
+abbrev pub isEntryCode : ℕ → Bool
+isEntryCode code = within 0x02 0x08 code
+
+abbrev pub isConsole : ℕ → Bool
+isConsole c = ltb c consoleCount
+
+abbrev pub isStrip : ℕ → Bool
+isStrip k = ltb k stripCount
+
+-- "level (0 to 600 ..)", "heading (0 to 360 ..)", "mark k .. k from 0 to 15", "0 for 06 to 08"
+unfoldable pub isOperand : ℕ → ℕ → Bool
+isOperand code x =
+    cond (eqb code 0x02) (leb x 600)
+    (cond (eqb code 0x03) (leb x 360)
+    (cond (within 0x04 0x05 code) (ltb x markCount) (eqb x 0)))

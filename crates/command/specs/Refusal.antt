@@ -1,0 +1,15 @@
+-- "Of several that apply, the lowest is given." The refusals that a call can give stand in the order in which they are tested, which
+-- rises today; the first that applies is given, and 0 where none does.
+use Prim.Native.Nat.{ℕ}
+use mathlib.Core.Bool.{Bool, cond}
+use mathlib.Core.List.{List, [], _∷_}
+
+infix 68 _when_
+
+-- a refusal, and whether its case is there
+abbrev pub _when_ : ℕ → Bool → ℕ × Bool
+number when applies = (number, applies)
+
+unfoldable pub firstRefusal : List (ℕ × Bool) → ℕ
+firstRefusal [] = 0
+firstRefusal (r ∷ later) = cond (r .1) (r .0) (firstRefusal later)

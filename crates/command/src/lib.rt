@@ -1,0 +1,51 @@
+// Commands: the lengths and operand widths of codes, and the commands that byte strings decode to.
+use board::Strip;
+
+// The number of a console.
+pub struct Console(pub usize);
+
+// The widths in bytes of what follows a code; 0 where there is no such operand.
+pub enum Shape {
+    Known {
+        first: usize,
+        second: usize,
+        third: usize,
+        fourth: usize,
+    },
+    Unknown,
+}
+
+// The numbers that follow a code, in their order; 0 where there is no such operand.
+pub struct Operands {
+    pub first: usize,
+    pub second: usize,
+    pub third: usize,
+    pub fourth: usize,
+}
+
+pub enum Command {
+    Fork {
+        new: Console,
+        old: Console,
+    },
+    Entry {
+        console: Console,
+        code: usize,
+        strip: Strip,
+        operand: usize,
+    },
+    Merge {
+        receiver: Console,
+        giver: Console,
+    },
+    FastForward {
+        receiver: Console,
+        giver: Console,
+    },
+}
+
+// A command is decoded whole, or refused with the number of its refusal.
+pub enum Decoded {
+    Whole(Command),
+    Refused(u32),
+}

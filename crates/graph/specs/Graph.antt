@@ -1,0 +1,74 @@
+-- "Versions are numbered from 0. Version 0 has an empty board and no parent. Every later version is an entry (one parent, one strip
+-- change) or a merge (receiver's parent, giver's parent, base)." The version graph, ancestors, and the meet of two versions.
+use Prim.Native.Nat.{ℕ, zero, suc}
+use mathlib.Core.Bool.{Bool, true, false, cond, not, _&&_, _||_}
+use mathlib.Core.List.{List, [], _∷_}
+use mathlib.Core.Option.{Option, none, some, Option·getD}
+use lib.Dec.{eqb, ltb}
+use lib.ListN.{length}
+use Rattle.graph.specs.Below.{every, highest}
+
+-- a version after version 0; the base of a merge is a function of its parents
+pub data Node : Type 0 where
+  -- the parent, the code of the entry, its strip and its operand
+  entry : ℕ → ℕ → ℕ → ℕ → Node
+  -- the receiver's version and the giver's version
+  merge : ℕ → ℕ → Node
+
+-- the versions after version 0, the newest first, so that each stands before all that it can descend from
+abbrev pub Graph : Type 0
+Graph = List Node
+
+-- the number of the newest version
+abbrev pub newest : Graph → ℕ
+newest g = length g
+
+-- how many versions there are, version 0 included
+abbrev pub versionCount : Graph → ℕ
+versionCount g = suc (length g)
+
+-- a test of some parent of a version
+abbrev pub someParent : (ℕ → Bool) → Node → Bool
+someParent f (entry p code strip operand) = f p
+someParent f (merge p q) = f p || f q
+
+-- "For each version an ancestry row, one bit per version, says which versions it descends from, itself included":
+-- u is an ancestor of v. A number that names no version has no ancestor.
+unfoldable pub ancestor : Graph → ℕ → ℕ → Bool
+ancestor [] u v = eqb v 0 && eqb u 0
+ancestor (n ∷ g) u v =
+    cond (eqb v (versionCount g)) (eqb u v || someParent (ancestor g u) n) (ancestor g u v)
+
+-- version v, where it is not version 0
+unfoldable pub nodeOf : Graph → ℕ → Option Node
+nodeOf [] v = none
+nodeOf (n ∷ g) v = cond (eqb v (versionCount g)) (some n) (nodeOf g v)
+
+-- version v is an entry
+abbrev pub entryNode : Option Node → Bool
+entryNode none = false
+entryNode (some (entry p code strip operand)) = true
+entryNode (some (merge p q)) = false
+
+abbrev pub isEntry : Graph → ℕ → Bool
+isEntry g v = entryNode (nodeOf g v)
+
+abbrev pub commonAncestor : Graph → ℕ → ℕ → ℕ → Bool
+commonAncestor g u v w = ancestor g w u && ancestor g w v
+
+-- "the ancestor of both heads of which every other common ancestor is an ancestor": m is the meet (the single lowest common ancestor)
+-- of u and v
+unfoldable pub isMeet : Graph → ℕ → ℕ → ℕ → Bool
+isMeet g u v m =
+    commonAncestor g u v m && every (versionCount g) (λ w. not (commonAncestor g u v w) || ancestor g w m)
+
+unfoldable pub meet : Graph → ℕ → ℕ → Option ℕ
+meet g u v = highest (versionCount g) (isMeet g u v)
+
+-- the number of the meet, for where there is one
+abbrev pub meetNumber : Graph → ℕ → ℕ → ℕ
+meetNumber g u v = Option·getD (meet g u v) 0
+
+abbrev pub isSome : Option ℕ → Bool
+isSome none = false
+isSome (some m) = true

@@ -1,0 +1,4 @@
+pub mod Room
+pub mod Sound
+pub mod Boards
+pub mod Step

@@ -1,0 +1,43 @@
+-- "One store serves one training room: up to 16 consoles, each a branch of one version graph." What a store holds, without its bytes.
+use Prim.Native.Nat.{ℕ, suc}
+use mathlib.Core.Bool.{Bool, _&&_}
+use mathlib.Core.List.{List, [], _∷_}
+use mathlib.Core.Option.{Option, none, some, Option·getD}
+use lib.ListN.{getD, replicate}
+use Rattle.graph.specs.Below.{count}
+use Rattle.graph.specs.Graph.{Graph, versionCount, ancestor, isEntry, meetNumber, isSome}
+use Rattle.command.specs.Code.{consoleCount}
+
+-- Rows, boards, bases and commons are functions of these three.
+pub record Room : Type 0 where
+  pub capacity : ℕ
+  pub versions : Graph
+  -- for each console number its head, or none while it is absent
+  pub heads : List (Option ℕ)
+
+-- "Each present console has a head."
+abbrev pub headOf : Room → ℕ → Option ℕ
+headOf r c = getD (r .heads) c none
+
+abbrev pub present : Room → ℕ → Bool
+present r c = isSome (headOf r c)
+
+-- the head's number, for where the console is present
+abbrev pub head : Room → ℕ → ℕ
+head r c = Option·getD (headOf r c) 0
+
+-- "For each two present consoles a common version is recorded"; "of a console with itself: its head"
+unfoldable pub common : Room → ℕ → ℕ → ℕ
+common r c d = meetNumber (r .versions) (head r c) (head r d)
+
+-- "The entries heard by a console are the entry versions among its head's ancestors."
+abbrev pub hears : Room → ℕ → ℕ → Bool
+hears r c v = isEntry (r .versions) v && ancestor (r .versions) v (head r c)
+
+-- "The heard count is the number of set bits of that row at entry versions."
+unfoldable pub heardCount : Room → ℕ → ℕ
+heardCount r c = count (versionCount (r .versions)) (hears r c)
+
+-- "Opening makes version 0 with console 0 on it."
+abbrev pub fresh : ℕ → Room
+fresh capacity = record { capacity = capacity; versions = []; heads = some 0 ∷ replicate 15 none }

@@ -1,0 +1,76 @@
+-- "A store is sound when: .." Clause by clause; that boards, rows, bases and commons are the right ones is the encoding's part, as they
+-- are functions of the room.
+use Prim.Native.Nat.{ℕ, suc}
+use mathlib.Core.Bool.{Bool, true, false, not, _&&_, _||_}
+use mathlib.Core.List.{List, [], _∷_}
+use mathlib.Core.Option.{Option, none, some}
+use lib.Dec.{eqb, leb, ltb}
+use lib.ListN.{length}
+use Rattle.graph.specs.Below.{every, some-below}
+use Rattle.graph.specs.Graph.{Graph, Node, entry, merge, versionCount, ancestor, meet, isSome}
+use Rattle.command.specs.Code.{consoleCount, within, isEntryCode, isStrip, isOperand}
+use Rattle.room.specs.Room.{Room, headOf, present, head}
+
+-- "Capacity, 1 to 1,024, counts versions, version 0 included."
+abbrev pub maxCapacity : ℕ
+maxCapacity = 1024
+
+abbrev pub isCapacity : ℕ → Bool
+isCapacity capacity = within 1 maxCapacity capacity
+
+-- a test of every version after version 0 and the versions before it
+unfoldable pub everyVersion : (Graph → Node → Bool) → Graph → Bool
+everyVersion f [] = true
+everyVersion f (n ∷ g) = f g n && everyVersion f g
+
+-- "parents are lower numbers": below the number of the version itself, which is the count of those before it
+abbrev pub parentsLower : Graph → Node → Bool
+parentsLower g (entry p code strip operand) = ltb p (versionCount g)
+parentsLower g (merge p q) = ltb p (versionCount g) && ltb q (versionCount g)
+
+-- "the two parents of a merge have a single lowest common ancestor, equal to neither, and it is the base"
+abbrev pub isBase : ℕ → ℕ → Option ℕ → Bool
+isBase p q none = false
+isBase p q (some m) = not (eqb m p) && not (eqb m q)
+
+abbrev pub mergeHasBase : Graph → Node → Bool
+mergeHasBase g (entry p code strip operand) = true
+mergeHasBase g (merge p q) = isBase p q (meet g p q)
+
+-- "entry codes, strips and operands are in range"
+abbrev pub entryInRange : Graph → Node → Bool
+entryInRange g (entry p code strip operand) = isEntryCode code && isStrip strip && isOperand code operand
+entryInRange g (merge p q) = true
+
+-- a head names a version
+abbrev pub namesVersion : Graph → Option ℕ → Bool
+namesVersion g none = true
+namesVersion g (some v) = ltb v (versionCount g)
+
+abbrev pub headsNameVersions : Room → Bool
+headsNameVersions r = every consoleCount (λ c. namesVersion (r .versions) (headOf r c))
+
+-- "every two heads have one too"
+abbrev pub twoMeet : Room → ℕ → ℕ → Bool
+twoMeet r c d = not (present r c) || not (present r d) || isSome (meet (r .versions) (head r c) (head r d))
+
+unfoldable pub headsMeet : Room → Bool
+headsMeet r = every consoleCount (λ c. every consoleCount (λ d. twoMeet r c d))
+
+-- "every version is an ancestor of a head"
+abbrev pub behindHead : Room → ℕ → Bool
+behindHead r v = some-below consoleCount (λ c. present r c && ancestor (r .versions) v (head r c))
+
+unfoldable pub allBehindHeads : Room → Bool
+allBehindHeads r = every (versionCount (r .versions)) (behindHead r)
+
+-- the clauses in the paper's order; a head that is none of the versions, and a list of other than 16 heads, are no room's
+unfoldable pub sound : Room → Bool
+sound r =
+    everyVersion parentsLower (r .versions)
+    && everyVersion mergeHasBase (r .versions)
+    && eqb (length (r .heads)) consoleCount && headsNameVersions r && headsMeet r
+    && present r 0
+    && allBehindHeads r
+    && isCapacity (r .capacity) && leb (versionCount (r .versions)) (r .capacity)
+    && everyVersion entryInRange (r .versions)

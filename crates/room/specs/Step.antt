@@ -1,0 +1,81 @@
+-- What each command does to a room, and the refusals 12 to 18 in their order.
+use Prim.Native.Nat.{ℕ, suc}
+use mathlib.Core.Bool.{Bool, true, false, not, _&&_, _||_}
+use mathlib.Core.List.{List, [], _∷_}
+use mathlib.Core.Option.{Option, none, some}
+use lib.Dec.{eqb, leb}
+use lib.ListN.{set}
+use Rattle.board.specs.declared.Strip.{Strip}
+use Rattle.graph.specs.Below.{some-below}
+use Rattle.graph.specs.Graph.{Graph, Node, entry, merge, versionCount, ancestor}
+use Rattle.command.specs.declared.Console.{Console}
+use Rattle.command.specs.declared.Command.{Command}
+use Rattle.command.specs.declared.Command.the-variants.{Fork, Entry, Merge, FastForward}
+use Rattle.command.specs.Refusal.{_when_, firstRefusal}
+use Rattle.command.specs.Code.{consoleCount}
+use Rattle.room.specs.Room.{Room, headOf, present, head, common}
+
+-- "12 a named console is absent (fork: the old one)."
+abbrev pub absent : Room → ℕ → Bool
+absent r c = not (present r c)
+
+-- the head of c is an ancestor of the head of d
+abbrev pub behind : Room → ℕ → ℕ → Bool
+behind r c d = ancestor (r .versions) (head r c) (head r d)
+
+-- "17 merge: for some third console, its common versions with receiver and with giver are neither an ancestor of the other."
+abbrev pub apart : Room → ℕ → ℕ → Bool
+apart r u v = not (ancestor (r .versions) u v) && not (ancestor (r .versions) v u)
+
+abbrev pub splits : Room → ℕ → ℕ → ℕ → Bool
+splits r receiver giver k =
+    present r k && not (eqb k receiver) && not (eqb k giver) && apart r (common r k receiver) (common r k giver)
+
+abbrev pub someThirdSplits : Room → ℕ → ℕ → Bool
+someThirdSplits r receiver giver = some-below consoleCount (splits r receiver giver)
+
+-- "18 entry or merge: no version left."
+abbrev pub full : Room → Bool
+full r = leb (r .capacity) (versionCount (r .versions))
+
+-- The first refusal that applies, or 0. "13 fork's new console is present. 14 merge or fast-forward: giver's head is an ancestor of
+-- receiver's. 15 merge: receiver's head is an ancestor of giver's. 16 fast-forward: receiver's head isn't an ancestor of giver's."
+unfoldable pub stepRefusal : Room → Command → ℕ
+stepRefusal r (Fork new old) = firstRefusal (12 when absent r (old .0) ∷ 13 when present r (new .0) ∷ [])
+stepRefusal r (Entry console code strip operand) = firstRefusal (12 when absent r (console .0) ∷ 18 when full r ∷ [])
+stepRefusal r (Merge receiver giver) =
+    firstRefusal
+    (12 when (absent r (receiver .0) || absent r (giver .0))
+    ∷ 14 when behind r (giver .0) (receiver .0)
+    ∷ 15 when behind r (receiver .0) (giver .0)
+    ∷ 17 when someThirdSplits r (receiver .0) (giver .0)
+    ∷ 18 when full r
+    ∷ [])
+stepRefusal r (FastForward receiver giver) =
+    firstRefusal
+    (12 when (absent r (receiver .0) || absent r (giver .0))
+    ∷ 14 when behind r (giver .0) (receiver .0)
+    ∷ 16 when not (behind r (receiver .0) (giver .0))
+    ∷ [])
+
+-- console c moves to the head given
+abbrev pub moved : Room → ℕ → Option ℕ → Room
+moved r c h = record { capacity = r .capacity; versions = r .versions; heads = set (r .heads) c h }
+
+-- console c moves to a new version
+abbrev pub grown : Room → ℕ → Node → Room
+grown r c n =
+    record
+      { capacity = r .capacity
+      ; versions = n ∷ r .versions
+      ; heads = set (r .heads) c (some (versionCount (r .versions)))
+      }
+
+-- "Codes 02 to 08 make an entry version on the console's head". "Fork gives the new console the old one's head and makes no version.
+-- Fast-forward gives the receiver the giver's head and makes no version. Merge makes a version on the receiver."
+unfoldable pub step : Room → Command → Room
+step r (Fork new old) = moved r (new .0) (headOf r (old .0))
+step r (Entry console code strip operand) =
+    grown r (console .0) (entry (head r (console .0)) code (strip .0) operand)
+step r (Merge receiver giver) = grown r (receiver .0) (merge (head r (receiver .0)) (head r (giver .0)))
+step r (FastForward receiver giver) = moved r (receiver .0) (headOf r (giver .0))

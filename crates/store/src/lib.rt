@@ -1,0 +1,1 @@
+// The store: a room in the bytes of a lent buffer.

@@ -1,0 +1,140 @@
+-- "20, capacity; one record per version from 1 upward; one head record per present console, consoles rising; 24, the last byte." The
+-- tape of a room, the grammar of tapes, the room of a tape, and the refusals 7 to 10.
+use Prim.Native.Nat.{ℕ, zero, suc}
+use mathlib.Core.Bool.{Bool, true, false, cond, not, _&&_, _||_}
+use mathlib.Core.List.{List, [], _∷_, _++_}
+use mathlib.Core.Option.{Option, none, some}
+use lib.Dec.{eqb, ltb}
+use lib.ListN.{length, drop, set, replicate}
+use Rattle.board.specs.declared.Strip.{Strip}
+use Rattle.graph.specs.declared.Version.{Version}
+use Rattle.graph.specs.Graph.{Graph, Node, entry, merge, versionCount}
+use Rattle.command.specs.declared.Console.{Console}
+use Rattle.command.specs.Refusal.{_when_, firstRefusal}
+use Rattle.command.specs.Code.{consoleCount, isConsole}
+use Rattle.room.specs.Room.{Room}
+use Rattle.room.specs.Sound.{isCapacity, everyVersion, parentsLower, entryInRange, sound}
+use Rattle.tape.specs.declared.Record.{Record}
+use Rattle.tape.specs.declared.Record.the-variants.{Start, Entry, Merge, Head, End, Broken}
+use Rattle.tape.specs.Record.{recordAt, recordLength, recordBytes}
+
+-- The tape of a room.
+abbrev pub versionRecord : Node → Record
+versionRecord (entry p code strip operand) = Entry (record { 0 = p }) code (record { 0 = strip }) operand
+versionRecord (merge p q) = Merge (record { 0 = p }) (record { 0 = q })
+
+-- "one record per version from 1 upward"
+unfoldable pub versionRecords : Graph → List ℕ
+versionRecords [] = []
+versionRecords (n ∷ g) = versionRecords g ++ recordBytes (versionRecord n)
+
+-- "one head record per present console, consoles rising", from console c on
+unfoldable pub headRecords : ℕ → List (Option ℕ) → List ℕ
+headRecords c [] = []
+headRecords c (none ∷ later) = headRecords (suc c) later
+headRecords c (some v ∷ later) = recordBytes (Head (record { 0 = c }) (record { 0 = v })) ++ headRecords (suc c) later
+
+unfoldable pub tapeOf : Room → List ℕ
+tapeOf r =
+    recordBytes (Start (r .capacity)) ++ versionRecords (r .versions) ++ headRecords 0 (r .heads) ++ recordBytes End
+
+-- The grammar: what was read so far, the newest version and the last head first.
+pub record Content : Type 0 where
+  pub capacity : ℕ
+  pub versions : Graph
+  -- console and version of each head record
+  pub heads : List (ℕ × ℕ)
+
+abbrev pub withVersion : Content → Node → Content
+withVersion t n = record { capacity = t .capacity; versions = n ∷ t .versions; heads = t .heads }
+
+abbrev pub withHead : Content → ℕ → ℕ → Content
+withHead t c v = record { capacity = t .capacity; versions = t .versions; heads = (c, v) ∷ t .heads }
+
+-- what may follow: versions or the first head; further heads or the end
+pub data Stage : Type 0 where
+  inVersions : Stage
+  inHeads : Stage
+
+pub data Next : Type 0 where
+  goOn : Stage → Content → Next
+  finish : Next
+  refuse : Next
+
+unfoldable pub afterRecord : Stage → Content → Record → Next
+afterRecord inVersions t (Start capacity) = refuse
+afterRecord inVersions t (Entry parent code strip operand) =
+    goOn inVersions (withVersion t (entry (parent .0) code (strip .0) operand))
+afterRecord inVersions t (Merge receiver giver) = goOn inVersions (withVersion t (merge (receiver .0) (giver .0)))
+afterRecord inVersions t (Head console version) = goOn inHeads (withHead t (console .0) (version .0))
+afterRecord inVersions t End = refuse
+afterRecord inVersions t Broken = refuse
+afterRecord inHeads t (Start capacity) = refuse
+afterRecord inHeads t (Entry parent code strip operand) = refuse
+afterRecord inHeads t (Merge receiver giver) = refuse
+afterRecord inHeads t (Head console version) = goOn inHeads (withHead t (console .0) (version .0))
+afterRecord inHeads t End = finish
+afterRecord inHeads t Broken = refuse
+
+-- "The reading place moves past one whole record at a time." The rest of a tape from a place on; no tape has more records than bytes,
+-- which is what the first number is for.
+unfoldable pub readOn : ℕ → Stage → Content → List ℕ → Option Content
+readOn zero stage t rest = none
+readOn (suc k) stage t rest =
+    elim (afterRecord stage t (recordAt rest))
+      [ goOn next more ↦ readOn k next more (drop (recordLength rest) rest)
+      | finish ↦ cond (eqb (length rest) (recordLength rest)) (some t) none
+      | refuse ↦ none ]
+
+abbrev pub readFrom : ℕ → List ℕ → Record → Option Content
+readFrom k rest (Start capacity) = readOn k inVersions (record { capacity = capacity; versions = []; heads = [] }) rest
+readFrom k rest (Entry parent code strip operand) = none
+readFrom k rest (Merge receiver giver) = none
+readFrom k rest (Head console version) = none
+readFrom k rest End = none
+readFrom k rest Broken = none
+
+-- what a tape says, where it "is such a sequence of whole records, with at least one head"
+unfoldable pub contentOf : List ℕ → Option Content
+contentOf t = readFrom (length t) (drop (recordLength t) t) (recordAt t)
+
+-- The room of a tape: "Boards, bases and commons aren't on the tape; resume works them out."
+unfoldable pub headSlots : List (ℕ × ℕ) → List (Option ℕ)
+headSlots [] = replicate consoleCount none
+headSlots (h ∷ before) = set (headSlots before) (h .0) (some (h .1))
+
+abbrev pub roomOf : Content → Room
+roomOf t = record { capacity = t .capacity; versions = t .versions; heads = headSlots (t .heads) }
+
+-- "the first console not 0, a console not above the one before it or above 15"
+unfoldable pub consolesRise : List (ℕ × ℕ) → Bool
+consolesRise [] = false
+consolesRise (h ∷ []) = eqb (h .0) 0
+consolesRise (h ∷ (before ∷ rest)) = ltb (before .0) (h .0) && isConsole (h .0) && consolesRise (before ∷ rest)
+
+-- "a head that names no version"
+unfoldable pub headsNamed : Graph → List (ℕ × ℕ) → Bool
+headsNamed g [] = true
+headsNamed g (h ∷ before) = ltb (h .1) (versionCount g) && headsNamed g before
+
+-- "8 capacity outside 1 to 1,024. 9 on a tape: more versions than capacity, a parent not below its own version, an entry code, strip or
+-- operand out of range, .. 10 the tape's versions and heads give no sound store."
+abbrev pub inRange : Content → Bool
+inRange t =
+    not (ltb (t .capacity) (versionCount (t .versions)))
+    && everyVersion parentsLower (t .versions)
+    && everyVersion entryInRange (t .versions)
+    && consolesRise (t .heads)
+    && headsNamed (t .versions) (t .heads)
+
+abbrev pub contentTests : Content → List (ℕ × Bool)
+contentTests t =
+    8 when not (isCapacity (t .capacity))
+    ∷ 9 when not (inRange t)
+    ∷ 10 when not (sound (roomOf t))
+    ∷ []
+
+-- "7 tape isn't such a sequence of whole records, with at least one head."
+unfoldable pub contentRefusal : Option Content → ℕ
+contentRefusal none = 7
+contentRefusal (some t) = firstRefusal (contentTests t)

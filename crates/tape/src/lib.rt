@@ -1,0 +1,27 @@
+// The pause tape: its records, one after the other, and the room that they give.
+use board::Strip;
+use command::Console;
+use graph::Version;
+
+// A record of the tape, or what is none: an unknown code, or too few bytes.
+pub enum Record {
+    Start {
+        capacity: usize,
+    },
+    Entry {
+        parent: Version,
+        code: usize,
+        strip: Strip,
+        operand: usize,
+    },
+    Merge {
+        receiver: Version,
+        giver: Version,
+    },
+    Head {
+        console: Console,
+        version: Version,
+    },
+    End,
+    Broken,
+}
