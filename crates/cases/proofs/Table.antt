@@ -1,8 +1,7 @@
--- t
-use Prim.Native.Nat.{ℕ}
+-- The theorem of each table of cases: what the definitions give is what the paper says, by computation.
 use mathlib.Core.Path.{_≡_, refl}
-use mathlib.Core.List.{List, [], _∷_}
-use Rattle.cases.specs.Try.{after, answers, opened}
+use mathlib.Core.List.{List, map}
+use Prim.Native.Nat.{ℕ}
 use Rattle.buffer.specs.Field.{same}
 use Rattle.buffer.specs.Row.{rowFrom}
 use Rattle.board.specs.Board.{mergeFlag, mergeStrip, mergeStrips, enter}
@@ -16,8 +15,77 @@ use Rattle.room.specs.Sound.{everyVersion, headsMeet, allBehindHeads, sound}
 use Rattle.room.specs.Boards.{boardMade, boardOf}
 use Rattle.room.specs.Step.{stepRefusal, step}
 use Rattle.store.specs.Layout.{commonRow, commonRows, header, record-of, block, blocks, encode, nodeAt, versionsAt, headsAt, roomAt, holdsStore}
-use Rattle.unit.specs.Calls.{openOutcome, stepOutcome, commandOutcome}
+use Rattle.tape.specs.Record.{recordFrom, recordAt, recordBytes}
+use Rattle.tape.specs.Tape.{versionRecords, headRecords, tapeOf, afterRecord, readOn, contentOf, headSlots, consolesRise, headsNamed, contentRefusal}
+use Rattle.unit.specs.Calls.{openOutcome, stepOutcome, commandOutcome, pauseOutcome, resumed, resumeOutcome, boardOutcome, heardReply, commonReply}
+use Rattle.cases.specs.Run.{Case, answerIn, roomAfter, made, answers, session}
+use Rattle.cases.specs.Starred.{crossed, stuck, acceptedBy, accepted, starred}
+use Rattle.cases.specs.Commands.{diverged, ahead, decoding, stepping, boards}
+use Rattle.cases.specs.Tapes.{sequence, ranges, graphs}
+use Rattle.cases.specs.Calls.{store, parted, mergedStore, least, shown, damaged, opening, commands, parts, damages, tapes, boardsOut, questions}
 
-pub t1 : answers (opened 2) ((1 ∷ 1 ∷ 0 ∷ []) ∷ (2 ∷ 0 ∷ 5 ∷ 0 ∷ 100 ∷ []) ∷ (6 ∷ 1 ∷ 5 ∷ []) ∷ []) ≡ 0 ∷ 0 ∷ 18 ∷ []
-unfolding after answers opened same rowFrom mergeFlag mergeStrip mergeStrips enter every some-below count highest ancestor nodeOf isMeet meet firstRefusal shapeOf lengthOf numberAt operandsOf isOperand commandRefusal commandOf decode common heardCount everyVersion headsMeet allBehindHeads sound boardMade boardOf stepRefusal step commonRow commonRows header record-of block blocks encode nodeAt versionsAt headsAt roomAt holdsStore openOutcome stepOutcome commandOutcome
-t1 = refl
+-- a table holds when each of its rows does
+abbrev pub Hold : List Case → Type 0
+Hold table = map (λ (c : Case). c .got) table ≡ map (λ (c : Case). c .due) table
+
+-- every definition that a row computes with, named once: to unfold this is to unfold them all
+definitions : ℕ
+unfolding same rowFrom mergeFlag mergeStrip mergeStrips enter every some-below count highest ancestor nodeOf isMeet meet firstRefusal shapeOf lengthOf numberAt operandsOf isOperand commandRefusal commandOf decode common heardCount everyVersion headsMeet allBehindHeads sound boardMade boardOf stepRefusal step commonRow commonRows header record-of block blocks encode nodeAt versionsAt headsAt roomAt holdsStore recordFrom recordAt recordBytes versionRecords headRecords tapeOf afterRecord readOn contentOf headSlots consolesRise headsNamed contentRefusal openOutcome stepOutcome commandOutcome pauseOutcome resumed resumeOutcome boardOutcome heardReply commonReply answerIn roomAfter made answers session crossed stuck acceptedBy accepted diverged ahead store parted mergedStore least shown damaged
+definitions = 0
+
+-- the cases that the paper marks *
+pub starred-hold : Hold starred
+unfolding definitions starred
+starred-hold = refl
+
+pub decoding-hold : Hold decoding
+unfolding definitions decoding
+decoding-hold = refl
+
+pub stepping-hold : Hold stepping
+unfolding definitions stepping
+stepping-hold = refl
+
+pub boards-hold : Hold boards
+unfolding definitions boards
+boards-hold = refl
+
+pub sequence-hold : Hold sequence
+unfolding definitions sequence
+sequence-hold = refl
+
+pub ranges-hold : Hold ranges
+unfolding definitions ranges
+ranges-hold = refl
+
+pub graphs-hold : Hold graphs
+unfolding definitions graphs
+graphs-hold = refl
+
+pub opening-hold : Hold opening
+unfolding definitions opening
+opening-hold = refl
+
+pub commands-hold : Hold commands
+unfolding definitions commands
+commands-hold = refl
+
+pub parts-hold : Hold parts
+unfolding definitions parts
+parts-hold = refl
+
+pub damages-hold : Hold damages
+unfolding definitions damages
+damages-hold = refl
+
+pub tapes-hold : Hold tapes
+unfolding definitions tapes
+tapes-hold = refl
+
+pub boardsOut-hold : Hold boardsOut
+unfolding definitions boardsOut
+boardsOut-hold = refl
+
+pub questions-hold : Hold questions
+unfolding definitions questions
+questions-hold = refl

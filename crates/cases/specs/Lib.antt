@@ -1,1 +1,5 @@
-pub mod Try
+pub mod Run
+pub mod Starred
+pub mod Commands
+pub mod Tapes
+pub mod Calls

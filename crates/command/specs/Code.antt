@@ -48,12 +48,12 @@ numberAt s at width = cond (eqb width 2) (wordAt s at) (cond (eqb width 1) (getD
 -- what follows the code at the front of these bytes
 unfoldable pub operandsOf : Shape → List ℕ → Operands
 operandsOf (Known a b c d) s =
-    record
-      { first = numberAt s 1 a
-      ; second = numberAt s (1 + a) b
-      ; third = numberAt s (1 + a + b) c
-      ; fourth = numberAt s (1 + a + b + c) d
-      }
+    record {
+      first = numberAt s 1 a;
+      second = numberAt s (1 + a) b;
+      third = numberAt s (1 + a + b) c;
+      fourth = numberAt s (1 + a + b + c) d;
+    }
 operandsOf Unknown s = record { first = 0; second = 0; third = 0; fourth = 0 }
 
 -- "Codes 02 to 08 make an entry version"

@@ -5,7 +5,6 @@ use mathlib.Core.Bool.{Bool, cond}
 use mathlib.Core.List.{List, [], _∷_}
 
 infix 68 _when_
-
 -- a refusal, and whether its case is there
 abbrev pub _when_ : ℕ → Bool → ℕ × Bool
 number when applies = (number, applies)

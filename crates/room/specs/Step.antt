@@ -65,11 +65,11 @@ moved r c h = record { capacity = r .capacity; versions = r .versions; heads = s
 -- console c moves to a new version
 abbrev pub grown : Room → ℕ → Node → Room
 grown r c n =
-    record
-      { capacity = r .capacity
-      ; versions = n ∷ r .versions
-      ; heads = set (r .heads) c (some (versionCount (r .versions)))
-      }
+    record {
+      capacity = r .capacity;
+      versions = n ∷ r .versions;
+      heads = set (r .heads) c (some (versionCount (r .versions)));
+    }
 
 -- "Codes 02 to 08 make an entry version on the console's head". "Fork gives the new console the old one's head and makes no version.
 -- Fast-forward gives the receiver the giver's head and makes no version. Merge makes a version on the receiver."

@@ -69,8 +69,12 @@ abbrev pub boardAt : ℕ → ℕ
 boardAt v = blockAt v + recordSize + rowSize
 
 -- A field of the table: 0 where one of the two consoles is absent, else 1 more than their common version.
+abbrev pub fieldWhere : Bool → Room → ℕ → ℕ → ℕ
+fieldWhere true r c d = suc (common r c d)
+fieldWhere false r c d = 0
+
 abbrev pub commonField : Room → ℕ → ℕ → ℕ
-commonField r c d = cond (present r c && present r d) (suc (common r c d)) 0
+commonField r c d = fieldWhere (present r c && present r d) r c d
 
 -- the fields of n consoles against c, from console d on
 unfoldable pub commonRow : Room → ℕ → ℕ → ℕ → List ℕ
@@ -138,11 +142,11 @@ headsAt s c (suc n) = headIn (wordAt s (headAt c)) ∷ headsAt s (suc c) n
 
 unfoldable pub roomAt : List ℕ → Room
 roomAt s =
-    record
-      { capacity = wordAt s capacityAt
-      ; versions = versionsAt s (pred (wordAt s countAt))
-      ; heads = headsAt s 0 consoleCount
-      }
+    record {
+      capacity = wordAt s capacityAt;
+      versions = versionsAt s (pred (wordAt s countAt));
+      heads = headsAt s 0 consoleCount;
+    }
 
 -- "the bytes are its one encoding, ancestry rows included": the bytes hold a sound store at their front
 unfoldable pub holdsStore : List ℕ → Bool

@@ -81,10 +81,11 @@ afterRecord inHeads t Broken = refuse
 unfoldable pub readOn : ℕ → Stage → Content → List ℕ → Option Content
 readOn zero stage t rest = none
 readOn (suc k) stage t rest =
-    elim (afterRecord stage t (recordAt rest))
-      [ goOn next more ↦ readOn k next more (drop (recordLength rest) rest)
+    elim (afterRecord stage t (recordAt rest)) [
+      | goOn next more ↦ readOn k next more (drop (recordLength rest) rest)
       | finish ↦ cond (eqb (length rest) (recordLength rest)) (some t) none
-      | refuse ↦ none ]
+      | refuse ↦ none
+    ]
 
 abbrev pub readFrom : ℕ → List ℕ → Record → Option Content
 readFrom k rest (Start capacity) = readOn k inVersions (record { capacity = capacity; versions = []; heads = [] }) rest

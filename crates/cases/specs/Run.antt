@@ -1,0 +1,113 @@
+-- How the cases are put: commands by name, rooms that commands make, and a row of the table.
+use Prim.Native.Nat.{ℕ, zero, suc, _+_, _/_, _%_}
+use mathlib.Core.Bool.{Bool, true, false, cond}
+use mathlib.Core.List.{List, [], _∷_, _++_}
+use mathlib.Core.Option.{Option, none, some}
+use lib.Dec.{eqb}
+use lib.ListN.{length, getD, replicate, drop, take, set}
+use Rattle.buffer.specs.Field.{wordAt}
+use Rattle.board.specs.Board.{levelAt, headingAt, marksAt, callsAt, alertsAt, flagAt}
+use Rattle.command.specs.declared.Command.{Command}
+use Rattle.command.specs.declared.Decoded.{Decoded}
+use Rattle.command.specs.declared.Decoded.the-variants.{Whole, Refused}
+use Rattle.command.specs.Decode.{decode}
+use Rattle.graph.specs.Graph.{versionCount}
+use Rattle.room.specs.Room.{Room, headOf, head}
+use Rattle.room.specs.Boards.{boardOf}
+use Rattle.room.specs.Step.{stepRefusal, step}
+use Rattle.store.specs.Layout.{storeSize, roomAt}
+use Rattle.unit.specs.declared.Reply.{Reply}
+use Rattle.unit.specs.Calls.{Outcome, openOutcome, commandOutcome}
+
+-- A row: what the definitions give, and what the paper says.
+pub record Case : Type 0 where
+  pub got : List ℕ
+  pub due : List ℕ
+
+infix 60 _gives_
+abbrev pub _gives_ : List ℕ → List ℕ → Case
+shown gives told = record { got = shown; due = told }
+
+-- The commands of the paper's table.
+abbrev pub fork : ℕ → ℕ → List ℕ
+fork new old = 0x01 ∷ new ∷ old ∷ []
+
+abbrev pub level : ℕ → ℕ → ℕ → List ℕ
+level c k x = 0x02 ∷ c ∷ k ∷ x / 256 ∷ x % 256 ∷ []
+
+abbrev pub heading : ℕ → ℕ → ℕ → List ℕ
+heading c k x = 0x03 ∷ c ∷ k ∷ x / 256 ∷ x % 256 ∷ []
+
+abbrev pub put : ℕ → ℕ → ℕ → List ℕ
+put c k m = 0x04 ∷ c ∷ k ∷ m ∷ []
+
+abbrev pub taken : ℕ → ℕ → ℕ → List ℕ
+taken c k m = 0x05 ∷ c ∷ k ∷ m ∷ []
+
+abbrev pub call : ℕ → ℕ → List ℕ
+call c k = 0x06 ∷ c ∷ k ∷ []
+
+abbrev pub alert : ℕ → ℕ → List ℕ
+alert c k = 0x07 ∷ c ∷ k ∷ []
+
+abbrev pub quiet : ℕ → ℕ → List ℕ
+quiet c k = 0x08 ∷ c ∷ k ∷ []
+
+abbrev pub merge : ℕ → ℕ → List ℕ
+merge receiver giver = 0x09 ∷ receiver ∷ giver ∷ []
+
+abbrev pub forward : ℕ → ℕ → List ℕ
+forward receiver giver = 0x0A ∷ receiver ∷ giver ∷ []
+
+-- the answer to a command in a room
+unfoldable pub answerIn : Room → Decoded → ℕ
+answerIn r (Refused n) = n
+answerIn r (Whole c) = stepRefusal r c
+
+unfoldable pub roomAfter : Room → Decoded → Room
+roomAfter r (Refused n) = r
+roomAfter r (Whole c) = cond (eqb (stepRefusal r c) 0) (step r c) r
+
+-- the room that these commands make
+unfoldable pub made : Room → List (List ℕ) → Room
+made r [] = r
+made r (c ∷ cs) = made (roomAfter r (decode c)) cs
+
+-- the answers to these commands, one after the other
+unfoldable pub answers : Room → List (List ℕ) → List ℕ
+answers r [] = []
+answers r (c ∷ cs) = answerIn r (decode c) ∷ answers (roomAfter r (decode c)) cs
+
+-- the answer to a command after those that made a room
+abbrev pub answer : Room → List ℕ → List ℕ
+answer r c = answerIn r (decode c) ∷ []
+
+-- a head as a number: 0 for none, else 1 more than the version
+abbrev pub slot : Option ℕ → ℕ
+slot none = 0
+slot (some v) = suc v
+
+-- the heads of consoles 0 to 3
+abbrev pub fourHeads : Room → List ℕ
+fourHeads r = slot (headOf r 0) ∷ slot (headOf r 1) ∷ slot (headOf r 2) ∷ slot (headOf r 3) ∷ []
+
+-- "Each line: .. answer (0 or refusal), head of the console in the first operand", then the number of versions
+unfoldable pub session : Room → List (List ℕ) → List ℕ
+session r [] = versionCount (r .versions) ∷ []
+session r (c ∷ cs) =
+    let next : Room = roomAfter r (decode c) in
+    answerIn r (decode c) ∷ slot (headOf next (getD c 1 0)) ∷ session next cs
+
+-- the cells of strip k of a console's board: level, heading, marks, calls, alert count, alert flag
+abbrev pub cells : Room → ℕ → ℕ → List ℕ
+cells r c k =
+    let b : List ℕ = boardOf (r .versions) (head r c) in
+    wordAt b (levelAt k) ∷ wordAt b (headingAt k) ∷ wordAt b (marksAt k)
+    ∷ wordAt b (callsAt k) ∷ wordAt b (alertsAt k) ∷ getD b (flagAt k) 0 ∷ []
+
+-- The same on bytes. A buffer of so many bytes, none of them zero.
+abbrev pub dirty : ℕ → List ℕ
+dirty n = replicate n 0xEE
+
+abbrev pub replyList : Reply → List ℕ
+replyList r = r .answer ∷ r .count ∷ []
