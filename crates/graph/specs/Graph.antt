@@ -6,7 +6,7 @@ use mathlib.Core.List.{List, [], _∷_}
 use mathlib.Core.Option.{Option, none, some, Option·getD}
 use lib.Dec.{eqb, ltb}
 use lib.ListN.{length}
-use Rattle.graph.specs.Below.{every, highest}
+use Rattle.graph.specs.Below.{everyBelow, highestBelow}
 
 -- a version after version 0; the base of a merge is a function of its parents
 pub data Node : Type 0 where
@@ -60,10 +60,10 @@ commonAncestor g u v w = ancestor g w u && ancestor g w v
 -- of u and v
 unfoldable pub isMeet : Graph → ℕ → ℕ → ℕ → Bool
 isMeet g u v m =
-    commonAncestor g u v m && every (versionCount g) (λ w. not (commonAncestor g u v w) || ancestor g w m)
+    commonAncestor g u v m && everyBelow (versionCount g) (λ w. not (commonAncestor g u v w) || ancestor g w m)
 
 unfoldable pub meet : Graph → ℕ → ℕ → Option ℕ
-meet g u v = highest (versionCount g) (isMeet g u v)
+meet g u v = highestBelow (versionCount g) (isMeet g u v)
 
 -- the number of the meet, for where there is one
 abbrev pub meetNumber : Graph → ℕ → ℕ → ℕ
@@ -72,3 +72,22 @@ meetNumber g u v = Option·getD (meet g u v) 0
 abbrev pub isSome : Option ℕ → Bool
 isSome none = false
 isSome (some m) = true
+
+-- a test of every version after version 0 and the versions before it
+unfoldable pub everyVersion : (Graph → Node → Bool) → Graph → Bool
+everyVersion f [] = true
+everyVersion f (n ∷ g) = f g n && everyVersion f g
+
+-- "parents are lower numbers": below the number of the version itself, which is the count of those before it
+abbrev pub parentsLower : Graph → Node → Bool
+parentsLower g (entry p code strip operand) = ltb p (versionCount g)
+parentsLower g (merge p q) = ltb p (versionCount g) && ltb q (versionCount g)
+
+-- "the two parents of a merge have a single lowest common ancestor, equal to neither, and it is the base"
+abbrev pub isBase : ℕ → ℕ → Option ℕ → Bool
+isBase p q none = false
+isBase p q (some m) = not (eqb m p) && not (eqb m q)
+
+abbrev pub mergeHasBase : Graph → Node → Bool
+mergeHasBase g (entry p code strip operand) = true
+mergeHasBase g (merge p q) = isBase p q (meet g p q)

@@ -3,8 +3,8 @@ use Prim.Native.Nat.{ℕ, suc}
 use mathlib.Core.Bool.{Bool, _&&_}
 use mathlib.Core.List.{List, [], _∷_}
 use mathlib.Core.Option.{Option, none, some, Option·getD}
-use lib.ListN.{getD, replicate}
-use Rattle.graph.specs.Below.{count}
+use lib.ListN.{getD, set, replicate}
+use Rattle.graph.specs.Below.{countBelow}
 use Rattle.graph.specs.Graph.{Graph, versionCount, ancestor, isEntry, meetNumber, isSome}
 use Rattle.command.specs.Code.{consoleCount}
 
@@ -36,8 +36,8 @@ hears r c v = isEntry (r .versions) v && ancestor (r .versions) v (head r c)
 
 -- "The heard count is the number of set bits of that row at entry versions."
 unfoldable pub heardCount : Room → ℕ → ℕ
-heardCount r c = count (versionCount (r .versions)) (hears r c)
+heardCount r c = countBelow (versionCount (r .versions)) (hears r c)
 
 -- "Opening makes version 0 with console 0 on it."
 abbrev pub fresh : ℕ → Room
-fresh capacity = record { capacity = capacity; versions = []; heads = some 0 ∷ replicate 15 none }
+fresh capacity = record { capacity = capacity; versions = []; heads = set (replicate consoleCount none) 0 (some 0) }

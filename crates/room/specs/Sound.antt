@@ -6,8 +6,8 @@ use mathlib.Core.List.{List, [], _∷_}
 use mathlib.Core.Option.{Option, none, some}
 use lib.Dec.{eqb, leb, ltb}
 use lib.ListN.{length}
-use Rattle.graph.specs.Below.{every, some-below}
-use Rattle.graph.specs.Graph.{Graph, Node, entry, merge, versionCount, ancestor, meet, isSome}
+use Rattle.graph.specs.Below.{everyBelow, someBelow}
+use Rattle.graph.specs.Graph.{Graph, Node, entry, merge, versionCount, ancestor, meet, isSome, everyVersion, parentsLower, mergeHasBase}
 use Rattle.command.specs.Code.{consoleCount, within, isEntryCode, isStrip, isOperand}
 use Rattle.room.specs.Room.{Room, headOf, present, head}
 
@@ -17,25 +17,6 @@ maxCapacity = 1024
 
 abbrev pub isCapacity : ℕ → Bool
 isCapacity capacity = within 1 maxCapacity capacity
-
--- a test of every version after version 0 and the versions before it
-unfoldable pub everyVersion : (Graph → Node → Bool) → Graph → Bool
-everyVersion f [] = true
-everyVersion f (n ∷ g) = f g n && everyVersion f g
-
--- "parents are lower numbers": below the number of the version itself, which is the count of those before it
-abbrev pub parentsLower : Graph → Node → Bool
-parentsLower g (entry p code strip operand) = ltb p (versionCount g)
-parentsLower g (merge p q) = ltb p (versionCount g) && ltb q (versionCount g)
-
--- "the two parents of a merge have a single lowest common ancestor, equal to neither, and it is the base"
-abbrev pub isBase : ℕ → ℕ → Option ℕ → Bool
-isBase p q none = false
-isBase p q (some m) = not (eqb m p) && not (eqb m q)
-
-abbrev pub mergeHasBase : Graph → Node → Bool
-mergeHasBase g (entry p code strip operand) = true
-mergeHasBase g (merge p q) = isBase p q (meet g p q)
 
 -- "entry codes, strips and operands are in range"
 abbrev pub entryInRange : Graph → Node → Bool
@@ -48,21 +29,21 @@ namesVersion g none = true
 namesVersion g (some v) = ltb v (versionCount g)
 
 abbrev pub headsNameVersions : Room → Bool
-headsNameVersions r = every consoleCount (λ c. namesVersion (r .versions) (headOf r c))
+headsNameVersions r = everyBelow consoleCount (λ c. namesVersion (r .versions) (headOf r c))
 
 -- "every two heads have one too"
 abbrev pub twoMeet : Room → ℕ → ℕ → Bool
 twoMeet r c d = not (present r c) || not (present r d) || isSome (meet (r .versions) (head r c) (head r d))
 
 unfoldable pub headsMeet : Room → Bool
-headsMeet r = every consoleCount (λ c. every consoleCount (λ d. twoMeet r c d))
+headsMeet r = everyBelow consoleCount (λ c. everyBelow consoleCount (λ d. twoMeet r c d))
 
 -- "every version is an ancestor of a head"
 abbrev pub behindHead : Room → ℕ → Bool
-behindHead r v = some-below consoleCount (λ c. present r c && ancestor (r .versions) v (head r c))
+behindHead r v = someBelow consoleCount (λ c. present r c && ancestor (r .versions) v (head r c))
 
 unfoldable pub allBehindHeads : Room → Bool
-allBehindHeads r = every (versionCount (r .versions)) (behindHead r)
+allBehindHeads r = everyBelow (versionCount (r .versions)) (behindHead r)
 
 -- the clauses in the paper's order; a head that is none of the versions, and a list of other than 16 heads, are no room's
 unfoldable pub sound : Room → Bool

@@ -6,7 +6,7 @@ use mathlib.Core.Option.{Option, none, some}
 use lib.Dec.{eqb, leb}
 use lib.ListN.{set}
 use Rattle.board.specs.declared.Strip.{Strip}
-use Rattle.graph.specs.Below.{some-below}
+use Rattle.graph.specs.Below.{someBelow}
 use Rattle.graph.specs.Graph.{Graph, Node, entry, merge, versionCount, ancestor}
 use Rattle.command.specs.declared.Console.{Console}
 use Rattle.command.specs.declared.Command.{Command}
@@ -32,7 +32,7 @@ splits r receiver giver k =
     present r k && not (eqb k receiver) && not (eqb k giver) && apart r (common r k receiver) (common r k giver)
 
 abbrev pub someThirdSplits : Room → ℕ → ℕ → Bool
-someThirdSplits r receiver giver = some-below consoleCount (splits r receiver giver)
+someThirdSplits r receiver giver = someBelow consoleCount (splits r receiver giver)
 
 -- "18 entry or merge: no version left."
 abbrev pub full : Room → Bool

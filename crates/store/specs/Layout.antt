@@ -95,16 +95,16 @@ header r =
 
 -- The record of a version: its code (09 for a merge, 0 for version 0), strip, operand, parent (a merge: the receiver's version), giver's
 -- version, base; the rest is 0.
-unfoldable pub record-of : Graph → Option Node → List ℕ
-record-of g none = zeros recordSize
-record-of g (some (entry p code strip operand)) =
+unfoldable pub recordOf : Graph → Option Node → List ℕ
+recordOf g none = zeros recordSize
+recordOf g (some (entry p code strip operand)) =
     byte code ∷ byte strip ∷ word operand ++ word p ++ zeros (recordSize - 6)
-record-of g (some (merge p q)) =
+recordOf g (some (merge p q)) =
     0x09 ∷ 0 ∷ 0 ∷ 0 ∷ word p ++ word q ++ word (meetNumber g p q) ++ zeros (recordSize - 10)
 
 -- the block of version v of a graph
 unfoldable pub block : Graph → ℕ → List ℕ
-block g v = record-of g (nodeOf g v) ++ row (λ u. ancestor g u v) rowSize ++ boardOf g v
+block g v = recordOf g (nodeOf g v) ++ row (λ u. ancestor g u v) rowSize ++ boardOf g v
 
 -- the blocks of the first n versions
 unfoldable pub blocks : Graph → ℕ → List ℕ

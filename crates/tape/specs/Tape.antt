@@ -8,12 +8,12 @@ use lib.Dec.{eqb, ltb}
 use lib.ListN.{length, drop, set, replicate}
 use Rattle.board.specs.declared.Strip.{Strip}
 use Rattle.graph.specs.declared.Version.{Version}
-use Rattle.graph.specs.Graph.{Graph, Node, entry, merge, versionCount}
+use Rattle.graph.specs.Graph.{Graph, Node, entry, merge, versionCount, everyVersion, parentsLower}
 use Rattle.command.specs.declared.Console.{Console}
 use Rattle.command.specs.Refusal.{_when_, firstRefusal}
 use Rattle.command.specs.Code.{consoleCount, isConsole}
 use Rattle.room.specs.Room.{Room}
-use Rattle.room.specs.Sound.{isCapacity, everyVersion, parentsLower, entryInRange, sound}
+use Rattle.room.specs.Sound.{isCapacity, entryInRange, sound}
 use Rattle.tape.specs.declared.Record.{Record}
 use Rattle.tape.specs.declared.Record.the-variants.{Start, Entry, Merge, Head, End, Broken}
 use Rattle.tape.specs.Record.{recordAt, recordLength, recordBytes}

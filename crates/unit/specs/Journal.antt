@@ -7,7 +7,7 @@ use mathlib.Core.Option.{Option, none, some, Option·getD}
 use lib.Dec.{eqb}
 use lib.ListN.{length, getD, set, replicate}
 use Rattle.board.specs.declared.Strip.{Strip}
-use Rattle.graph.specs.Below.{count}
+use Rattle.graph.specs.Below.{countBelow}
 use Rattle.graph.specs.Graph.{Node, entry, merge}
 use Rattle.command.specs.declared.Console.{Console}
 use Rattle.command.specs.declared.Command.{Command}
@@ -122,7 +122,7 @@ commonTo j c d v = leads (j .versions) v (headNumber j c) && leads (j .versions)
 
 -- the number of entries heard
 abbrev pub entriesHeard : Journal → ℕ → ℕ
-entriesHeard j c = count (nextVersion j) (hasHeard j c)
+entriesHeard j c = countBelow (nextVersion j) (hasHeard j c)
 
 -- "a call entry is one with code 06": of strip k
 abbrev pub callOf : ℕ → Option Made → Bool
@@ -131,4 +131,4 @@ callOf k (some (entered p code strip)) = eqb code 0x06 && eqb strip k
 callOf k (some (merged p q)) = false
 
 abbrev pub callsHeard : Journal → ℕ → ℕ → ℕ
-callsHeard j c k = count (nextVersion j) (λ e. callOf k (madeAs (j .versions) e) && hasHeard j c e)
+callsHeard j c k = countBelow (nextVersion j) (λ e. callOf k (madeAs (j .versions) e) && hasHeard j c e)
