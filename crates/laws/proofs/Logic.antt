@@ -1,0 +1,76 @@
+-- Laws of tests that compute: what a conjunction, a disjunction, a negation and a choice say when they are true.
+-- Assumes nothing.
+use mathlib.Core.Path.{_≡_, refl, sym, _∙_, ap}
+use mathlib.Core.Bool.{Bool, true, false, cond, not, _&&_, _||_}
+use mathlib.Core.Logic.{_⊎_, inl, inr}
+
+-- true is not false
+pub clash {ℓ} : {A : Type ℓ} {b : Bool} → b ≡ true → b ≡ false → A
+clash {b = true} t f = absurd (mathlib.Core.Bool.true≢false f)
+clash {b = false} t f = absurd (mathlib.Core.Bool.false≢true t)
+
+-- a test is true or false, and its equation is kept
+pub decide : (b : Bool) → (b ≡ true) ⊎ (b ≡ false)
+decide true = inl refl
+decide false = inr refl
+
+pub and-l : (a b : Bool) → a && b ≡ true → a ≡ true
+and-l true b h = refl
+and-l false b h = h
+
+pub and-r : (a b : Bool) → a && b ≡ true → b ≡ true
+and-r true b h = h
+and-r false b h = clash h refl
+
+pub and-i : (a b : Bool) → a ≡ true → b ≡ true → a && b ≡ true
+and-i true b p q = q
+and-i false b p q = p
+
+pub or-l : (a b : Bool) → a ≡ true → a || b ≡ true
+or-l true b h = refl
+or-l false b h = clash h refl
+
+pub or-r : (a b : Bool) → b ≡ true → a || b ≡ true
+or-r true b h = refl
+or-r false b h = h
+
+pub or-split : (a b : Bool) → a || b ≡ true → (a ≡ true) ⊎ (b ≡ true)
+or-split true b h = inl refl
+or-split false b h = inr h
+
+pub or-none : (a b : Bool) → a ≡ false → b ≡ false → a || b ≡ false
+or-none true b p q = p
+or-none false b p q = q
+
+pub not-i : (a : Bool) → a ≡ false → not a ≡ true
+not-i true h = clash refl h
+not-i false h = refl
+
+pub not-e : (a : Bool) → not a ≡ true → a ≡ false
+not-e true h = sym h
+not-e false h = refl
+
+-- two tests that are true together are equal
+pub bool-ext : (a b : Bool) → (a ≡ true → b ≡ true) → (b ≡ true → a ≡ true) → a ≡ b
+bool-ext true true f g = refl
+bool-ext true false f g = sym (f refl)
+bool-ext false true f g = g refl
+bool-ext false false f g = refl
+
+-- an implication as a test
+pub implies-i : (a b : Bool) → (a ≡ true → b ≡ true) → not a || b ≡ true
+implies-i true b f = f refl
+implies-i false b f = refl
+
+pub implies-e : (a b : Bool) → not a || b ≡ true → a ≡ true → b ≡ true
+implies-e true b h t = h
+implies-e false b h t = clash t refl
+
+module _ {ℓ} {A : Type ℓ} where
+  pub cond-true : (b : Bool) (x y : A) → b ≡ true → cond b x y ≡ x
+  cond-true true x y h = refl
+  cond-true false x y h = clash h refl
+
+  pub cond-false : (b : Bool) (x y : A) → b ≡ false → cond b x y ≡ y
+  cond-false true x y h = clash refl h
+  cond-false false x y h = refl
