@@ -26,6 +26,11 @@ pub and-i : (a b : Bool) → a ≡ true → b ≡ true → a && b ≡ true
 and-i true b p q = q
 and-i false b p q = p
 
+-- a conjunction that fails, and not by its first part, fails by its second
+pub and-rest : (a b : Bool) → a ≡ true → a && b ≡ false → b ≡ false
+and-rest true b p h = h
+and-rest false b p h = clash p refl
+
 pub or-l : (a b : Bool) → a ≡ true → a || b ≡ true
 or-l true b h = refl
 or-l false b h = clash h refl

@@ -1,0 +1,142 @@
+-- What stands in each cell of a merged board, and of a board after an entry.
+-- Assumes nothing.
+use Prim.Native.Nat.{ℕ, zero, suc, _+_, _-_, _*_, _/_, _%_, _<_, _≤_}
+use mathlib.Core.Path.{_≡_, refl, sym, _∙_, ap}
+use mathlib.Core.List.{List, [], _∷_, _++_}
+use mathlib.Core.Bool.{Bool, true, false, cond, _&&_}
+use native.Mathlib.Omega.{arith}
+use native.Mathlib.Decide.{decLt}
+use borrow.Author.Tests.{eqb-false}
+use lib.Dec.{eqb}
+use lib.ListN.{length, getD, set, length-append, length-set, List·getD-append}
+use lib.Seq.{getD-append-add, getD-set-other}
+use Rattle.laws.proofs.Logic.{and-rest}
+use Rattle.buffer.specs.Field.{word, wordAt, putWord}
+use Rattle.buffer.proofs.Writes.{word-back, put-length, put-same, put-apart}
+use Rattle.board.specs.Board.{stripSize, stripCount, boardSize, mergeStrip, mergeStrips, mergeBoard, mergeCount, mergeSetting, mergeMarks, levelAt, headingAt, marksAt, callsAt, alertsAt, flagAt, without, enter}
+
+strip-length : (l a b : List ℕ) (k : ℕ) → length (mergeStrip l a b k) ≡ stripSize
+unfolding mergeStrip
+strip-length l a b k = refl
+
+pub strips-length : (l a b : List ℕ) (n : ℕ) → length (mergeStrips l a b n) ≡ stripSize * n
+unfolding mergeStrips
+strips-length l a b zero = refl
+strips-length l a b (suc n) =
+    omega (arith, length-append (mergeStrips l a b n) (mergeStrip l a b n), strips-length l a b n, strip-length l a b n)
+
+-- a byte of a merged board is a byte of the merged strip
+pub strips-at : (l a b : List ℕ) (n k i : ℕ) → k < n → i < stripSize → getD (mergeStrips l a b n) (stripSize * k + i) 0 ≡ getD (mergeStrip l a b k) i 0
+unfolding mergeStrips
+strips-at l a b zero k i kn is = absurd (omega arith)
+strips-at l a b (suc n) k i kn is =
+    elim (decLt k n) [
+      | yes lt ↦ List·getD-append (mergeStrips l a b n) (mergeStrip l a b n) 0 (stripSize * k + i) (omega (arith, strips-length l a b n)) ∙ strips-at l a b n k i lt is
+      | no ge ↦
+          let e : k ≡ n = omega arith in
+          let at : stripSize * k + i ≡ length (mergeStrips l a b n) + i = omega (arith, strips-length l a b n) in
+          ap (λ (j : ℕ). getD (mergeStrips l a b n ++ mergeStrip l a b n) j 0) at
+          ∙ getD-append-add (mergeStrips l a b n) (mergeStrip l a b n) i 0
+          ∙ ap (λ (j : ℕ). getD (mergeStrip l a b j) i 0) (sym e)
+    ]
+
+pub board-length : (l a b : List ℕ) → length (mergeBoard l a b) ≡ boardSize
+board-length l a b = strips-length l a b stripCount
+
+module _ (l a b : List ℕ) (k : ℕ) (h : k < stripCount) where
+  board-at : (i j : ℕ) → i < stripSize → j ≡ stripSize * k + i → getD (mergeBoard l a b) j 0 ≡ getD (mergeStrip l a b k) i 0
+  board-at i j is e = ap (λ (m : ℕ). getD (mergeBoard l a b) m 0) e ∙ strips-at l a b stripCount k i h is
+
+  -- the 16 bits at an offset of a merged strip
+  board-word : (o : ℕ) → o + 1 < stripSize → wordAt (mergeBoard l a b) (stripSize * k + o) ≡ wordAt (mergeStrip l a b k) o
+  board-word o os =
+      let hi : getD (mergeBoard l a b) (stripSize * k + o) 0 ≡ getD (mergeStrip l a b k) o 0 = board-at o (stripSize * k + o) (omega arith) refl in
+      let lo : getD (mergeBoard l a b) (stripSize * k + o + 1) 0 ≡ getD (mergeStrip l a b k) (o + 1) 0 = board-at (o + 1) (stripSize * k + o + 1) (omega arith) (omega arith) in
+      cc
+
+  -- "calls and alert count: a + b − l", where that fits 16 bits
+  pub calls-merged : mergeCount (wordAt l (callsAt k)) (wordAt a (callsAt k)) (wordAt b (callsAt k)) < 65536
+      → wordAt (mergeBoard l a b) (callsAt k) ≡ mergeCount (wordAt l (callsAt k)) (wordAt a (callsAt k)) (wordAt b (callsAt k))
+  unfolding mergeStrip
+  calls-merged small = board-word 6 (omega arith) ∙ word-back _ small
+
+  pub alerts-merged : mergeCount (wordAt l (alertsAt k)) (wordAt a (alertsAt k)) (wordAt b (alertsAt k)) < 65536
+      → wordAt (mergeBoard l a b) (alertsAt k) ≡ mergeCount (wordAt l (alertsAt k)) (wordAt a (alertsAt k)) (wordAt b (alertsAt k))
+  unfolding mergeStrip
+  alerts-merged small = board-word 8 (omega arith) ∙ word-back _ small
+
+-- what holds of both branches holds of a choice; the first may lean on its test
+chosen : (P : List ℕ → Type 0) (t : Bool) (x y : List ℕ) → (t ≡ true → P x) → P y → P (cond t x y)
+chosen P true x y p q = p refl
+chosen P false x y p q = q
+
+either : (P : List ℕ → Type 0) (t : Bool) (x y : List ℕ) → P x → P y → P (cond t x y)
+either P t x y p q = chosen P t x y (λ _. p) q
+
+-- the 16 bits at i share no byte with those at a place
+record Apart (i at : ℕ) : Type 0 where
+  same : i ≡ at → ⊥
+  behind : i ≡ at + 1 → ⊥
+  before : i + 1 ≡ at → ⊥
+
+put-kept : (s : List ℕ) (at x i : ℕ) → Apart i at → wordAt (putWord s at x) i ≡ wordAt s i
+put-kept s at x i a = put-apart s at x i (a .same) (a .behind) (a .before)
+
+flag-kept : (s : List ℕ) (k x i : ℕ) → Apart i (flagAt k) → wordAt (set s (flagAt k) x) i ≡ wordAt s i
+flag-kept s k x i a =
+    let hi = getD-set-other s (flagAt k) i x 0 (a .same) in
+    let lo = getD-set-other s (flagAt k) (i + 1) x 0 (a .before) in
+    cc
+
+module _ (code k x : ℕ) (s : List ℕ) where
+  pub enter-length : length (enter code k x s) ≡ length s
+  unfolding enter
+  enter-length =
+      let P : List ℕ → Type 0 = λ t. length t ≡ length s in
+      either P (eqb code 2) _ _ (put-length s (levelAt k) x)
+      (either P (eqb code 3) _ _ (put-length s (headingAt k) x)
+      (either P (eqb code 4) _ _ (put-length s (marksAt k) _)
+      (either P (eqb code 5) _ _ (put-length s (marksAt k) _)
+      (either P (eqb code 6) _ _ (put-length s (callsAt k) _)
+      (either P (eqb code 7) _ _ (simp length-set)
+      (either P (eqb code 8) _ _ (length-set {A = ℕ} s (flagAt k) 0) refl))))))
+
+  -- a 16-bit cell that an entry does not write stays as it was
+  cell-kept : (i : ℕ) → Apart i (levelAt k) → Apart i (headingAt k) → Apart i (marksAt k) → (eqb code 6 ≡ true → Apart i (callsAt k))
+      → (eqb code 7 ≡ true → Apart i (alertsAt k)) → Apart i (flagAt k) → wordAt (enter code k x s) i ≡ wordAt s i
+  unfolding enter
+  cell-kept i level heading marks calls alerts flag =
+      let P : List ℕ → Type 0 = λ t. wordAt t i ≡ wordAt s i in
+      either P (eqb code 2) _ _ (put-kept s (levelAt k) x i level)
+      (either P (eqb code 3) _ _ (put-kept s (headingAt k) x i heading)
+      (either P (eqb code 4) _ _ (put-kept s (marksAt k) _ i marks)
+      (either P (eqb code 5) _ _ (put-kept s (marksAt k) _ i marks)
+      (chosen P (eqb code 6) _ _ (λ six. put-kept s (callsAt k) _ i (calls six))
+      (chosen P (eqb code 7) _ _
+      (λ seven. flag-kept (putWord s (alertsAt k) (wordAt s (alertsAt k) + 1)) k 1 i flag ∙ put-kept s (alertsAt k) _ i (alerts seven))
+      (either P (eqb code 8) _ _ (flag-kept s k 0 i flag) refl))))))
+
+  -- no entry but a call changes the calls, and none those of another strip; likewise the alert count
+  pub calls-kept : (j : ℕ) → eqb code 6 && eqb j k ≡ false → wordAt (enter code k x s) (callsAt j) ≡ wordAt s (callsAt j)
+  calls-kept j other =
+      cell-kept (callsAt j) (omega arith) (omega arith) (omega arith)
+      (λ six. let ne : j ≡ k → ⊥ = eqb-false j k (and-rest _ _ six other) in omega arith)
+      (λ seven. omega arith) (omega arith)
+
+  pub alerts-kept : (j : ℕ) → eqb code 7 && eqb j k ≡ false → wordAt (enter code k x s) (alertsAt j) ≡ wordAt s (alertsAt j)
+  alerts-kept j other =
+      cell-kept (alertsAt j) (omega arith) (omega arith) (omega arith) (λ six. omega arith)
+      (λ seven. let ne : j ≡ k → ⊥ = eqb-false j k (and-rest _ _ seven other) in omega arith)
+      (omega arith)
+
+module _ (k x : ℕ) (s : List ℕ) (inside : alertsAt k + 1 < length s) where
+  -- "06 adds 1 to calls; 07 adds 1 to the alert count"
+  pub call-counted : wordAt s (callsAt k) + 1 < 65536 → wordAt (enter 6 k x s) (callsAt k) ≡ wordAt s (callsAt k) + 1
+  unfolding enter
+  call-counted small = put-same s (callsAt k) (wordAt s (callsAt k) + 1) (omega arith) small
+
+  pub alert-counted : wordAt s (alertsAt k) + 1 < 65536 → wordAt (enter 7 k x s) (alertsAt k) ≡ wordAt s (alertsAt k) + 1
+  unfolding enter
+  alert-counted small =
+      flag-kept (putWord s (alertsAt k) (wordAt s (alertsAt k) + 1)) k 1 (alertsAt k) (omega arith)
+      ∙ put-same s (alertsAt k) (wordAt s (alertsAt k) + 1) inside small
