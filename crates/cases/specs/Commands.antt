@@ -125,6 +125,8 @@ boards =
     ∷ (cells (made (fresh 64) (setUp ++ (quiet 0 3 ∷ alert 1 3 ∷ merge 0 1 ∷ []))) 0 3 gives 100 ∷ 90 ∷ 32772 ∷ 1 ∷ 2 ∷ 1 ∷ [])
     ∷ (cells (made (fresh 64) (setUp ++ (quiet 0 3 ∷ alert 1 3 ∷ merge 1 0 ∷ []))) 1 3 gives 100 ∷ 90 ∷ 32772 ∷ 1 ∷ 2 ∷ 1 ∷ [])
     ∷ (cells (made (fresh 64) (setUp ++ (quiet 1 3 ∷ alert 0 3 ∷ quiet 0 3 ∷ merge 0 1 ∷ []))) 0 3 gives 100 ∷ 90 ∷ 32772 ∷ 1 ∷ 2 ∷ 0 ∷ [])
+    ∷ (cells (made (fresh 64) (setUp ++ (quiet 1 3 ∷ call 0 3 ∷ merge 0 1 ∷ []))) 0 3 gives 100 ∷ 90 ∷ 32772 ∷ 2 ∷ 1 ∷ 0 ∷ [])
+    ∷ (cells (made (fresh 64) (setUp ++ (quiet 1 3 ∷ alert 0 3 ∷ merge 0 1 ∷ []))) 0 3 gives 100 ∷ 90 ∷ 32772 ∷ 1 ∷ 2 ∷ 1 ∷ [])
     -- heard: the entries alone, neither version 0 nor a merge, also one that changes nothing visible
     ∷ (heardCount (fresh 4) 0 ∷ heardCount diverged 0 ∷ heardCount (made diverged (merge 0 1 ∷ [])) 0 ∷ [] gives 0 ∷ 1 ∷ 2 ∷ [])
     -- common: of a console with itself its head; of two that parted the version where they did

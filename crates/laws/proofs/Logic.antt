@@ -47,6 +47,15 @@ pub or-none : (a b : Bool) → a ≡ false → b ≡ false → a || b ≡ false
 or-none true b p q = p
 or-none false b p q = q
 
+-- a disjunction that fails, fails in both parts
+pub or-none-l : (a b : Bool) → a || b ≡ false → a ≡ false
+or-none-l true b h = h
+or-none-l false b h = refl
+
+pub or-none-r : (a b : Bool) → a || b ≡ false → b ≡ false
+or-none-r true b h = clash refl h
+or-none-r false b h = h
+
 pub not-i : (a : Bool) → a ≡ false → not a ≡ true
 not-i true h = clash refl h
 not-i false h = refl

@@ -1,0 +1,96 @@
+-- A command that is decoded whole names consoles, strips and operands in range, and two different consoles where it names two.
+-- Assumes nothing.
+use Prim.Native.Nat.{ℕ, zero, suc, _<_}
+use mathlib.Core.Path.{_≡_, refl, sym, _∙_, ap, subst}
+use mathlib.Core.Bool.{Bool, true, false, cond, not, _&&_, _||_}
+use mathlib.Core.List.{List, [], _∷_}
+use native.Mathlib.Omega.{arith}
+use borrow.Author.Tests.{eqb-true, eqb-false, not-false, ltb-true}
+use lib.Dec.{eqb, ltb, lit<}
+use lib.ListN.{length}
+use Rattle.laws.proofs.Logic.{clash, decide, and-rest, or-none-l, or-none-r, not-i, and-i}
+use Rattle.board.specs.declared.Strip.{Strip}
+use Rattle.command.specs.declared.Console.{Console}
+use Rattle.command.specs.declared.Operands.{Operands}
+use Rattle.command.specs.declared.Command.{Command}
+use Rattle.command.specs.declared.Command.the-variants.{Fork, Entry, Merge, FastForward}
+use Rattle.command.specs.declared.Decoded.{Decoded}
+use Rattle.command.specs.declared.Decoded.the-variants.{Whole, Refused}
+use Rattle.command.specs.Refusal.{_when_, firstRefusal}
+use Rattle.command.specs.Code.{consoleCount, shapeOf, lengthOf, isEntryCode, isConsole, isStrip, isOperand}
+use Rattle.command.specs.Decode.{codeAt, operandsIn, isCommandCode, commandRefusal, commandOf, decode}
+use Rattle.command.proofs.Refusals.{none-applies}
+
+-- two different consoles
+abbrev pub TwoConsoles : ℕ → ℕ → Type 0
+TwoConsoles c d = (c < consoleCount) × (d < consoleCount) × (c ≡ d → ⊥)
+
+abbrev pub InRange : Command → Type 0
+InRange (Fork new old) = TwoConsoles (new .0) (old .0)
+InRange (Entry console code strip operand) =
+    (console .0 < consoleCount) × (isEntryCode code && isStrip (strip .0) && isOperand code operand ≡ true)
+InRange (Merge receiver giver) = TwoConsoles (receiver .0) (giver .0)
+InRange (FastForward receiver giver) = TwoConsoles (receiver .0) (giver .0)
+
+-- the tests 3 to 6 of a command of this code
+record Passed (code : ℕ) (o : Operands) : Type 0 where
+  three : not (isConsole (o .first)) || not (isEntryCode code) && not (isConsole (o .second)) ≡ false
+  four : isEntryCode code && not (isStrip (o .second)) ≡ false
+  five : isEntryCode code && not (isOperand code (o .third)) ≡ false
+  six : not (isEntryCode code) && eqb (o .first) (o .second) ≡ false
+
+passed : (s : List ℕ) → commandRefusal s ≡ 0 → Passed (codeAt s) (operandsIn s)
+unfolding commandRefusal
+passed s h =
+    let third = none-applies _ h .1 (lit< tt) .1 (lit< tt) in
+    let fourth = third .1 (lit< tt) in
+    let fifth = fourth .1 (lit< tt) in
+    record {
+      three = third .0 (lit< tt);
+      four = fourth .0 (lit< tt);
+      five = fifth .0 (lit< tt);
+      six = fifth .1 (lit< tt) .0 (lit< tt);
+    }
+
+-- a test of which the negation fails
+unnot : (t : Bool) → not t ≡ false → t ≡ true
+unnot true h = refl
+unnot false h = sym h
+
+two : (code : ℕ) (o : Operands) → Passed code o → isEntryCode code ≡ false → TwoConsoles (o .first) (o .second)
+two code o p e =
+    let other = not-i _ e in (
+      ltb-true _ _ (unnot _ (or-none-l _ _ (p .three))),
+      ltb-true _ _ (unnot _ (and-rest _ _ other (or-none-r (not (isConsole (o .first))) _ (p .three)))),
+      eqb-false _ _ (and-rest _ _ other (p .six)),
+    )
+
+one : (code : ℕ) (o : Operands) → Passed code o → isEntryCode code ≡ true
+    → (o .first < consoleCount) × (isEntryCode code && isStrip (o .second) && isOperand code (o .third) ≡ true)
+one code o p e = (
+  ltb-true _ _ (unnot _ (or-none-l _ _ (p .three))),
+  and-i _ _ (and-i _ _ e (unnot _ (and-rest _ _ e (p .four)))) (unnot _ (and-rest _ _ e (p .five))),
+)
+
+ranges : (code : ℕ) (o : Operands) → Passed code o → (t u v : Bool) → isEntryCode code ≡ t
+    → InRange
+    (cond t (Entry (record { 0 = o .first }) code (record { 0 = o .second }) (o .third))
+    (cond u (Fork (record { 0 = o .first }) (record { 0 = o .second }))
+    (cond v (Merge (record { 0 = o .first }) (record { 0 = o .second }))
+    (FastForward (record { 0 = o .first }) (record { 0 = o .second })))))
+ranges code o p true u v e = one code o p e
+ranges code o p false true v e = two code o p e
+ranges code o p false false true e = two code o p e
+ranges code o p false false false e = two code o p e
+
+whole : (s : List ℕ) (c : Command) (t : Bool) → eqb (commandRefusal s) 0 ≡ t
+    → cond t (Whole (commandOf (codeAt s) (operandsIn s))) (Refused (commandRefusal s)) ≡ Whole c → InRange c
+unfolding commandOf
+whole s c true e h =
+    let same : commandOf (codeAt s) (operandsIn s) ≡ c = cc in
+    subst InRange same (ranges (codeAt s) (operandsIn s) (passed s (eqb-true _ _ e)) _ (eqb (codeAt s) 0x01) (eqb (codeAt s) 0x09) refl)
+whole s c false e h = absurd (let z : _≡_ {A = ℕ} 0 1 = cc in omega arith)
+
+pub decode-range : (s : List ℕ) (c : Command) → decode s ≡ Whole c → InRange c
+unfolding decode
+decode-range s c h = whole s c _ refl h
