@@ -8,23 +8,11 @@ use mathlib.Core.List.{[], _∷_}
 use mathlib.Core.Option.{Option, none, some}
 use native.Mathlib.Omega.{arith}
 use native.Mathlib.Decide.{ℕ-discrete}
-use lib.Dec.{eqb, ltb}
-use borrow.Author.Tests.{eqb-true, eq-eqb, ne-eqb, ltb-true}
+use lib.Dec.{eqb}
+use borrow.Author.Tests.{eqb-true, eq-eqb, ne-eqb}
 use Rattle.laws.proofs.Logic.{clash, and-l, and-r, or-l, or-r, or-split, cond-true, cond-false}
-use Rattle.graph.specs.Graph.{Node, entry, merge, Graph, versionCount, someParent, ancestor, nodeOf, entryNode, isEntry, everyVersion, parentsLower}
-
--- a parent that passes a test gives what every number that passes it gives
-pub someParent-to : (f : ℕ → Bool) (n : Node) (A : Type 0) → ((p : ℕ) → f p ≡ true → A) → someParent f n ≡ true → A
-someParent-to f (entry p code strip operand) A h t = h p t
-someParent-to f (merge p q) A h t = elim (or-split (f p) (f q) t) [ inl s ↦ h p s | inr s ↦ h q s ]
-
-pub someParent-mono : (f g : ℕ → Bool) (n : Node) → ((p : ℕ) → f p ≡ true → g p ≡ true) → someParent f n ≡ true → someParent g n ≡ true
-someParent-mono f g (entry p code strip operand) h t = h p t
-someParent-mono f g (merge p q) h t = elim (or-split (f p) (f q) t) [ inl s ↦ or-l (g p) (g q) (h p s) | inr s ↦ or-r (g p) (g q) (h q s) ]
-
-pub someParent-lower : (g : Graph) (n : Node) (f : ℕ → Bool) → parentsLower g n ≡ true → ((p : ℕ) → p < versionCount g → f p ≡ true) → someParent f n ≡ true
-someParent-lower g (entry p code strip operand) f w h = h p (ltb-true p (versionCount g) w)
-someParent-lower g (merge p q) f w h = or-l (f p) (f q) (h p (ltb-true p (versionCount g) (and-l (ltb p (versionCount g)) (ltb q (versionCount g)) w)))
+use Rattle.graph.specs.Graph.{Node, Graph, versionCount, someParent, ancestor, nodeOf, entryNode, isEntry, everyVersion, parentsLower}
+use Rattle.graph.proofs.Parent.{Parent, a-parent, parent-to, parent-from, parent-lower}
 
 -- a test of every version holds at the newest, and of those before it
 pub every-new : (f : Graph → Node → Bool) (n : Node) (g : Graph) → everyVersion f (n ∷ g) ≡ true → f g n ≡ true
@@ -82,11 +70,11 @@ ancestor-named (n ∷ g) u v h =
       | no d ↦ omega (arith, ancestor-named g u v (cc (ancestor-other n g u v d)))
     ]
 
--- the three ways to be an ancestor once the version n is there: both are the new version, or the second is and the first is an
--- ancestor of a parent, or it was so before
+-- the three ways to be an ancestor once the version n is there: both are the new version; the second is, and the first is an
+-- ancestor of a parent of it; it was so before
 pub data Ways (n : Node) (g : Graph) (u v : ℕ) : Type 0 where
   same : u ≡ versionCount g → v ≡ versionCount g → Ways n g u v
-  above : someParent (ancestor g u) n ≡ true → v ≡ versionCount g → Ways n g u v
+  above : {p : ℕ} → Parent n p → ancestor g u p ≡ true → v ≡ versionCount g → Ways n g u v
   before : ancestor g u v ≡ true → v < versionCount g → Ways n g u v
 
 pub ways : (n : Node) (g : Graph) (u v : ℕ) → ancestor (n ∷ g) u v ≡ true → Ways n g u v
@@ -95,7 +83,7 @@ ways n g u v h =
       | yes e ↦
           elim (or-split (eqb u (versionCount g)) (someParent (ancestor g u) n) (cc (ancestor-new n g u))) [
             | inl t ↦ same (eqb-true u (versionCount g) t) e
-            | inr t ↦ above t e
+            | inr t ↦ let r = parent-to (ancestor g u) n t in above (r .1) (r .2) e
           ]
       | no d ↦ let t : ancestor g u v ≡ true = cc (ancestor-other n g u v d) in before t (ancestor-named g u v t)
     ]
@@ -104,15 +92,15 @@ ways n g u v h =
 pub ancestor-same : (n : Node) (g : Graph) → ancestor (n ∷ g) (versionCount g) (versionCount g) ≡ true
 ancestor-same n g = rw ancestor-new (or-l (eqb (versionCount g) (versionCount g)) (someParent (ancestor g (versionCount g)) n) (eq-eqb (versionCount g) (versionCount g) refl))
 
-pub ancestor-above : (n : Node) (g : Graph) (u : ℕ) → someParent (ancestor g u) n ≡ true → ancestor (n ∷ g) u (versionCount g) ≡ true
-ancestor-above n g u t = rw ancestor-new (or-r (eqb u (versionCount g)) (someParent (ancestor g u) n) t)
+pub ancestor-above : {n : Node} {p : ℕ} (g : Graph) (u : ℕ) → Parent n p → ancestor g u p ≡ true → ancestor (n ∷ g) u (versionCount g) ≡ true
+ancestor-above {n} g u r t = rw ancestor-new (or-r (eqb u (versionCount g)) (someParent (ancestor g u) n) (parent-from (ancestor g u) r t))
 
 pub ancestor-le : (g : Graph) (u v : ℕ) → ancestor g u v ≡ true → u ≤ v
 ancestor-le [] u v h = omega (arith, ancestor-first u v h)
 ancestor-le (n ∷ g) u v h =
     elim (ways n g u v h) [
       | same a b ↦ omega arith
-      | above t b ↦ someParent-to (ancestor g u) n (u ≤ v) (λ p t. omega (arith, ancestor-le g u p t, ancestor-named g u p t)) t
+      | above {p} r t b ↦ omega (arith, ancestor-le g u p t, ancestor-named g u p t)
       | before t l ↦ ancestor-le g u v t
     ]
 
@@ -131,7 +119,7 @@ ancestor-trans (n ∷ g) u v w h k =
     λ p t. ancestor-trans g u v p (cc (ancestor-old n g u v (omega (arith, ancestor-le g v p t, ancestor-named g v p t)))) t in
     elim (ways n g v w k) [
       | same a b ↦ rw (b ∙ sym a) h
-      | above t b ↦ rw b (ancestor-above n g u (someParent-mono (ancestor g v) (ancestor g u) n older t))
+      | above {p} r t b ↦ rw b (ancestor-above g u r (older p t))
       | before t l ↦ cc (ancestor-old n g u w l, older w t)
     ]
 
@@ -145,7 +133,7 @@ ancestor-zero (n ∷ g) v w l =
     let older : (p : ℕ) → p < versionCount g → ancestor g 0 p ≡ true =
     λ p. ancestor-zero g p (every-old parentsLower n g w) in
     elim (ℕ-discrete v (versionCount g)) [
-      | yes e ↦ rw e (ancestor-above n g 0 (someParent-lower g n (ancestor g 0) (every-new parentsLower n g w) older))
+      | yes e ↦ let r = a-parent n in rw e (ancestor-above g 0 (r .1) (older (r .0) (parent-lower g (every-new parentsLower n g w) (r .1))))
       | no d ↦ cc (ancestor-other n g 0 v d, older v (omega arith))
     ]
 

@@ -2,42 +2,20 @@
 -- Assumes nothing.
 use Prim.Native.Nat.{ℕ, _<_}
 use mathlib.Core.Path.{_≡_, _∙_}
-use mathlib.Core.Logic.{inl, inr}
-use mathlib.Core.Bool.{Bool, true}
+use mathlib.Core.Bool.{true}
 use mathlib.Core.List.{[], _∷_}
 use mathlib.Core.Option.{some}
 use native.Mathlib.Omega.{arith}
 use native.Mathlib.Decide.{ℕ-discrete}
-use lib.Dec.{ltb}
-use borrow.Author.Tests.{ltb-true}
-use Rattle.laws.proofs.Logic.{and-l, and-r, or-l, or-r, or-split}
-use Rattle.graph.specs.Graph.{Node, entry, merge, Graph, versionCount, someParent, ancestor, nodeOf, everyVersion, parentsLower}
+use Rattle.graph.specs.Graph.{Node, Graph, versionCount, ancestor, nodeOf, everyVersion, parentsLower}
+pub use Rattle.graph.proofs.Parent.{Parent, sole, receiver, giver}
+use Rattle.graph.proofs.Parent.{parent-lower}
 use Rattle.graph.proofs.Ancestor.{every-new, every-old, nodeOf-new, nodeOf-old, nodeOf-named, ancestor-first, same, above, before, ways, ancestor-above, ancestor-old, ancestor-self, ancestor-trans}
-
--- the parents of a version
-pub data Parent : Node → ℕ → Type 0 where
-  sole : {p code strip operand : ℕ} → Parent (entry p code strip operand) p
-  receiver : {p q : ℕ} → Parent (merge p q) p
-  giver : {p q : ℕ} → Parent (merge p q) q
 
 -- v descends from u: it is u, or a parent of it descends from u
 pub data Descends (g : Graph) : ℕ → ℕ → Type 0 where
   itself : {v : ℕ} → v < versionCount g → Descends g v v
   onward : {u p v : ℕ} {n : Node} → Descends g u p → nodeOf g v ≡ some n → Parent n p → Descends g u v
-
-parent-to : (f : ℕ → Bool) (n : Node) → someParent f n ≡ true → (p : ℕ) × Parent n p × (f p ≡ true)
-parent-to f (entry p code strip operand) t = (p, sole, t)
-parent-to f (merge p q) t = elim (or-split (f p) (f q) t) [ inl s ↦ (p, receiver, s) | inr s ↦ (q, giver, s) ]
-
-parent-from : (f : ℕ → Bool) {n : Node} {p : ℕ} → Parent n p → f p ≡ true → someParent f n ≡ true
-parent-from f sole t = t
-parent-from f (receiver {p} {q}) t = or-l (f p) (f q) t
-parent-from f (giver {p} {q}) t = or-r (f p) (f q) t
-
-parent-lower : (g : Graph) {n : Node} {p : ℕ} → Parent n p → parentsLower g n ≡ true → p < versionCount g
-parent-lower g (sole {p}) w = ltb-true p (versionCount g) w
-parent-lower g (receiver {p} {q}) w = ltb-true p (versionCount g) (and-l (ltb p (versionCount g)) (ltb q (versionCount g)) w)
-parent-lower g (giver {p} {q}) w = ltb-true q (versionCount g) (and-r (ltb p (versionCount g)) (ltb q (versionCount g)) w)
 
 -- a parent is an ancestor
 parent-ancestor : (g : Graph) (n : Node) (p v : ℕ) → everyVersion parentsLower g ≡ true → nodeOf g v ≡ some n → Parent n p → ancestor g p v ≡ true
@@ -46,8 +24,8 @@ parent-ancestor (m ∷ g) n p v w e r =
     elim (ℕ-discrete v (versionCount g)) [
       | yes d ↦
           let is : m ≡ n = cc (nodeOf-new m g) in
-          let l : p < versionCount g = parent-lower g r (rw is at (every-new parentsLower m g w)) in
-          rw (d, is) (ancestor-above n g p (parent-from (ancestor g p) r (ancestor-self g p l)))
+          let l : p < versionCount g = parent-lower g (rw is at (every-new parentsLower m g w)) r in
+          rw (d, is) (ancestor-above g p r (ancestor-self g p l))
       | no d ↦
           let l : v < versionCount g = omega (arith, nodeOf-named (m ∷ g) v n e) in
           cc (ancestor-old m g p v l, parent-ancestor g n p v (every-old parentsLower m g w) (cc (nodeOf-old m g v l)) r)
@@ -66,6 +44,6 @@ pub closure-from : (g : Graph) (u v : ℕ) → ancestor g u v ≡ true → Desce
 closure-from [] u v h = let r = ancestor-first u v h in rw (r .0, r .1) (itself {v = 0} (omega arith))
 closure-from (n ∷ g) u v h = elim (ways n g u v h) [
   | same a b ↦ rw (a, b) (itself {v = versionCount g} (omega arith))
-  | above t b ↦ let r = parent-to (ancestor g u) n t in rw b (onward (descends-old n (closure-from g u (r .0) (r .2))) (nodeOf-new n g) (r .1))
+  | above {p} r t b ↦ rw b (onward (descends-old n (closure-from g u p t)) (nodeOf-new n g) r)
   | before t l ↦ descends-old n (closure-from g u v t)
 ]
