@@ -1,0 +1,101 @@
+-- Laws of the tests below a bound: what it says that all of them pass, that some do, which is the highest, and how many.
+-- Assumes nothing.
+use Prim.Native.Nat.{ℕ, zero, suc, _+_, _≤_, _<_}
+use mathlib.Core.Path.{_≡_, refl}
+use mathlib.Core.Logic.{inl, inr}
+use mathlib.Core.Bool.{Bool, true, false, cond, _&&_, _||_}
+use mathlib.Core.Option.{none, some}
+use native.Mathlib.Omega.{arith}
+use native.Mathlib.Decide.{ℕ-discrete}
+use Rattle.laws.proofs.Logic.{clash, decide, and-l, and-r, and-i, or-l, or-r, or-split}
+use Rattle.graph.specs.Below.{everyBelow, someBelow, countBelow, highestBelow}
+
+-- what holds below n and at n holds below n + 1
+more : (P : ℕ → Type 0) (n : ℕ) → ((k : ℕ) → k < n → P k) → P n → (k : ℕ) → k < suc n → P k
+more P n h p k l = elim (ℕ-discrete k n) [ yes e ↦ rw e p | no d ↦ h k (omega arith) ]
+
+pub at : (n : ℕ) (f : ℕ → Bool) → everyBelow n f ≡ true → (k : ℕ) → k < n → f k ≡ true
+unfolding everyBelow
+at zero f h = λ k l. absurd (omega arith)
+at (suc n) f h = more (λ k. f k ≡ true) n (at n f (and-l (everyBelow n f) (f n) h)) (and-r (everyBelow n f) (f n) h)
+
+pub of : (n : ℕ) (f : ℕ → Bool) → ((k : ℕ) → k < n → f k ≡ true) → everyBelow n f ≡ true
+unfolding everyBelow
+of zero f h = refl
+of (suc n) f h = and-i (everyBelow n f) (f n) (of n f (λ k l. h k (omega arith))) (h n (omega arith))
+
+pub some-at : (n : ℕ) (f : ℕ → Bool) → someBelow n f ≡ true → (k : ℕ) × (k < n) × (f k ≡ true)
+unfolding someBelow
+some-at zero f h = clash h refl
+some-at (suc n) f h =
+    elim (or-split (someBelow n f) (f n) h) [
+      | inl s ↦ let r = some-at n f s in (r .0, omega arith, r .2)
+      | inr t ↦ (n, omega arith, t)
+    ]
+
+pub some-of : (n : ℕ) (f : ℕ → Bool) (k : ℕ) → k < n → f k ≡ true → someBelow n f ≡ true
+unfolding someBelow
+some-of zero f k l t = absurd (omega arith)
+some-of (suc n) f k l t =
+    elim (ℕ-discrete k n) [
+      | yes e ↦ or-r (someBelow n f) (f n) (cc)
+      | no d ↦ or-l (someBelow n f) (f n) (some-of n f k (omega arith) t)
+    ]
+
+-- the highest number below the bound that passes
+pub highest-some : (n : ℕ) (f : ℕ → Bool) (m : ℕ) → highestBelow n f ≡ some m → (m < n) × (f m ≡ true) × ((k : ℕ) → m < k → k < n → f k ≡ false)
+unfolding highestBelow
+highest-some zero f m h = let z : _≡_ {A = ℕ} 0 1 = cc in absurd (omega arith)
+highest-some (suc n) f m h =
+    elim (decide (f n)) [
+      | inl t ↦ let e : n ≡ m = cc in (omega arith, (cc), λ k a b. absurd (omega arith))
+      | inr t ↦ let r = highest-some n f m (cc) in (omega arith, r .1, λ k a l. more (λ j. m < j → f j ≡ false) n (λ j b c. r .2 j c b) (λ _. t) k l a)
+    ]
+
+pub highest-none : (n : ℕ) (f : ℕ → Bool) → highestBelow n f ≡ none → (k : ℕ) → k < n → f k ≡ false
+unfolding highestBelow
+highest-none zero f h = λ k l. absurd (omega arith)
+highest-none (suc n) f h =
+    elim (decide (f n)) [
+      | inl t ↦ let z : _≡_ {A = ℕ} 0 1 = cc in absurd (omega arith)
+      | inr t ↦ more (λ k. f k ≡ false) n (highest-none n f (cc)) t
+    ]
+
+pub highest-of : (n : ℕ) (f : ℕ → Bool) (m : ℕ) → m < n → f m ≡ true → ((k : ℕ) → m < k → k < n → f k ≡ false) → highestBelow n f ≡ some m
+unfolding highestBelow
+highest-of zero f m l t h = absurd (omega arith)
+highest-of (suc n) f m l t h =
+    elim (ℕ-discrete m n) [
+      | yes e ↦ cc
+      | no d ↦ cc (h n (omega arith) (omega arith), highest-of n f m (omega arith) t (λ k a b. h k a (omega arith)))
+    ]
+
+pub count-ext : (n : ℕ) (f g : ℕ → Bool) → ((k : ℕ) → k < n → f k ≡ g k) → countBelow n f ≡ countBelow n g
+unfolding countBelow
+count-ext zero f g h = refl
+count-ext (suc n) f g h = cc (count-ext n f g (λ k l. h k (omega arith)), h n (omega arith))
+
+-- what one number adds to a count
+weight-mono : (a b : Bool) → (a ≡ true → b ≡ true) → cond {A = ℕ} a 1 0 ≤ cond b 1 0
+weight-mono true true h = omega arith
+weight-mono true false h = clash (h refl) refl
+weight-mono false b h = omega arith
+
+weight-both : (a b : Bool) → cond {A = ℕ} (a || b) 1 0 + cond (a && b) 1 0 ≡ cond a 1 0 + cond b 1 0
+weight-both true b = omega arith
+weight-both false b = omega arith
+
+pub count-mono : (n : ℕ) (f g : ℕ → Bool) → ((k : ℕ) → k < n → f k ≡ true → g k ≡ true) → countBelow n f ≤ countBelow n g
+unfolding countBelow
+count-mono zero f g h = omega arith
+count-mono (suc n) f g h = omega (arith, count-mono n f g (λ k l. h k (omega arith)), weight-mono (f n) (g n) (h n (omega arith)))
+
+pub count-le : (n : ℕ) (f : ℕ → Bool) → countBelow n f ≤ n
+unfolding countBelow
+count-le zero f = omega arith
+count-le (suc n) f = omega (arith, count-le n f, weight-mono (f n) true (λ _. refl))
+
+pub inclusion-exclusion : (n : ℕ) (f g : ℕ → Bool) → countBelow n (λ k. f k || g k) + countBelow n (λ k. f k && g k) ≡ countBelow n f + countBelow n g
+unfolding countBelow
+inclusion-exclusion zero f g = refl
+inclusion-exclusion (suc n) f g = omega (arith, inclusion-exclusion n f g, weight-both (f n) (g n))

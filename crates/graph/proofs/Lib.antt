@@ -1,0 +1,4 @@
+pub mod Below
+pub mod Parent
+pub mod Ancestor
+pub mod Closure
