@@ -14,6 +14,11 @@ pub decide : (b : Bool) → (b ≡ true) ⊎ (b ≡ false)
 decide true = inl refl
 decide false = inr refl
 
+-- what cannot be true is false
+pub refuted : (b : Bool) → (b ≡ true → ⊥) → b ≡ false
+refuted true h = absurd (h refl)
+refuted false h = refl
+
 pub and-l : (a b : Bool) → a && b ≡ true → a ≡ true
 and-l true b h = refl
 and-l false b h = h
@@ -79,6 +84,17 @@ implies-i false b f = refl
 pub implies-e : (a b : Bool) → not a || b ≡ true → a ≡ true → b ≡ true
 implies-e true b h t = h
 implies-e false b h t = clash t refl
+
+-- the same with two assumptions
+pub implies-i2 : (a b c : Bool) → (a ≡ true → b ≡ true → c ≡ true) → not a || not b || c ≡ true
+implies-i2 true true c f = f refl refl
+implies-i2 true false c f = refl
+implies-i2 false b c f = refl
+
+pub implies-e2 : (a b c : Bool) → not a || not b || c ≡ true → a ≡ true → b ≡ true → c ≡ true
+implies-e2 true true c h s t = h
+implies-e2 true false c h s t = clash t refl
+implies-e2 false b c h s t = clash s refl
 
 module _ {ℓ} {A : Type ℓ} where
   pub cond-true : (b : Bool) (x y : A) → b ≡ true → cond b x y ≡ x

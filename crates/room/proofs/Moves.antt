@@ -1,0 +1,186 @@
+-- When a console moves to another's head, and when it moves to a new version, a sound room stays sound.
+-- Assumes nothing.
+use Prim.Native.Nat.{ℕ, zero, suc, _≤_, _<_}
+use mathlib.Core.Path.{_≡_, refl, sym, _∙_, ap, subst₂}
+use mathlib.Core.Bool.{Bool, true, false}
+use mathlib.Core.List.{List, _∷_}
+use mathlib.Core.Option.{Option, none, some, Option·getD}
+use native.Mathlib.Omega.{arith}
+use native.Mathlib.Decide.{ℕ-discrete, decLt}
+use lib.ListN.{length, getD, length-set}
+use lib.Seq.{getD-set-same, getD-set-other}
+use Rattle.laws.proofs.Logic.{clash, and-i}
+use Rattle.graph.specs.Graph.{Graph, Node, versionCount, ancestor, isSome, everyVersion, parentsLower, mergeHasBase}
+use Rattle.graph.proofs.Parent.{Parent}
+use Rattle.graph.proofs.Ancestor.{ancestor-old, ancestor-same, ancestor-above, ancestor-trans, ancestor-named}
+use Rattle.graph.proofs.Meet.{Meet, meet-sym, meet-self, Meet-new}
+use Rattle.command.specs.Code.{consoleCount}
+use Rattle.room.specs.Room.{Room, headOf, present, head}
+use Rattle.room.specs.Sound.{entryInRange}
+use Rattle.room.specs.Step.{moved, grown}
+use Rattle.room.proofs.Sound.{Sound, present-console, present-head}
+
+module _ (r : Room) (c : ℕ) (h : Option ℕ) where
+  pub head-set : c < length (r .heads) → headOf (moved r c h) c ≡ h
+  head-set l = getD-set-same (r .heads) c h none l
+
+  pub head-kept : (k : ℕ) → (k ≡ c → ⊥) → headOf (moved r c h) k ≡ headOf r k
+  head-kept k ne = getD-set-other (r .heads) c k h none ne
+
+-- what follows for a console whose head is that of another console of another room
+record Follows (r′ r : Room) (k j : ℕ) : Type 0 where
+  slot : headOf r′ k ≡ headOf r j
+
+module _ {r′ r : Room} {k j : ℕ} (f : Follows r′ r k j) where
+  there : present r j ≡ true → present r′ k ≡ true
+  there p = ap isSome (f .slot) ∙ p
+
+  back : present r′ k ≡ true → present r j ≡ true
+  back p = sym (ap isSome (f .slot)) ∙ p
+
+  number : head r′ k ≡ head r j
+  number = ap (λ (o : Option ℕ). Option·getD o 0) (f .slot)
+
+-- console c on the head of console d
+abbrev after : Room → ℕ → ℕ → Room
+after r c d = moved r c (headOf r d)
+
+module _ (r : Room) (s : Sound r) (c d : ℕ) (l : c < consoleCount) (q : present r d ≡ true)
+  (b : present r c ≡ true → ancestor (r .versions) (head r c) (head r d) ≡ true) where
+  -- each console now follows one of before: c follows d
+  now-c : Follows (after r c d) r c d
+  now-c = record { slot = head-set r c (headOf r d) (omega (arith, s .sixteen)) }
+
+  now-other : (k : ℕ) → (k ≡ c → ⊥) → Follows (after r c d) r k k
+  now-other k ne = record { slot = head-kept r c (headOf r d) k ne }
+
+  source : (k : ℕ) → (j : ℕ) × Follows (after r c d) r k j
+  source k = elim (ℕ-discrete k c) [ yes e ↦ (d, record { slot = ap (headOf (after r c d)) e ∙ now-c .slot }) | no ne ↦ (k, now-other k ne) ]
+
+  -- a version behind a head is behind one still
+  behind-one : (v k : ℕ) → present r k ≡ true → ancestor (r .versions) v (head r k) ≡ true
+    → (x : ℕ) × (present (after r c d) x ≡ true) × (ancestor (r .versions) v (head (after r c d) x) ≡ true)
+  behind-one v k p a =
+      elim (ℕ-discrete k c)
+        [ yes e ↦
+            let p′ : present r c ≡ true = rw e at p in
+            let a′ : ancestor (r .versions) v (head r c) ≡ true = rw e at a in
+            ( c
+            , there now-c q
+            , ap (ancestor (r .versions) v) (number now-c) ∙ ancestor-trans (r .versions) v (head r c) (head r d) a′ (b p′))
+        | no ne ↦ (k, there (now-other k ne) p, ap (ancestor (r .versions) v) (number (now-other k ne)) ∙ a) ]
+
+  first-there : present (after r c d) 0 ≡ true
+  first-there =
+      elim (ℕ-discrete 0 c)
+        [ yes e ↦ ap (present (after r c d)) e ∙ there now-c q | no ne ↦ there (now-other 0 ne) (s .first) ]
+
+  pub moved-sound : Sound (moved r c (headOf r d))
+  moved-sound = record
+      { lower = s .lower
+      ; based = s .based
+      ; sixteen = length-set (r .heads) c (headOf r d) ∙ s .sixteen
+      ; named = λ k v e. s .named (source k .0) v (sym (source k .1 .slot) ∙ e)
+      ; meets = λ k k′ p p′.
+          let m = s .meets (source k .0) (source k′ .0) (back (source k .1) p) (back (source k′ .1) p′) in
+          ( m .0
+          , subst₂ (λ (u v : ℕ). Meet (r .versions) u v (m .0)) (sym (number (source k .1))) (sym (number (source k′ .1))) (m .1))
+      ; first = first-there
+      ; behind = λ v bound. let k = s .behind v bound in behind-one v (k .0) (k .1) (k .2)
+      ; capacity = s .capacity
+      ; fits = s .fits
+      ; ranged = s .ranged
+      }
+
+module _ (r : Room) (s : Sound r) (c : ℕ) (p : present r c ≡ true) (n : Node) (left : versionCount (r .versions) < r .capacity)
+  (lower : parentsLower (r .versions) n ≡ true) (based : mergeHasBase (r .versions) n ≡ true) (ranged : entryInRange (r .versions) n ≡ true)
+  (own : Parent n (head r c))
+  (meeting : (d : ℕ) → present r d ≡ true → (d ≡ c → ⊥) → (m : ℕ) × Meet (n ∷ r .versions) (versionCount (r .versions)) (head r d) m) where
+  new-head : headOf (grown r c n) c ≡ some (versionCount (r .versions))
+  new-head = getD-set-same (r .heads) c (some (versionCount (r .versions))) none (omega (arith, s .sixteen, present-console r c (s .sixteen) p))
+
+  new-number : head (grown r c n) c ≡ versionCount (r .versions)
+  new-number = ap (λ (o : Option ℕ). Option·getD o 0) new-head
+
+  at-new : (k : ℕ) → k ≡ c → head (grown r c n) k ≡ versionCount (r .versions)
+  at-new k e = ap (head (grown r c n)) e ∙ new-number
+
+  kept : (k : ℕ) → (k ≡ c → ⊥) → Follows (grown r c n) r k k
+  kept k ne = record { slot = getD-set-other (r .heads) c k (some (versionCount (r .versions))) none ne }
+
+  -- every version is new or old, and so is every head
+  grown-named : (k v : ℕ) → headOf (grown r c n) k ≡ some v → v < suc (versionCount (r .versions))
+  grown-named k v e =
+      elim (ℕ-discrete k c)
+        [ yes same ↦ let w : versionCount (r .versions) ≡ v = cc (new-head, ap (headOf (grown r c n)) same) in omega arith
+        | no ne ↦ omega (arith, s .named k v (sym (kept k ne .slot) ∙ e)) ]
+
+  grown-first : present (grown r c n) 0 ≡ true
+  grown-first =
+      elim (ℕ-discrete 0 c)
+        [ yes e ↦ ap (present (grown r c n)) e ∙ ap isSome new-head | no ne ↦ there (kept 0 ne) (s .first) ]
+
+  -- a console that did not move has a meet with the one that did
+  with-new : (k : ℕ) → present (grown r c n) k ≡ true → (k ≡ c → ⊥) → (m : ℕ) × Meet (n ∷ r .versions) (versionCount (r .versions)) (head (grown r c n) k) m
+  with-new k q ne =
+      let m = meeting k (back (kept k ne) q) ne in
+      (m .0, rw (number (kept k ne)) (m .1))
+
+  grown-meets : (k k′ : ℕ) → present (grown r c n) k ≡ true → present (grown r c n) k′ ≡ true
+    → (m : ℕ) × Meet (n ∷ r .versions) (head (grown r c n) k) (head (grown r c n) k′) m
+  grown-meets k k′ q q′ =
+      elim (ℕ-discrete k c)
+        [ yes e ↦
+            elim (ℕ-discrete k′ c)
+              [ yes e′ ↦
+                  ( versionCount (r .versions)
+                  , subst₂ (λ (u v : ℕ). Meet (n ∷ r .versions) u v (versionCount (r .versions))) (sym (at-new k e)) (sym (at-new k′ e′))
+                      (meet-self (n ∷ r .versions) (versionCount (r .versions)) (omega arith)))
+              | no ne′ ↦ let m = with-new k′ q′ ne′ in (m .0, rw (at-new k e) (m .1)) ]
+        | no ne ↦
+            elim (ℕ-discrete k′ c)
+              [ yes e′ ↦ let m = with-new k q ne in (m .0, rw (at-new k′ e′) (meet-sym (m .1)))
+              | no ne′ ↦
+                  let m = s .meets k k′ (back (kept k ne) q) (back (kept k′ ne′) q′) in
+                  ( m .0
+                  , subst₂ (λ (u v : ℕ). Meet (n ∷ r .versions) u v (m .0)) (sym (number (kept k ne))) (sym (number (kept k′ ne′)))
+                      (Meet-new n (m .1))) ] ]
+
+  grown-behind : (v : ℕ) → v < suc (versionCount (r .versions))
+    → (x : ℕ) × (present (grown r c n) x ≡ true) × (ancestor (n ∷ r .versions) v (head (grown r c n) x) ≡ true)
+  grown-behind v bound =
+      elim (decLt v (versionCount (r .versions)))
+        [ yes old ↦
+            let b = s .behind v old in
+            elim (ℕ-discrete (b .0) c)
+              [ yes e ↦
+                  ( c
+                  , ap isSome new-head
+                  , ap (ancestor (n ∷ r .versions) v) new-number
+                    ∙ ancestor-above (r .versions) v own (ap (λ (k : ℕ). ancestor (r .versions) v (head r k)) (sym e) ∙ b .2))
+              | no ne ↦
+                  ( b .0
+                  , there (kept (b .0) ne) (b .1)
+                  , ap (ancestor (n ∷ r .versions) v) (number (kept (b .0) ne))
+                    ∙ ancestor-old n (r .versions) v (head r (b .0)) (ancestor-named (r .versions) v (head r (b .0)) (b .2)) ∙ b .2) ]
+        | no new ↦
+            let e : v ≡ versionCount (r .versions) = omega arith in
+            ( c
+            , ap isSome new-head
+            , ap (ancestor (n ∷ r .versions) v) new-number
+              ∙ ap (λ (u : ℕ). ancestor (n ∷ r .versions) u (versionCount (r .versions))) e ∙ ancestor-same n (r .versions)) ]
+
+  pub grown-sound : Sound (grown r c n)
+  unfolding everyVersion
+  grown-sound = record
+      { lower = and-i (parentsLower (r .versions) n) _ lower (s .lower)
+      ; based = and-i (mergeHasBase (r .versions) n) _ based (s .based)
+      ; sixteen = length-set (r .heads) c (some (versionCount (r .versions))) ∙ s .sixteen
+      ; named = grown-named
+      ; meets = grown-meets
+      ; first = grown-first
+      ; behind = grown-behind
+      ; capacity = s .capacity
+      ; fits = left
+      ; ranged = and-i (entryInRange (r .versions) n) _ ranged (s .ranged)
+      }

@@ -1,0 +1,154 @@
+-- The clauses of soundness as facts: what a sound room gives, and what makes a room sound.
+-- Assumes nothing.
+use Prim.Native.Nat.{ℕ, zero, suc, _≤_, _<_}
+use mathlib.Core.Path.{_≡_, refl, sym, _∙_, ap}
+use mathlib.Core.Bool.{Bool, true, false, not, _&&_, _||_}
+use mathlib.Core.Option.{Option, none, some, Option·getD}
+use native.Mathlib.Omega.{arith}
+use native.Mathlib.Decide.{decLt}
+use borrow.Author.Tests.{eqb-true, eq-eqb, ltb-true, lt-ltb, leb-true, le-leb}
+use lib.Dec.{eqb, leb, ltb}
+use lib.ListN.{length, getD, List·getD-eq-default}
+use Rattle.laws.proofs.Logic.{clash, and-l, and-r, and-i, implies-i2, implies-e2}
+use Rattle.graph.specs.Below.{everyBelow, someBelow}
+use Rattle.graph.specs.Graph.{Graph, versionCount, ancestor, meet, isSome, everyVersion, parentsLower, mergeHasBase}
+use Rattle.graph.proofs.Below.{at, of, some-at, some-of}
+use Rattle.graph.proofs.Meet.{Meet, meet-is, meet-found}
+use Rattle.command.specs.Code.{consoleCount}
+use Rattle.room.specs.Room.{Room, headOf, present, head}
+use Rattle.room.specs.Sound.{isCapacity, entryInRange, namesVersion, headsNameVersions, twoMeet, headsMeet, behindHead, allBehindHeads, sound}
+
+pub record Sound (r : Room) : Type 0 where
+  pub lower : everyVersion parentsLower (r .versions) ≡ true
+  pub based : everyVersion mergeHasBase (r .versions) ≡ true
+  pub sixteen : length (r .heads) ≡ consoleCount
+  pub named : (c v : ℕ) → headOf r c ≡ some v → v < versionCount (r .versions)
+  pub meets : (c d : ℕ) → present r c ≡ true → present r d ≡ true → (m : ℕ) × Meet (r .versions) (head r c) (head r d) m
+  pub first : present r 0 ≡ true
+  pub behind : (v : ℕ) → v < versionCount (r .versions) → (c : ℕ) × (present r c ≡ true) × (ancestor (r .versions) v (head r c) ≡ true)
+  pub capacity : isCapacity (r .capacity) ≡ true
+  pub fits : versionCount (r .versions) ≤ r .capacity
+  pub ranged : everyVersion entryInRange (r .versions) ≡ true
+
+-- the tests one by one
+record Tests (r : Room) : Type 0 where
+  lower : everyVersion parentsLower (r .versions) ≡ true
+  based : everyVersion mergeHasBase (r .versions) ≡ true
+  sixteen : eqb (length (r .heads)) consoleCount ≡ true
+  named : headsNameVersions r ≡ true
+  meets : headsMeet r ≡ true
+  first : present r 0 ≡ true
+  behind : allBehindHeads r ≡ true
+  capacity : isCapacity (r .capacity) ≡ true
+  fits : leb (versionCount (r .versions)) (r .capacity) ≡ true
+  ranged : everyVersion entryInRange (r .versions) ≡ true
+
+tests : (r : Room) → sound r ≡ true → Tests r
+unfolding sound
+tests r h =
+    let a = everyVersion parentsLower (r .versions) in
+    let b = a && everyVersion mergeHasBase (r .versions) in
+    let c = b && eqb (length (r .heads)) consoleCount in
+    let d = c && headsNameVersions r in
+    let e = d && headsMeet r in
+    let f = e && present r 0 in
+    let g = f && allBehindHeads r in
+    let i = g && isCapacity (r .capacity) in
+    let j = i && leb (versionCount (r .versions)) (r .capacity) in
+    let hj : j ≡ true = and-l j _ h in
+    let hi : i ≡ true = and-l i _ hj in
+    let hg : g ≡ true = and-l g _ hi in
+    let hf : f ≡ true = and-l f _ hg in
+    let he : e ≡ true = and-l e _ hf in
+    let hd : d ≡ true = and-l d _ he in
+    let hc : c ≡ true = and-l c _ hd in
+    let hb : b ≡ true = and-l b _ hc in
+    record
+      { lower = and-l a _ hb
+      ; based = and-r a _ hb
+      ; sixteen = and-r b _ hc
+      ; named = and-r c _ hd
+      ; meets = and-r d _ he
+      ; first = and-r e _ hf
+      ; behind = and-r f _ hg
+      ; capacity = and-r g _ hi
+      ; fits = and-r i _ hj
+      ; ranged = and-r j _ h
+      }
+
+-- a present console is one of the sixteen
+pub present-console : (r : Room) (c : ℕ) → length (r .heads) ≡ consoleCount → present r c ≡ true → c < consoleCount
+present-console r c l p =
+    elim (decLt c consoleCount)
+      [ yes lt ↦ lt
+      | no ge ↦
+          let out : headOf r c ≡ none = List·getD-eq-default (r .heads) none {n = c} (omega arith) in
+          clash p (ap isSome out) ]
+
+-- the head of a present console
+pub present-head : (r : Room) (c : ℕ) → present r c ≡ true → headOf r c ≡ some (head r c)
+present-head r c p = go (headOf r c) p
+  where
+    go : (h : Option ℕ) → isSome h ≡ true → h ≡ some (Option·getD h 0)
+    go none e = clash e refl
+    go (some v) e = refl
+
+names : (g : Graph) (h : Option ℕ) (v : ℕ) → namesVersion g h ≡ true → h ≡ some v → v < versionCount g
+names g none v t e = absurd (let z : _≡_ {A = ℕ} 0 1 = cc in omega arith)
+names g (some w) v t e = let same : w ≡ v = cc in omega (arith, ltb-true w (versionCount g) t)
+
+meets-of : (g : Graph) (u v : ℕ) (o : Option ℕ) → meet g u v ≡ o → isSome o ≡ true → (m : ℕ) × Meet g u v m
+meets-of g u v none e t = clash t refl
+meets-of g u v (some m) e t = (m, meet-is g u v m e)
+
+pub sound-facts : (r : Room) → sound r ≡ true → Sound r
+unfolding headsMeet allBehindHeads
+sound-facts r h =
+    let t : Tests r = tests r h in
+    let l : length (r .heads) ≡ consoleCount = eqb-true _ _ (t .sixteen) in
+    record
+      { lower = t .lower
+      ; based = t .based
+      ; sixteen = l
+      ; named = λ c v e.
+          names (r .versions) (headOf r c) v
+            (at consoleCount _ (t .named) c (present-console r c l (ap isSome e))) e
+      ; meets = λ c d p q.
+          meets-of (r .versions) (head r c) (head r d) _ refl
+            (implies-e2 (present r c) (present r d) _
+              (at consoleCount _
+                (at consoleCount _ (t .meets) c (present-console r c l p)) d (present-console r d l q))
+              p q)
+      ; first = t .first
+      ; behind = λ v b.
+          let s = some-at consoleCount _ (at (versionCount (r .versions)) _ (t .behind) v b) in
+          (s .0, and-l (present r (s .0)) _ (s .2), and-r (present r (s .0)) _ (s .2))
+      ; capacity = t .capacity
+      ; fits = leb-true _ _ (t .fits)
+      ; ranged = t .ranged
+      }
+
+-- the way back
+names-of : (g : Graph) (h : Option ℕ) → ((v : ℕ) → h ≡ some v → v < versionCount g) → namesVersion g h ≡ true
+names-of g none f = refl
+names-of g (some v) f = lt-ltb v (versionCount g) (f v refl)
+
+pub facts-sound : (r : Room) → Sound r → sound r ≡ true
+unfolding sound headsMeet allBehindHeads
+facts-sound r s =
+    let found : (c d : ℕ) → twoMeet r c d ≡ true =
+          λ c d. implies-i2 (present r c) (present r d) _ (λ p q. ap isSome (meet-found (s .meets c d p q .1))) in
+    and-i _ _ (and-i _ _ (and-i _ _ (and-i _ _ (and-i _ _ (and-i _ _ (and-i _ _ (and-i _ _ (and-i _ _
+      (s .lower)
+      (s .based))
+      (eq-eqb _ _ (s .sixteen)))
+      (of consoleCount _ (λ c l. names-of (r .versions) (headOf r c) (s .named c))))
+      (of consoleCount _ (λ c l. of consoleCount _ (λ d m. found c d))))
+      (s .first))
+      (of (versionCount (r .versions)) _
+        (λ v l.
+          let b = s .behind v l in
+          some-of consoleCount _ (b .0) (present-console r (b .0) (s .sixteen) (b .1)) (and-i _ _ (b .1) (b .2)))))
+      (s .capacity))
+      (le-leb _ _ (s .fits)))
+      (s .ranged)
