@@ -2,3 +2,4 @@ pub mod Below
 pub mod Parent
 pub mod Ancestor
 pub mod Closure
+pub mod Meet

@@ -14,6 +14,11 @@ pub decide : (b : Bool) → (b ≡ true) ⊎ (b ≡ false)
 decide true = inl refl
 decide false = inr refl
 
+-- what cannot be true is false
+pub refuted : (b : Bool) → (b ≡ true → ⊥) → b ≡ false
+refuted true h = absurd (h refl)
+refuted false h = refl
+
 pub and-l : (a b : Bool) → a && b ≡ true → a ≡ true
 and-l true b h = refl
 and-l false b h = h
