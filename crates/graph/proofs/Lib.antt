@@ -3,3 +3,4 @@ pub mod Parent
 pub mod Ancestor
 pub mod Closure
 pub mod Meet
+pub mod Growth
