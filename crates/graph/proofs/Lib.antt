@@ -4,3 +4,4 @@ pub mod Ancestor
 pub mod Closure
 pub mod Meet
 pub mod Growth
+pub mod Counting

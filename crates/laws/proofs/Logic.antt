@@ -31,6 +31,10 @@ pub and-i : (a b : Bool) → a ≡ true → b ≡ true → a && b ≡ true
 and-i true b p q = q
 and-i false b p q = p
 
+pub and-both : (a b c : Bool) → a && (b && c) ≡ (a && b) && (a && c)
+and-both true b c = refl
+and-both false b c = refl
+
 pub or-l : (a b : Bool) → a ≡ true → a || b ≡ true
 or-l true b h = refl
 or-l false b h = clash h refl
