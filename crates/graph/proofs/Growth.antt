@@ -13,7 +13,7 @@ use borrow.Author.Tests.{eqb-false}
 use Rattle.laws.proofs.Logic.{clash, refuted, and-l, and-r, and-i, not-e, bool-ext}
 use Rattle.graph.specs.Graph.{Node, merge, entry, Graph, versionCount, ancestor, isEntry, meet, everyVersion, parentsLower, isBase, mergeHasBase}
 use Rattle.graph.proofs.Parent.{Parent, sole, receiver, giver}
-use Rattle.graph.proofs.Ancestor.{every-new, every-old, isEntry-new, isEntry-old, isEntry-named, ancestor-first, same, above, before, ways, ancestor-same, ancestor-above, ancestor-old, ancestor-named, ancestor-le, ancestor-trans}
+use Rattle.graph.proofs.Ancestor.{every-new, every-old, isEntry-new, isEntry-old, isEntry-named, ancestor-first, same, above, before, ways, ancestor-same, ancestor-above, ancestor-old, ancestor-le, ancestor-below, ancestor-trans}
 use Rattle.graph.proofs.Meet.{Meet, meet-is, meet-sym}
 
 -- parents are lower numbers, and the parents of each merge have a meet that is neither of them
@@ -51,8 +51,8 @@ module _ (g : Graph) (m : ℕ) (older : (l y : ℕ) → ancestor g l y ≡ true 
   grown-merge {n} {x} {y} {l} t s b d =
       let r = older l y (b .second) d in
       let e = r .0 in
-      grown-new n g m (versionCount g) e (omega (arith, ancestor-le g m x t, ancestor-named g m x t)) (r .1) (ancestor-above g e s (r .2))
-      (refuted (ancestor g e m) (λ h. clash (b .lowest e (ancestor-trans g e m x h t) (r .2)) (r .3)))
+      let out : ancestor g e m ≡ true → ⊥ = λ h. clash (b .lowest e (ancestor-trans g e m x h t) (r .2)) (r .3) in
+      grown-new n g m (versionCount g) e (ancestor-below g m x t) (r .1) (ancestor-above g e s (r .2)) (refuted (ancestor g e m) out)
 
   -- at the newest version, over an ancestor of a parent of it
   grown-parent : {n : Node} {x : ℕ} → WellFormed (n ∷ g) → Parent n x → ancestor g m x ≡ true → Grown (n ∷ g) m (versionCount g)
@@ -60,19 +60,19 @@ module _ (g : Graph) (m : ℕ) (older : (l y : ℕ) → ancestor g l y ≡ true 
     versionCount g,
     isEntry-new n g,
     ancestor-same n g,
-    refuted (ancestor (n ∷ g) (versionCount g) m) (λ h. omega (arith, ancestor-le g m x t, ancestor-named g m x t, ancestor-le (n ∷ g) (versionCount g) m h)),
+    refuted (ancestor (n ∷ g) (versionCount g) m) (λ h. omega (arith, ancestor-below g m x t, ancestor-le (n ∷ g) (versionCount g) m h)),
   )
   grown-parent w receiver t = let r = merge-base w in grown-merge t giver (r .1) (r .3)
   grown-parent w giver t = let r = merge-base w in grown-merge t receiver (meet-sym (r .1)) (r .2)
 
-pub strict-growth : (g : Graph) (m a : ℕ) → WellFormed g → ancestor g m a ≡ true → (m ≡ a → ⊥) → (e : ℕ) × (isEntry g e ≡ true) × (ancestor g e a ≡ true) × (ancestor g e m ≡ false)
+pub strict-growth : (g : Graph) (m a : ℕ) → WellFormed g → ancestor g m a ≡ true → (m ≡ a → ⊥) → Grown g m a
 strict-growth [] m a w h d = let r = ancestor-first m a h in absurd (omega arith)
 strict-growth (n ∷ g) m a w h d = elim (ways n g m a h) [
   | same b c ↦ absurd (d (b ∙ sym c))
   | above r t b ↦ rw b (grown-parent g m (λ l y. strict-growth g l y (wellFormed-old w)) w r t)
   | before t l ↦
       let r = strict-growth g m a (wellFormed-old w) t d in
-      grown-new n g m a (r .0) (omega (arith, ancestor-le g m a t)) (r .1) (ancestor-old n g (r .0) a l ∙ r .2) (r .3)
+      grown-new n g m a (r .0) (ancestor-below g m a t) (r .1) (ancestor-old n g (r .0) a l ∙ r .2) (r .3)
 ]
 
 -- if v holds the entries of u, then their meet is u
@@ -89,6 +89,5 @@ same-entries w b h = sym (meet-holds w b (λ e i t. sym (h e i) ∙ t)) ∙ meet
 -- the meet holds what both hold
 pub meet-entries : {g : Graph} {u v m : ℕ} → Meet g u v m → (e : ℕ) → ancestor g e m ≡ (ancestor g e u && ancestor g e v)
 meet-entries {g} {u} {v} {m} b e =
-    bool-ext (ancestor g e m) (ancestor g e u && ancestor g e v)
-    (λ h. and-i (ancestor g e u) (ancestor g e v) (ancestor-trans g e m u h (b .first)) (ancestor-trans g e m v h (b .second)))
-    (λ h. b .lowest e (and-l (ancestor g e u) (ancestor g e v) h) (and-r (ancestor g e u) (ancestor g e v) h))
+    let to : ancestor g e m ≡ true → ancestor g e u && ancestor g e v ≡ true = λ h. and-i (ancestor g e u) (ancestor g e v) (ancestor-trans g e m u h (b .first)) (ancestor-trans g e m v h (b .second)) in
+    bool-ext (ancestor g e m) (ancestor g e u && ancestor g e v) to (λ h. b .lowest e (and-l (ancestor g e u) (ancestor g e v) h) (and-r (ancestor g e u) (ancestor g e v) h))
