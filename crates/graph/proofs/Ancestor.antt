@@ -61,7 +61,7 @@ only-self : (u v : ℕ) → u ≡ 0 → v ≡ 0 → ancestor [] u v ≡ true
 unfolding ancestor
 only-self u v e d = cc
 
--- who has an ancestor is a version
+-- what has an ancestor is a version
 pub ancestor-named : (g : Graph) (u v : ℕ) → ancestor g u v ≡ true → v < versionCount g
 ancestor-named [] u v h = omega (arith, ancestor-first u v h)
 ancestor-named (n ∷ g) u v h =
@@ -104,6 +104,10 @@ ancestor-le (n ∷ g) u v h =
       | before t l ↦ ancestor-le g u v t
     ]
 
+-- and so is the ancestor
+pub ancestor-below : (g : Graph) (u v : ℕ) → ancestor g u v ≡ true → u < versionCount g
+ancestor-below g u v h = omega (arith, ancestor-le g u v h, ancestor-named g u v h)
+
 pub ancestor-self : (g : Graph) (v : ℕ) → v < versionCount g → ancestor g v v ≡ true
 ancestor-self [] v l = only-self v v (omega arith) (omega arith)
 ancestor-self (n ∷ g) v l =
@@ -115,8 +119,7 @@ ancestor-self (n ∷ g) v l =
 pub ancestor-trans : (g : Graph) (u v w : ℕ) → ancestor g u v ≡ true → ancestor g v w ≡ true → ancestor g u w ≡ true
 ancestor-trans [] u v w h k = only-self u w (ancestor-first u v h .0) (ancestor-first v w k .1)
 ancestor-trans (n ∷ g) u v w h k =
-    let older : (p : ℕ) → ancestor g v p ≡ true → ancestor g u p ≡ true =
-    λ p t. ancestor-trans g u v p (cc (ancestor-old n g u v (omega (arith, ancestor-le g v p t, ancestor-named g v p t)))) t in
+    let older : (p : ℕ) → ancestor g v p ≡ true → ancestor g u p ≡ true = λ p t. ancestor-trans g u v p (cc (ancestor-old n g u v (ancestor-below g v p t))) t in
     elim (ways n g v w k) [
       | same a b ↦ rw (b ∙ sym a) h
       | above {p} r t b ↦ rw b (ancestor-above g u r (older p t))
@@ -130,8 +133,7 @@ ancestor-antisym g u v h k = omega (arith, ancestor-le g u v h, ancestor-le g v 
 pub ancestor-zero : (g : Graph) (v : ℕ) → everyVersion parentsLower g ≡ true → v < versionCount g → ancestor g 0 v ≡ true
 ancestor-zero [] v w l = only-self 0 v refl (omega arith)
 ancestor-zero (n ∷ g) v w l =
-    let older : (p : ℕ) → p < versionCount g → ancestor g 0 p ≡ true =
-    λ p. ancestor-zero g p (every-old parentsLower n g w) in
+    let older : (p : ℕ) → p < versionCount g → ancestor g 0 p ≡ true = λ p. ancestor-zero g p (every-old parentsLower n g w) in
     elim (ℕ-discrete v (versionCount g)) [
       | yes e ↦ let r = a-parent n in rw e (ancestor-above g 0 (r .1) (older (r .0) (parent-lower g (every-new parentsLower n g w) (r .1))))
       | no d ↦ cc (ancestor-other n g 0 v d, older v (omega arith))

@@ -75,6 +75,10 @@ unfolding countBelow
 count-ext zero f g h = refl
 count-ext (suc n) f g h = cc (count-ext n f g (λ k l. h k (omega arith)), h n (omega arith))
 
+pub count-more : (n : ℕ) (f g : ℕ → Bool) (b : Bool) → ((k : ℕ) → k < n → f k ≡ g k) → f n ≡ b → countBelow (suc n) f ≡ countBelow n g + cond b 1 0
+unfolding countBelow
+count-more n f g b h e = cc (count-ext n f g h)
+
 -- what one number adds to a count
 weight-mono : (a b : Bool) → (a ≡ true → b ≡ true) → cond {A = ℕ} a 1 0 ≤ cond b 1 0
 weight-mono true true h = omega arith
@@ -94,6 +98,14 @@ pub count-le : (n : ℕ) (f : ℕ → Bool) → countBelow n f ≤ n
 unfolding countBelow
 count-le zero f = omega arith
 count-le (suc n) f = omega (arith, count-le n f, weight-mono (f n) true (λ _. refl))
+
+pub count-lt : (n : ℕ) (f : ℕ → Bool) (k : ℕ) → k < n → f k ≡ false → countBelow n f < n
+unfolding countBelow
+count-lt zero f k l o = absurd (omega arith)
+count-lt (suc n) f k l o = elim (ℕ-discrete k n) [
+  | yes e ↦ let z : cond {A = ℕ} (f n) 1 0 ≡ 0 = cc in omega (arith, count-le n f)
+  | no d ↦ omega (arith, count-lt n f k (omega arith) o, weight-mono (f n) true (λ _. refl))
+]
 
 pub inclusion-exclusion : (n : ℕ) (f g : ℕ → Bool) → countBelow n (λ k. f k || g k) + countBelow n (λ k. f k && g k) ≡ countBelow n f + countBelow n g
 unfolding countBelow

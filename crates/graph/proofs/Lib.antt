@@ -3,3 +3,5 @@ pub mod Parent
 pub mod Ancestor
 pub mod Closure
 pub mod Meet
+pub mod Growth
+pub mod Counting

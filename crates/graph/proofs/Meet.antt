@@ -1,17 +1,17 @@
 -- The meet of two versions: what the test and the search for it find is their single lowest common ancestor, and a new version changes
 -- no meet of older ones.
 -- Assumes nothing.
-use Prim.Native.Nat.{ℕ, zero, suc, _≤_, _<_}
+use Prim.Native.Nat.{ℕ, _<_}
 use mathlib.Core.Path.{_≡_, refl, sym, _∙_, ap}
-use mathlib.Core.Bool.{Bool, true, false, not, _&&_, _||_}
+use mathlib.Core.Bool.{Bool, true, not, _||_}
 use mathlib.Core.List.{_∷_}
 use mathlib.Core.Option.{Option, none, some}
 use native.Mathlib.Omega.{arith}
-use Rattle.laws.proofs.Logic.{clash, refuted, and-l, and-r, and-i, implies-i, implies-e}
+use Rattle.laws.proofs.Logic.{refuted, and-l, and-r, and-i, implies-i, implies-e}
 use Rattle.graph.specs.Below.{everyBelow}
 use Rattle.graph.specs.Graph.{Node, Graph, versionCount, ancestor, commonAncestor, isMeet, meet}
-use Rattle.graph.proofs.Below.{at, of, highest-some, highest-none, highest-of}
-use Rattle.graph.proofs.Ancestor.{ancestor-old, ancestor-named, ancestor-le, ancestor-self, ancestor-trans, ancestor-antisym}
+use Rattle.graph.proofs.Below.{at, of, highest-some, highest-of}
+use Rattle.graph.proofs.Ancestor.{ancestor-old, ancestor-named, ancestor-le, ancestor-below, ancestor-self}
 
 -- "the ancestor of both heads of which every other common ancestor is an ancestor"
 pub record Meet (g : Graph) (u v m : ℕ) : Type 0 where
@@ -25,23 +25,20 @@ unfolding isMeet
 isMeet-is g u v m h =
     let rest : ℕ → Bool = λ w. not (commonAncestor g u v w) || ancestor g w m in
     let both = and-l (commonAncestor g u v m) (everyBelow (versionCount g) rest) h in
+    let every = at (versionCount g) rest (and-r (commonAncestor g u v m) (everyBelow (versionCount g) rest) h) in
     record {
       first = and-l (ancestor g m u) (ancestor g m v) both;
       second = and-r (ancestor g m u) (ancestor g m v) both;
-      lowest = λ w a b.
-        implies-e (commonAncestor g u v w) (ancestor g w m)
-          (at (versionCount g) rest (and-r (commonAncestor g u v m) (everyBelow (versionCount g) rest) h) w (omega (arith, ancestor-le g w u a, ancestor-named g w u a)))
-          (and-i (ancestor g w u) (ancestor g w v) a b)
+      lowest = λ w a b. implies-e (commonAncestor g u v w) (ancestor g w m) (every w (ancestor-below g w u a)) (and-i (ancestor g w u) (ancestor g w v) a b);
     }
 
 isMeet-of : (g : Graph) (u v m : ℕ) → Meet g u v m → isMeet g u v m ≡ true
 unfolding isMeet
 isMeet-of g u v m h =
     let rest : ℕ → Bool = λ w. not (commonAncestor g u v w) || ancestor g w m in
-    and-i (commonAncestor g u v m) (everyBelow (versionCount g) rest)
-      (and-i (ancestor g m u) (ancestor g m v) (h .first) (h .second))
-      (of (versionCount g) rest (λ w l. implies-i (commonAncestor g u v w) (ancestor g w m)
-        (λ c. h .lowest w (and-l (ancestor g w u) (ancestor g w v) c) (and-r (ancestor g w u) (ancestor g w v) c))))
+    let both = and-i (ancestor g m u) (ancestor g m v) (h .first) (h .second) in
+    let behind : (w : ℕ) → commonAncestor g u v w ≡ true → ancestor g w m ≡ true = λ w c. h .lowest w (and-l (ancestor g w u) (ancestor g w v) c) (and-r (ancestor g w u) (ancestor g w v) c) in
+    and-i (commonAncestor g u v m) (everyBelow (versionCount g) rest) both (of (versionCount g) rest (λ w l. implies-i (commonAncestor g u v w) (ancestor g w m) (behind w)))
 
 -- the search for it
 pub meet-is : (g : Graph) (u v m : ℕ) → meet g u v ≡ some m → Meet g u v m
@@ -51,8 +48,8 @@ meet-is g u v m h = isMeet-is g u v m (highest-some (versionCount g) (isMeet g u
 pub meet-found : {g : Graph} {u v m : ℕ} → Meet g u v m → meet g u v ≡ some m
 unfolding meet
 meet-found {g} {u} {v} {m} h =
-    highest-of (versionCount g) (isMeet g u v) m (omega (arith, ancestor-le g m u (h .first), ancestor-named g m u (h .first))) (isMeet-of g u v m h)
-      (λ k a b. refuted (isMeet g u v k) (λ t. let r = isMeet-is g u v k t in omega (arith, ancestor-le g k m (h .lowest k (r .first) (r .second)))))
+    let none : (k : ℕ) → m < k → isMeet g u v k ≡ true → ⊥ = λ k l t. let r = isMeet-is g u v k t in omega (arith, ancestor-le g k m (h .lowest k (r .first) (r .second))) in
+    highest-of (versionCount g) (isMeet g u v) m (ancestor-below g m u (h .first)) (isMeet-of g u v m h) (λ k l _. refuted (isMeet g u v k) (none k l))
 
 pub meet-none : (g : Graph) (u v : ℕ) → meet g u v ≡ none → (m : ℕ) → Meet g u v m → ⊥
 meet-none g u v e m h = let z : _≡_ {A = ℕ} 0 1 = cc (meet-found h) in omega arith
@@ -65,26 +62,25 @@ meet-sym h = record { first = h .second; second = h .first; lowest = λ w a b. h
 
 -- a version and one behind it
 pub meet-behind : (g : Graph) (u v : ℕ) → ancestor g u v ≡ true → Meet g u v u
-meet-behind g u v h = record { first = ancestor-self g u (omega (arith, ancestor-le g u v h, ancestor-named g u v h)); second = h; lowest = λ w a b. a }
+meet-behind g u v h = record { first = ancestor-self g u (ancestor-below g u v h); second = h; lowest = λ w a b. a }
 
 pub meet-self : (g : Graph) (v : ℕ) → v < versionCount g → Meet g v v v
 meet-self g v l = meet-behind g v v (ancestor-self g v l)
 
 -- a meet is a matter of the ancestors of the three versions alone
 Meet-rows : {g k : Graph} {u v m : ℕ} → ((w : ℕ) → ancestor k w u ≡ ancestor g w u) → ((w : ℕ) → ancestor k w v ≡ ancestor g w v) →
-  ((w : ℕ) → ancestor k w m ≡ ancestor g w m) → Meet g u v m → Meet k u v m
+    ((w : ℕ) → ancestor k w m ≡ ancestor g w m) → Meet g u v m → Meet k u v m
 Meet-rows {m = m} p q r h = record {
   first = p m ∙ h .first;
   second = q m ∙ h .second;
-  lowest = λ w a b. r w ∙ h .lowest w (sym (p w) ∙ a) (sym (q w) ∙ b)
+  lowest = λ w a b. r w ∙ h .lowest w (sym (p w) ∙ a) (sym (q w) ∙ b);
 }
 
 -- so a new version changes no meet of older ones
 pub Meet-new : {g : Graph} {u v m : ℕ} (n : Node) → Meet g u v m → Meet (n ∷ g) u v m
 Meet-new {g} {u} {v} {m} n h =
-    let l = ancestor-named g m u (h .first) in
     let old : (x : ℕ) → x < versionCount g → (w : ℕ) → ancestor (n ∷ g) w x ≡ ancestor g w x = λ x l w. ancestor-old n g w x l in
-    Meet-rows (old u l) (old v (ancestor-named g m v (h .second))) (old m (omega (arith, ancestor-le g m u (h .first)))) h
+    Meet-rows (old u (ancestor-named g m u (h .first))) (old v (ancestor-named g m v (h .second))) (old m (ancestor-below g m u (h .first))) h
 
 pub Meet-old : {g : Graph} {u v m : ℕ} (n : Node) → u < versionCount g → v < versionCount g → Meet (n ∷ g) u v m → Meet g u v m
 Meet-old {g} {u} {v} {m} n a b h =

@@ -36,6 +36,10 @@ pub and-rest : (a b : Bool) → a ≡ true → a && b ≡ false → b ≡ false
 and-rest true b p h = h
 and-rest false b p h = clash p refl
 
+pub and-both : (a b c : Bool) → a && (b && c) ≡ (a && b) && (a && c)
+and-both true b c = refl
+and-both false b c = refl
+
 pub or-l : (a b : Bool) → a ≡ true → a || b ≡ true
 or-l true b h = refl
 or-l false b h = clash h refl

@@ -46,7 +46,7 @@ abbrev after : Room → ℕ → ℕ → Room
 after r c d = moved r c (headOf r d)
 
 module _ (r : Room) (s : Sound r) (c d : ℕ) (l : c < consoleCount) (q : present r d ≡ true)
-  (b : present r c ≡ true → ancestor (r .versions) (head r c) (head r d) ≡ true) where
+    (b : present r c ≡ true → ancestor (r .versions) (head r c) (head r d) ≡ true) where
   -- each console now follows one of before: c follows d
   now-c : Follows (after r c d) r c d
   now-c = record { slot = head-set r c (headOf r d) (omega (arith, s .sixteen)) }
@@ -59,43 +59,46 @@ module _ (r : Room) (s : Sound r) (c d : ℕ) (l : c < consoleCount) (q : presen
 
   -- a version behind a head is behind one still
   behind-one : (v k : ℕ) → present r k ≡ true → ancestor (r .versions) v (head r k) ≡ true
-    → (x : ℕ) × (present (after r c d) x ≡ true) × (ancestor (r .versions) v (head (after r c d) x) ≡ true)
+      → (x : ℕ) × (present (after r c d) x ≡ true) × (ancestor (r .versions) v (head (after r c d) x) ≡ true)
   behind-one v k p a =
-      elim (ℕ-discrete k c)
-        [ yes e ↦
+      elim (ℕ-discrete k c) [
+        | yes e ↦
             let p′ : present r c ≡ true = rw e at p in
-            let a′ : ancestor (r .versions) v (head r c) ≡ true = rw e at a in
-            ( c
-            , there now-c q
-            , ap (ancestor (r .versions) v) (number now-c) ∙ ancestor-trans (r .versions) v (head r c) (head r d) a′ (b p′))
-        | no ne ↦ (k, there (now-other k ne) p, ap (ancestor (r .versions) v) (number (now-other k ne)) ∙ a) ]
+            let a′ : ancestor (r .versions) v (head r c) ≡ true = rw e at a in (
+              c,
+              there now-c q,
+              ap (ancestor (r .versions) v) (number now-c) ∙ ancestor-trans (r .versions) v (head r c) (head r d) a′ (b p′),
+            )
+        | no ne ↦ (k, there (now-other k ne) p, ap (ancestor (r .versions) v) (number (now-other k ne)) ∙ a)
+      ]
 
   first-there : present (after r c d) 0 ≡ true
   first-there =
       elim (ℕ-discrete 0 c)
-        [ yes e ↦ ap (present (after r c d)) e ∙ there now-c q | no ne ↦ there (now-other 0 ne) (s .first) ]
+      [ yes e ↦ ap (present (after r c d)) e ∙ there now-c q | no ne ↦ there (now-other 0 ne) (s .first) ]
 
   pub moved-sound : Sound (moved r c (headOf r d))
-  moved-sound = record
-      { lower = s .lower
-      ; based = s .based
-      ; sixteen = length-set (r .heads) c (headOf r d) ∙ s .sixteen
-      ; named = λ k v e. s .named (source k .0) v (sym (source k .1 .slot) ∙ e)
-      ; meets = λ k k′ p p′.
-          let m = s .meets (source k .0) (source k′ .0) (back (source k .1) p) (back (source k′ .1) p′) in
-          ( m .0
-          , subst₂ (λ (u v : ℕ). Meet (r .versions) u v (m .0)) (sym (number (source k .1))) (sym (number (source k′ .1))) (m .1))
-      ; first = first-there
-      ; behind = λ v bound. let k = s .behind v bound in behind-one v (k .0) (k .1) (k .2)
-      ; capacity = s .capacity
-      ; fits = s .fits
-      ; ranged = s .ranged
-      }
+  moved-sound = record {
+    lower = s .lower;
+    based = s .based;
+    sixteen = length-set (r .heads) c (headOf r d) ∙ s .sixteen;
+    named = λ k v e. s .named (source k .0) v (sym (source k .1 .slot) ∙ e);
+    meets = λ k k′ p p′.
+        let m = s .meets (source k .0) (source k′ .0) (back (source k .1) p) (back (source k′ .1) p′) in (
+          m .0,
+          subst₂ (λ (u v : ℕ). Meet (r .versions) u v (m .0)) (sym (number (source k .1))) (sym (number (source k′ .1))) (m .1),
+        );
+    first = first-there;
+    behind = λ v bound. let k = s .behind v bound in behind-one v (k .0) (k .1) (k .2);
+    capacity = s .capacity;
+    fits = s .fits;
+    ranged = s .ranged;
+  }
 
 module _ (r : Room) (s : Sound r) (c : ℕ) (p : present r c ≡ true) (n : Node) (left : versionCount (r .versions) < r .capacity)
-  (lower : parentsLower (r .versions) n ≡ true) (based : mergeHasBase (r .versions) n ≡ true) (ranged : entryInRange (r .versions) n ≡ true)
-  (own : Parent n (head r c))
-  (meeting : (d : ℕ) → present r d ≡ true → (d ≡ c → ⊥) → (m : ℕ) × Meet (n ∷ r .versions) (versionCount (r .versions)) (head r d) m) where
+    (lower : parentsLower (r .versions) n ≡ true) (based : mergeHasBase (r .versions) n ≡ true) (ranged : entryInRange (r .versions) n ≡ true)
+    (own : Parent n (head r c))
+    (meeting : (d : ℕ) → present r d ≡ true → (d ≡ c → ⊥) → (m : ℕ) × Meet (n ∷ r .versions) (versionCount (r .versions)) (head r d) m) where
   new-head : headOf (grown r c n) c ≡ some (versionCount (r .versions))
   new-head = getD-set-same (r .heads) c (some (versionCount (r .versions))) none (omega (arith, s .sixteen, present-console r c (s .sixteen) p))
 
@@ -111,14 +114,15 @@ module _ (r : Room) (s : Sound r) (c : ℕ) (p : present r c ≡ true) (n : Node
   -- every version is new or old, and so is every head
   grown-named : (k v : ℕ) → headOf (grown r c n) k ≡ some v → v < suc (versionCount (r .versions))
   grown-named k v e =
-      elim (ℕ-discrete k c)
-        [ yes same ↦ let w : versionCount (r .versions) ≡ v = cc (new-head, ap (headOf (grown r c n)) same) in omega arith
-        | no ne ↦ omega (arith, s .named k v (sym (kept k ne .slot) ∙ e)) ]
+      elim (ℕ-discrete k c) [
+        | yes same ↦ let w : versionCount (r .versions) ≡ v = cc (new-head, ap (headOf (grown r c n)) same) in omega arith
+        | no ne ↦ omega (arith, s .named k v (sym (kept k ne .slot) ∙ e))
+      ]
 
   grown-first : present (grown r c n) 0 ≡ true
   grown-first =
       elim (ℕ-discrete 0 c)
-        [ yes e ↦ ap (present (grown r c n)) e ∙ ap isSome new-head | no ne ↦ there (kept 0 ne) (s .first) ]
+      [ yes e ↦ ap (present (grown r c n)) e ∙ ap isSome new-head | no ne ↦ there (kept 0 ne) (s .first) ]
 
   -- a console that did not move has a meet with the one that did
   with-new : (k : ℕ) → present (grown r c n) k ≡ true → (k ≡ c → ⊥) → (m : ℕ) × Meet (n ∷ r .versions) (versionCount (r .versions)) (head (grown r c n) k) m
@@ -127,60 +131,70 @@ module _ (r : Room) (s : Sound r) (c : ℕ) (p : present r c ≡ true) (n : Node
       (m .0, rw (number (kept k ne)) (m .1))
 
   grown-meets : (k k′ : ℕ) → present (grown r c n) k ≡ true → present (grown r c n) k′ ≡ true
-    → (m : ℕ) × Meet (n ∷ r .versions) (head (grown r c n) k) (head (grown r c n) k′) m
+      → (m : ℕ) × Meet (n ∷ r .versions) (head (grown r c n) k) (head (grown r c n) k′) m
   grown-meets k k′ q q′ =
-      elim (ℕ-discrete k c)
-        [ yes e ↦
-            elim (ℕ-discrete k′ c)
-              [ yes e′ ↦
-                  ( versionCount (r .versions)
-                  , subst₂ (λ (u v : ℕ). Meet (n ∷ r .versions) u v (versionCount (r .versions))) (sym (at-new k e)) (sym (at-new k′ e′))
-                      (meet-self (n ∷ r .versions) (versionCount (r .versions)) (omega arith)))
-              | no ne′ ↦ let m = with-new k′ q′ ne′ in (m .0, rw (at-new k e) (m .1)) ]
+      elim (ℕ-discrete k c) [
+        | yes e ↦
+            elim (ℕ-discrete k′ c) [
+              | yes e′ ↦ (
+                versionCount (r .versions),
+                subst₂ (λ (u v : ℕ). Meet (n ∷ r .versions) u v (versionCount (r .versions))) (sym (at-new k e)) (sym (at-new k′ e′))
+                    (meet-self (n ∷ r .versions) (versionCount (r .versions)) (omega arith)),
+              )
+              | no ne′ ↦ let m = with-new k′ q′ ne′ in (m .0, rw (at-new k e) (m .1))
+            ]
         | no ne ↦
-            elim (ℕ-discrete k′ c)
-              [ yes e′ ↦ let m = with-new k q ne in (m .0, rw (at-new k′ e′) (meet-sym (m .1)))
+            elim (ℕ-discrete k′ c) [
+              | yes e′ ↦ let m = with-new k q ne in (m .0, rw (at-new k′ e′) (meet-sym (m .1)))
               | no ne′ ↦
-                  let m = s .meets k k′ (back (kept k ne) q) (back (kept k′ ne′) q′) in
-                  ( m .0
-                  , subst₂ (λ (u v : ℕ). Meet (n ∷ r .versions) u v (m .0)) (sym (number (kept k ne))) (sym (number (kept k′ ne′)))
-                      (Meet-new n (m .1))) ] ]
+                  let m = s .meets k k′ (back (kept k ne) q) (back (kept k′ ne′) q′) in (
+                    m .0,
+                    subst₂ (λ (u v : ℕ). Meet (n ∷ r .versions) u v (m .0)) (sym (number (kept k ne))) (sym (number (kept k′ ne′)))
+                        (Meet-new n (m .1)),
+                  )
+            ]
+      ]
 
   grown-behind : (v : ℕ) → v < suc (versionCount (r .versions))
-    → (x : ℕ) × (present (grown r c n) x ≡ true) × (ancestor (n ∷ r .versions) v (head (grown r c n) x) ≡ true)
+      → (x : ℕ) × (present (grown r c n) x ≡ true) × (ancestor (n ∷ r .versions) v (head (grown r c n) x) ≡ true)
   grown-behind v bound =
-      elim (decLt v (versionCount (r .versions)))
-        [ yes old ↦
+      elim (decLt v (versionCount (r .versions))) [
+        | yes old ↦
             let b = s .behind v old in
-            elim (ℕ-discrete (b .0) c)
-              [ yes e ↦
-                  ( c
-                  , ap isSome new-head
-                  , ap (ancestor (n ∷ r .versions) v) new-number
-                    ∙ ancestor-above (r .versions) v own (ap (λ (k : ℕ). ancestor (r .versions) v (head r k)) (sym e) ∙ b .2))
-              | no ne ↦
-                  ( b .0
-                  , there (kept (b .0) ne) (b .1)
-                  , ap (ancestor (n ∷ r .versions) v) (number (kept (b .0) ne))
-                    ∙ ancestor-old n (r .versions) v (head r (b .0)) (ancestor-named (r .versions) v (head r (b .0)) (b .2)) ∙ b .2) ]
+            elim (ℕ-discrete (b .0) c) [
+              | yes e ↦ (
+                c,
+                ap isSome new-head,
+                ap (ancestor (n ∷ r .versions) v) new-number
+                    ∙ ancestor-above (r .versions) v own (ap (λ (k : ℕ). ancestor (r .versions) v (head r k)) (sym e) ∙ b .2),
+              )
+              | no ne ↦ (
+                b .0,
+                there (kept (b .0) ne) (b .1),
+                ap (ancestor (n ∷ r .versions) v) (number (kept (b .0) ne))
+                    ∙ ancestor-old n (r .versions) v (head r (b .0)) (ancestor-named (r .versions) v (head r (b .0)) (b .2)) ∙ b .2,
+              )
+            ]
         | no new ↦
-            let e : v ≡ versionCount (r .versions) = omega arith in
-            ( c
-            , ap isSome new-head
-            , ap (ancestor (n ∷ r .versions) v) new-number
-              ∙ ap (λ (u : ℕ). ancestor (n ∷ r .versions) u (versionCount (r .versions))) e ∙ ancestor-same n (r .versions)) ]
+            let e : v ≡ versionCount (r .versions) = omega arith in (
+              c,
+              ap isSome new-head,
+              ap (ancestor (n ∷ r .versions) v) new-number
+                  ∙ ap (λ (u : ℕ). ancestor (n ∷ r .versions) u (versionCount (r .versions))) e ∙ ancestor-same n (r .versions),
+            )
+      ]
 
   pub grown-sound : Sound (grown r c n)
   unfolding everyVersion
-  grown-sound = record
-      { lower = and-i (parentsLower (r .versions) n) _ lower (s .lower)
-      ; based = and-i (mergeHasBase (r .versions) n) _ based (s .based)
-      ; sixteen = length-set (r .heads) c (some (versionCount (r .versions))) ∙ s .sixteen
-      ; named = grown-named
-      ; meets = grown-meets
-      ; first = grown-first
-      ; behind = grown-behind
-      ; capacity = s .capacity
-      ; fits = left
-      ; ranged = and-i (entryInRange (r .versions) n) _ ranged (s .ranged)
-      }
+  grown-sound = record {
+    lower = and-i (parentsLower (r .versions) n) _ lower (s .lower);
+    based = and-i (mergeHasBase (r .versions) n) _ based (s .based);
+    sixteen = length-set (r .heads) c (some (versionCount (r .versions))) ∙ s .sixteen;
+    named = grown-named;
+    meets = grown-meets;
+    first = grown-first;
+    behind = grown-behind;
+    capacity = s .capacity;
+    fits = left;
+    ranged = and-i (entryInRange (r .versions) n) _ ranged (s .ranged);
+  }

@@ -63,27 +63,28 @@ tests r h =
     let hd : d ≡ true = and-l d _ he in
     let hc : c ≡ true = and-l c _ hd in
     let hb : b ≡ true = and-l b _ hc in
-    record
-      { lower = and-l a _ hb
-      ; based = and-r a _ hb
-      ; sixteen = and-r b _ hc
-      ; named = and-r c _ hd
-      ; meets = and-r d _ he
-      ; first = and-r e _ hf
-      ; behind = and-r f _ hg
-      ; capacity = and-r g _ hi
-      ; fits = and-r i _ hj
-      ; ranged = and-r j _ h
-      }
+    record {
+      lower = and-l a _ hb;
+      based = and-r a _ hb;
+      sixteen = and-r b _ hc;
+      named = and-r c _ hd;
+      meets = and-r d _ he;
+      first = and-r e _ hf;
+      behind = and-r f _ hg;
+      capacity = and-r g _ hi;
+      fits = and-r i _ hj;
+      ranged = and-r j _ h;
+    }
 
 -- a present console is one of the sixteen
 pub present-console : (r : Room) (c : ℕ) → length (r .heads) ≡ consoleCount → present r c ≡ true → c < consoleCount
 present-console r c l p =
-    elim (decLt c consoleCount)
-      [ yes lt ↦ lt
+    elim (decLt c consoleCount) [
+      | yes lt ↦ lt
       | no ge ↦
           let out : headOf r c ≡ none = List·getD-eq-default (r .heads) none {n = c} (omega arith) in
-          clash p (ap isSome out) ]
+          clash p (ap isSome out)
+    ]
 
 -- the head of a present console
 pub present-head : (r : Room) (c : ℕ) → present r c ≡ true → headOf r c ≡ some (head r c)
@@ -106,27 +107,27 @@ unfolding headsMeet allBehindHeads
 sound-facts r h =
     let t : Tests r = tests r h in
     let l : length (r .heads) ≡ consoleCount = eqb-true _ _ (t .sixteen) in
-    record
-      { lower = t .lower
-      ; based = t .based
-      ; sixteen = l
-      ; named = λ c v e.
+    record {
+      lower = t .lower;
+      based = t .based;
+      sixteen = l;
+      named = λ c v e.
           names (r .versions) (headOf r c) v
-            (at consoleCount _ (t .named) c (present-console r c l (ap isSome e))) e
-      ; meets = λ c d p q.
+          (at consoleCount _ (t .named) c (present-console r c l (ap isSome e))) e;
+      meets = λ c d p q.
           meets-of (r .versions) (head r c) (head r d) _ refl
-            (implies-e2 (present r c) (present r d) _
-              (at consoleCount _
-                (at consoleCount _ (t .meets) c (present-console r c l p)) d (present-console r d l q))
-              p q)
-      ; first = t .first
-      ; behind = λ v b.
+          (implies-e2 (present r c) (present r d) _
+          (at consoleCount _
+          (at consoleCount _ (t .meets) c (present-console r c l p)) d (present-console r d l q))
+          p q);
+      first = t .first;
+      behind = λ v b.
           let s = some-at consoleCount _ (at (versionCount (r .versions)) _ (t .behind) v b) in
-          (s .0, and-l (present r (s .0)) _ (s .2), and-r (present r (s .0)) _ (s .2))
-      ; capacity = t .capacity
-      ; fits = leb-true _ _ (t .fits)
-      ; ranged = t .ranged
-      }
+          (s .0, and-l (present r (s .0)) _ (s .2), and-r (present r (s .0)) _ (s .2));
+      capacity = t .capacity;
+      fits = leb-true _ _ (t .fits);
+      ranged = t .ranged;
+    }
 
 -- the way back
 names-of : (g : Graph) (h : Option ℕ) → ((v : ℕ) → h ≡ some v → v < versionCount g) → namesVersion g h ≡ true
@@ -137,18 +138,18 @@ pub facts-sound : (r : Room) → Sound r → sound r ≡ true
 unfolding sound headsMeet allBehindHeads
 facts-sound r s =
     let found : (c d : ℕ) → twoMeet r c d ≡ true =
-          λ c d. implies-i2 (present r c) (present r d) _ (λ p q. ap isSome (meet-found (s .meets c d p q .1))) in
+    λ c d. implies-i2 (present r c) (present r d) _ (λ p q. ap isSome (meet-found (s .meets c d p q .1))) in
     and-i _ _ (and-i _ _ (and-i _ _ (and-i _ _ (and-i _ _ (and-i _ _ (and-i _ _ (and-i _ _ (and-i _ _
-      (s .lower)
-      (s .based))
-      (eq-eqb _ _ (s .sixteen)))
-      (of consoleCount _ (λ c l. names-of (r .versions) (headOf r c) (s .named c))))
-      (of consoleCount _ (λ c l. of consoleCount _ (λ d m. found c d))))
-      (s .first))
-      (of (versionCount (r .versions)) _
-        (λ v l.
-          let b = s .behind v l in
-          some-of consoleCount _ (b .0) (present-console r (b .0) (s .sixteen) (b .1)) (and-i _ _ (b .1) (b .2)))))
-      (s .capacity))
-      (le-leb _ _ (s .fits)))
-      (s .ranged)
+    (s .lower)
+    (s .based))
+    (eq-eqb _ _ (s .sixteen)))
+    (of consoleCount _ (λ c l. names-of (r .versions) (headOf r c) (s .named c))))
+    (of consoleCount _ (λ c l. of consoleCount _ (λ d m. found c d))))
+    (s .first))
+    (of (versionCount (r .versions)) _
+    (λ v l.
+    let b = s .behind v l in
+    some-of consoleCount _ (b .0) (present-console r (b .0) (s .sixteen) (b .1)) (and-i _ _ (b .1) (b .2)))))
+    (s .capacity))
+    (le-leb _ _ (s .fits)))
+    (s .ranged)
