@@ -1,2 +1,4 @@
 pub mod Sound
 pub mod Moves
+pub mod NewMeets
+pub mod Steps

@@ -28,17 +28,17 @@ module _ (r : Room) (c : ℕ) (h : Option ℕ) where
   head-kept k ne = getD-set-other (r .heads) c k h none ne
 
 -- what follows for a console whose head is that of another console of another room
-record Follows (r′ r : Room) (k j : ℕ) : Type 0 where
-  slot : headOf r′ k ≡ headOf r j
+pub record Follows (r′ r : Room) (k j : ℕ) : Type 0 where
+  pub slot : headOf r′ k ≡ headOf r j
 
 module _ {r′ r : Room} {k j : ℕ} (f : Follows r′ r k j) where
-  there : present r j ≡ true → present r′ k ≡ true
+  pub there : present r j ≡ true → present r′ k ≡ true
   there p = ap isSome (f .slot) ∙ p
 
-  back : present r′ k ≡ true → present r j ≡ true
+  pub back : present r′ k ≡ true → present r j ≡ true
   back p = sym (ap isSome (f .slot)) ∙ p
 
-  number : head r′ k ≡ head r j
+  pub number : head r′ k ≡ head r j
   number = ap (λ (o : Option ℕ). Option·getD o 0) (f .slot)
 
 -- console c on the head of console d
@@ -95,106 +95,106 @@ module _ (r : Room) (s : Sound r) (c d : ℕ) (l : c < consoleCount) (q : presen
     ranged = s .ranged;
   }
 
-module _ (r : Room) (s : Sound r) (c : ℕ) (p : present r c ≡ true) (n : Node) (left : versionCount (r .versions) < r .capacity)
-    (lower : parentsLower (r .versions) n ≡ true) (based : mergeHasBase (r .versions) n ≡ true) (ranged : entryInRange (r .versions) n ≡ true)
-    (own : Parent n (head r c))
-    (meeting : (d : ℕ) → present r d ≡ true → (d ≡ c → ⊥) → (m : ℕ) × Meet (n ∷ r .versions) (versionCount (r .versions)) (head r d) m) where
-  new-head : headOf (grown r c n) c ≡ some (versionCount (r .versions))
+module _ (r : Room) (s : Sound r) (c : ℕ) (p : present r c ≡ true) (n : Node) where
+  pub new-head : headOf (grown r c n) c ≡ some (versionCount (r .versions))
   new-head = getD-set-same (r .heads) c (some (versionCount (r .versions))) none (omega (arith, s .sixteen, present-console r c (s .sixteen) p))
 
-  new-number : head (grown r c n) c ≡ versionCount (r .versions)
+  pub new-number : head (grown r c n) c ≡ versionCount (r .versions)
   new-number = ap (λ (o : Option ℕ). Option·getD o 0) new-head
 
   at-new : (k : ℕ) → k ≡ c → head (grown r c n) k ≡ versionCount (r .versions)
   at-new k e = ap (head (grown r c n)) e ∙ new-number
 
-  kept : (k : ℕ) → (k ≡ c → ⊥) → Follows (grown r c n) r k k
+  pub kept : (k : ℕ) → (k ≡ c → ⊥) → Follows (grown r c n) r k k
   kept k ne = record { slot = getD-set-other (r .heads) c k (some (versionCount (r .versions))) none ne }
 
-  -- every version is new or old, and so is every head
-  grown-named : (k v : ℕ) → headOf (grown r c n) k ≡ some v → v < suc (versionCount (r .versions))
-  grown-named k v e =
-      elim (ℕ-discrete k c) [
-        | yes same ↦ let w : versionCount (r .versions) ≡ v = cc (new-head, ap (headOf (grown r c n)) same) in omega arith
-        | no ne ↦ omega (arith, s .named k v (sym (kept k ne .slot) ∙ e))
-      ]
+  module _ (lower : parentsLower (r .versions) n ≡ true) (based : mergeHasBase (r .versions) n ≡ true) (ranged : entryInRange (r .versions) n ≡ true)
+      (own : Parent n (head r c))
+      (meeting : (d : ℕ) → present r d ≡ true → (d ≡ c → ⊥) → (m : ℕ) × Meet (n ∷ r .versions) (versionCount (r .versions)) (head r d) m) where
+    -- every version is new or old, and so is every head
+    grown-named : (k v : ℕ) → headOf (grown r c n) k ≡ some v → v < suc (versionCount (r .versions))
+    grown-named k v e =
+        elim (ℕ-discrete k c) [
+          | yes same ↦ let w : versionCount (r .versions) ≡ v = cc (new-head, ap (headOf (grown r c n)) same) in omega arith
+          | no ne ↦ omega (arith, s .named k v (sym (kept k ne .slot) ∙ e))
+        ]
 
-  grown-first : present (grown r c n) 0 ≡ true
-  grown-first =
-      elim (ℕ-discrete 0 c)
-      [ yes e ↦ ap (present (grown r c n)) e ∙ ap isSome new-head | no ne ↦ there (kept 0 ne) (s .first) ]
+    grown-first : present (grown r c n) 0 ≡ true
+    grown-first =
+        elim (ℕ-discrete 0 c)
+        [ yes e ↦ ap (present (grown r c n)) e ∙ ap isSome new-head | no ne ↦ there (kept 0 ne) (s .first) ]
 
-  -- a console that did not move has a meet with the one that did
-  with-new : (k : ℕ) → present (grown r c n) k ≡ true → (k ≡ c → ⊥) → (m : ℕ) × Meet (n ∷ r .versions) (versionCount (r .versions)) (head (grown r c n) k) m
-  with-new k q ne =
-      let m = meeting k (back (kept k ne) q) ne in
-      (m .0, rw (number (kept k ne)) (m .1))
+    -- a console that did not move has a meet with the one that did
+    with-new : (k : ℕ) → present (grown r c n) k ≡ true → (k ≡ c → ⊥) → (m : ℕ) × Meet (n ∷ r .versions) (versionCount (r .versions)) (head (grown r c n) k) m
+    with-new k q ne =
+        let m = meeting k (back (kept k ne) q) ne in
+        (m .0, rw (number (kept k ne)) (m .1))
 
-  grown-meets : (k k′ : ℕ) → present (grown r c n) k ≡ true → present (grown r c n) k′ ≡ true
-      → (m : ℕ) × Meet (n ∷ r .versions) (head (grown r c n) k) (head (grown r c n) k′) m
-  grown-meets k k′ q q′ =
-      elim (ℕ-discrete k c) [
-        | yes e ↦
-            elim (ℕ-discrete k′ c) [
-              | yes e′ ↦ (
-                versionCount (r .versions),
-                subst₂ (λ (u v : ℕ). Meet (n ∷ r .versions) u v (versionCount (r .versions))) (sym (at-new k e)) (sym (at-new k′ e′))
-                    (meet-self (n ∷ r .versions) (versionCount (r .versions)) (omega arith)),
-              )
-              | no ne′ ↦ let m = with-new k′ q′ ne′ in (m .0, rw (at-new k e) (m .1))
-            ]
-        | no ne ↦
-            elim (ℕ-discrete k′ c) [
-              | yes e′ ↦ let m = with-new k q ne in (m .0, rw (at-new k′ e′) (meet-sym (m .1)))
-              | no ne′ ↦
-                  let m = s .meets k k′ (back (kept k ne) q) (back (kept k′ ne′) q′) in (
-                    m .0,
-                    subst₂ (λ (u v : ℕ). Meet (n ∷ r .versions) u v (m .0)) (sym (number (kept k ne))) (sym (number (kept k′ ne′)))
-                        (Meet-new n (m .1)),
-                  )
-            ]
-      ]
+    pub grown-meets : (k k′ : ℕ) → present (grown r c n) k ≡ true → present (grown r c n) k′ ≡ true
+        → (m : ℕ) × Meet (n ∷ r .versions) (head (grown r c n) k) (head (grown r c n) k′) m
+    grown-meets k k′ q q′ =
+        elim (ℕ-discrete k c) [
+          | yes e ↦
+              elim (ℕ-discrete k′ c) [
+                | yes e′ ↦ (
+                  versionCount (r .versions),
+                  subst₂ (λ (u v : ℕ). Meet (n ∷ r .versions) u v (versionCount (r .versions))) (sym (at-new k e)) (sym (at-new k′ e′))
+                      (meet-self (n ∷ r .versions) (versionCount (r .versions)) (omega arith)),
+                )
+                | no ne′ ↦ let m = with-new k′ q′ ne′ in (m .0, rw (at-new k e) (m .1))
+              ]
+          | no ne ↦
+              elim (ℕ-discrete k′ c) [
+                | yes e′ ↦ let m = with-new k q ne in (m .0, rw (at-new k′ e′) (meet-sym (m .1)))
+                | no ne′ ↦
+                    let m = s .meets k k′ (back (kept k ne) q) (back (kept k′ ne′) q′) in (
+                      m .0,
+                      subst₂ (λ (u v : ℕ). Meet (n ∷ r .versions) u v (m .0)) (sym (number (kept k ne))) (sym (number (kept k′ ne′)))
+                          (Meet-new n (m .1)),
+                    )
+              ]
+        ]
 
-  grown-behind : (v : ℕ) → v < suc (versionCount (r .versions))
-      → (x : ℕ) × (present (grown r c n) x ≡ true) × (ancestor (n ∷ r .versions) v (head (grown r c n) x) ≡ true)
-  grown-behind v bound =
-      elim (decLt v (versionCount (r .versions))) [
-        | yes old ↦
-            let b = s .behind v old in
-            elim (ℕ-discrete (b .0) c) [
-              | yes e ↦ (
+    grown-behind : (v : ℕ) → v < suc (versionCount (r .versions))
+        → (x : ℕ) × (present (grown r c n) x ≡ true) × (ancestor (n ∷ r .versions) v (head (grown r c n) x) ≡ true)
+    grown-behind v bound =
+        elim (decLt v (versionCount (r .versions))) [
+          | yes old ↦
+              let b = s .behind v old in
+              elim (ℕ-discrete (b .0) c) [
+                | yes e ↦ (
+                  c,
+                  ap isSome new-head,
+                  ap (ancestor (n ∷ r .versions) v) new-number
+                      ∙ ancestor-above (r .versions) v own (ap (λ (k : ℕ). ancestor (r .versions) v (head r k)) (sym e) ∙ b .2),
+                )
+                | no ne ↦ (
+                  b .0,
+                  there (kept (b .0) ne) (b .1),
+                  ap (ancestor (n ∷ r .versions) v) (number (kept (b .0) ne))
+                      ∙ ancestor-old n (r .versions) v (head r (b .0)) (ancestor-named (r .versions) v (head r (b .0)) (b .2)) ∙ b .2,
+                )
+              ]
+          | no new ↦
+              let e : v ≡ versionCount (r .versions) = omega arith in (
                 c,
                 ap isSome new-head,
                 ap (ancestor (n ∷ r .versions) v) new-number
-                    ∙ ancestor-above (r .versions) v own (ap (λ (k : ℕ). ancestor (r .versions) v (head r k)) (sym e) ∙ b .2),
+                    ∙ ap (λ (u : ℕ). ancestor (n ∷ r .versions) u (versionCount (r .versions))) e ∙ ancestor-same n (r .versions),
               )
-              | no ne ↦ (
-                b .0,
-                there (kept (b .0) ne) (b .1),
-                ap (ancestor (n ∷ r .versions) v) (number (kept (b .0) ne))
-                    ∙ ancestor-old n (r .versions) v (head r (b .0)) (ancestor-named (r .versions) v (head r (b .0)) (b .2)) ∙ b .2,
-              )
-            ]
-        | no new ↦
-            let e : v ≡ versionCount (r .versions) = omega arith in (
-              c,
-              ap isSome new-head,
-              ap (ancestor (n ∷ r .versions) v) new-number
-                  ∙ ap (λ (u : ℕ). ancestor (n ∷ r .versions) u (versionCount (r .versions))) e ∙ ancestor-same n (r .versions),
-            )
-      ]
+        ]
 
-  pub grown-sound : Sound (grown r c n)
-  unfolding everyVersion
-  grown-sound = record {
-    lower = and-i (parentsLower (r .versions) n) _ lower (s .lower);
-    based = and-i (mergeHasBase (r .versions) n) _ based (s .based);
-    sixteen = length-set (r .heads) c (some (versionCount (r .versions))) ∙ s .sixteen;
-    named = grown-named;
-    meets = grown-meets;
-    first = grown-first;
-    behind = grown-behind;
-    capacity = s .capacity;
-    fits = left;
-    ranged = and-i (entryInRange (r .versions) n) _ ranged (s .ranged);
-  }
+    pub grown-sound : versionCount (r .versions) < r .capacity → Sound (grown r c n)
+    unfolding everyVersion
+    grown-sound left = record {
+      lower = and-i (parentsLower (r .versions) n) _ lower (s .lower);
+      based = and-i (mergeHasBase (r .versions) n) _ based (s .based);
+      sixteen = length-set (r .heads) c (some (versionCount (r .versions))) ∙ s .sixteen;
+      named = grown-named;
+      meets = grown-meets;
+      first = grown-first;
+      behind = grown-behind;
+      capacity = s .capacity;
+      fits = left;
+      ranged = and-i (entryInRange (r .versions) n) _ ranged (s .ranged);
+    }

@@ -98,7 +98,7 @@ names : (g : Graph) (h : Option ℕ) (v : ℕ) → namesVersion g h ≡ true →
 names g none v t e = absurd (let z : _≡_ {A = ℕ} 0 1 = cc in omega arith)
 names g (some w) v t e = let same : w ≡ v = cc in omega (arith, ltb-true w (versionCount g) t)
 
-meets-of : (g : Graph) (u v : ℕ) (o : Option ℕ) → meet g u v ≡ o → isSome o ≡ true → (m : ℕ) × Meet g u v m
+pub meets-of : (g : Graph) (u v : ℕ) (o : Option ℕ) → meet g u v ≡ o → isSome o ≡ true → (m : ℕ) × Meet g u v m
 meets-of g u v none e t = clash t refl
 meets-of g u v (some m) e t = (m, meet-is g u v m e)
 

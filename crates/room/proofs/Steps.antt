@@ -1,0 +1,196 @@
+-- Opening gives a sound room, each accepted command takes a sound room to a sound room, and refusal 17 is given exactly where the merge
+-- would leave two consoles without a single lowest common ancestor.
+-- Assumes nothing.
+use Prim.Native.Nat.{ℕ, zero, suc, _≤_, _<_}
+use mathlib.Core.Path.{_≡_, refl, sym, _∙_, ap, subst, subst₂}
+use mathlib.Core.Bool.{Bool, true, false, cond, not, _&&_, _||_}
+use mathlib.Core.List.{List, [], _∷_}
+use mathlib.Core.Logic.{_⊎_, inl, inr}
+use mathlib.Core.Option.{Option, none, some, Option·getD}
+use native.Mathlib.Omega.{arith}
+use native.Mathlib.Decide.{ℕ-discrete}
+use borrow.Author.Tests.{leb-false, lt-ltb, ne-eqb, eqb-false, not-false}
+use lib.Dec.{lit<, eqb}
+use Rattle.board.specs.declared.Strip.{Strip}
+use Rattle.laws.proofs.Logic.{clash, decide, refuted, and-l, and-r, and-i, and-rest, implies-i2, implies-e2, or-none-l, or-none-r, not-e, not-i}
+use Rattle.graph.specs.Graph.{Graph, Node, entry, merge, versionCount, ancestor, meet, isSome, parentsLower, mergeHasBase}
+use Rattle.graph.proofs.Below.{at, of, some-at, some-of}
+use Rattle.graph.proofs.Parent.{Parent, sole, receiver, giver}
+use Rattle.graph.proofs.Ancestor.{ancestor-above, ancestor-self}
+use Rattle.graph.proofs.Meet.{Meet, meet-is, meet-found, meet-sym, meet-behind, meet-unique}
+use Rattle.command.specs.declared.Console.{Console}
+use Rattle.command.specs.declared.Command.{Command}
+use Rattle.command.specs.declared.Command.the-variants.{Fork, Entry, Merge, FastForward}
+use Rattle.command.specs.Code.{consoleCount, isEntryCode, isStrip, isOperand}
+use Rattle.command.proofs.Refusals.{none-applies}
+use Rattle.command.proofs.Ranges.{InRange}
+use Rattle.room.specs.Room.{Room, headOf, present, head, common}
+use Rattle.room.specs.Sound.{headsMeet, sound}
+use Rattle.room.specs.Step.{absent, behind, apart, splits, someThirdSplits, full, stepRefusal, moved, grown, step}
+use Rattle.room.proofs.Sound.{Sound, present-console, present-head, meets-of, sound-facts, facts-sound}
+use Rattle.room.proofs.Moves.{there, number, new-head, new-number, kept, moved-sound, grown-sound, grown-meets}
+use Rattle.room.proofs.NewMeets.{entry-meet, merge-meet-receiver, merge-meet-giver, merge-meet-ordered}
+
+head-named : (r : Room) → Sound r → (c : ℕ) → present r c ≡ true → head r c < versionCount (r .versions)
+head-named r s c p = s .named c (head r c) (present-head r c p)
+
+fork-sound : (r : Room) → Sound r → (new old : Console) → InRange (Fork new old) → stepRefusal r (Fork new old) ≡ 0 → Sound (step r (Fork new old))
+unfolding stepRefusal step
+fork-sound r s new old range h =
+    let t = none-applies _ h in
+    let q : present r (old .0) ≡ true = not-false _ (t .0 (lit< tt)) in
+    let free : present r (new .0) ≡ false = t .1 (lit< tt) .0 (lit< tt) in
+    moved-sound r s (new .0) (old .0) (range .0) q (λ p. clash p free)
+
+forward-sound : (r : Room) → Sound r → (a b : Console) → InRange (FastForward a b) → stepRefusal r (FastForward a b) ≡ 0 → Sound (step r (FastForward a b))
+unfolding stepRefusal step
+forward-sound r s a b range h =
+    let t = none-applies _ h in
+    let both = t .0 (lit< tt) in
+    let q : present r (b .0) ≡ true = not-false _ (or-none-r (absent r (a .0)) _ both) in
+    let ahead : not (behind r (a .0) (b .0)) ≡ false = t .1 (lit< tt) .1 (lit< tt) .0 (lit< tt) in
+    moved-sound r s (a .0) (b .0) (range .0) q (λ p. not-false _ ahead)
+
+entry-sound : (r : Room) → Sound r → (c : Console) (code : ℕ) (k : Strip) (x : ℕ) → InRange (Entry c code k x) → stepRefusal r (Entry c code k x) ≡ 0
+    → Sound (step r (Entry c code k x))
+unfolding stepRefusal step
+entry-sound r s c code k x range h =
+    let t = none-applies _ h in
+    let p : present r (c .0) ≡ true = not-false _ (t .0 (lit< tt)) in
+    let left : versionCount (r .versions) < r .capacity = leb-false _ _ (t .1 (lit< tt) .0 (lit< tt)) in
+    let n : Node = entry (head r (c .0)) code (k .0) x in
+    grown-sound r s (c .0) p n (lt-ltb _ _ (head-named r s (c .0) p)) refl (range .1) sole
+    (λ d q ne. let m = s .meets (c .0) d p q in (m .0, entry-meet code (k .0) x (head-named r s d q) (m .1)))
+    left
+
+-- the meet of two present consoles is their common version
+pub common-meet : (r : Room) (c d : ℕ) {m : ℕ} → Meet (r .versions) (head r c) (head r d) m → common r c d ≡ m
+unfolding common
+common-meet r c d b = ap (λ (o : Option ℕ). Option·getD o 0) (meet-found b)
+
+-- a merge of two consoles of which neither head is behind the other
+module _ (r : Room) (s : Sound r) (a b : ℕ) (pa : present r a ≡ true) (pb : present r b ≡ true)
+    (ahead : behind r b a ≡ false) (back : behind r a b ≡ false) where
+  merge-lower : parentsLower (r .versions) (merge (head r a) (head r b)) ≡ true
+  merge-lower = and-i _ _ (lt-ltb _ _ (head-named r s a pa)) (lt-ltb _ _ (head-named r s b pb))
+
+  merge-based : mergeHasBase (r .versions) (merge (head r a) (head r b)) ≡ true
+  merge-based =
+      let l = s .meets a b pa pb in
+      rw (meet-found (l .1))
+      (and-i _ _
+      (not-i _ (ne-eqb (l .0) (head r a) (λ e. clash (rw e at (l .1 .second)) back)))
+      (not-i _ (ne-eqb (l .0) (head r b) (λ e. clash (rw e at (l .1 .first)) ahead))))
+
+  -- what it says that a console splits the two
+  record Parts (d : ℕ) : Type 0 where
+    pd : present r d ≡ true
+    na : d ≡ a → ⊥
+    nb : d ≡ b → ⊥
+
+  split-parts : (d : ℕ) → splits r a b d ≡ true → Parts d
+  split-parts d h =
+      let three = and-l (present r d && not (eqb d a) && not (eqb d b)) _ h in
+      let two = and-l (present r d && not (eqb d a)) _ three in
+      record {
+        pd = and-l (present r d) _ two;
+        na = eqb-false _ _ (not-e _ (and-r (present r d) _ two));
+        nb = eqb-false _ _ (not-e _ (and-r (present r d && not (eqb d a)) _ three));
+      }
+
+  -- a third console splits the two where neither of its commons with them is behind the other
+  module _ (d : ℕ) (pd : present r d ≡ true) (na : d ≡ a → ⊥) (nb : d ≡ b → ⊥) where
+    commons-apart : splits r a b d ≡ apart r (s .meets a d pa pd .0) (s .meets b d pb pd .0)
+    commons-apart =
+        let one : present r d && not (eqb d a) && not (eqb d b) ≡ true =
+        and-i _ _ (and-i _ _ pd (not-i _ (ne-eqb d a na))) (not-i _ (ne-eqb d b nb)) in
+        let k : common r d a ≡ s .meets a d pa pd .0 = common-meet r d a (meet-sym (s .meets a d pa pd .1)) in
+        let m : common r d b ≡ s .meets b d pb pd .0 = common-meet r d b (meet-sym (s .meets b d pb pd .1)) in
+        rw (one, k, m)
+
+    third-meets : splits r a b d ≡ false → (m : ℕ) × Meet (merge (head r a) (head r b) ∷ r .versions) (versionCount (r .versions)) (head r d) m
+    third-meets h =
+        let k = s .meets a d pa pd in
+        let m = s .meets b d pb pd in
+        let l : head r d < versionCount (r .versions) = head-named r s d pd in
+        elim (decide (ancestor (r .versions) (k .0) (m .0))) [
+          | inl t ↦ (m .0, merge-meet-giver l (k .1) (m .1) t)
+          | inr f ↦ (k .0, merge-meet-receiver l (k .1) (m .1) (not-false _ (and-rest _ _ (not-i _ f) (sym commons-apart ∙ h))))
+        ]
+
+    third-ordered : {z : ℕ} → Meet (merge (head r a) (head r b) ∷ r .versions) (versionCount (r .versions)) (head r d) z → splits r a b d ≡ false
+    third-ordered w =
+        let k = s .meets a d pa pd in
+        let m = s .meets b d pb pd in
+        commons-apart
+        ∙ elim (merge-meet-ordered (head-named r s d pd) (k .1) (m .1) w)
+        [ inl t ↦ refuted _ (λ u. clash t (not-e _ (and-l _ _ u))) | inr t ↦ refuted _ (λ u. clash t (not-e _ (and-r (not (ancestor (r .versions) (k .0) (m .0))) _ u))) ]
+
+  -- the giver's head is the meet of the new version and itself
+  giver-meets : Meet (merge (head r a) (head r b) ∷ r .versions) (versionCount (r .versions)) (head r b) (head r b)
+  giver-meets =
+      meet-sym
+      (meet-behind _ (head r b) (versionCount (r .versions))
+      (ancestor-above (r .versions) (head r b) giver (ancestor-self (r .versions) (head r b) (head-named r s b pb))))
+
+  meeting : someThirdSplits r a b ≡ false → (d : ℕ) → present r d ≡ true → (d ≡ a → ⊥)
+      → (m : ℕ) × Meet (merge (head r a) (head r b) ∷ r .versions) (versionCount (r .versions)) (head r d) m
+  meeting h d pd na =
+      elim (ℕ-discrete d b) [
+        | yes e ↦ (head r b, subst (λ (k : ℕ). Meet (merge (head r a) (head r b) ∷ r .versions) (versionCount (r .versions)) (head r k) (head r b)) (sym e) giver-meets)
+        | no nb ↦
+            third-meets d pd na nb
+            (refuted _ (λ t. clash (some-of consoleCount (splits r a b) d (present-console r d (s .sixteen) pd) t) h))
+      ]
+
+  merge-grown : someThirdSplits r a b ≡ false → versionCount (r .versions) < r .capacity → Sound (grown r a (merge (head r a) (head r b)))
+  merge-grown h left =
+      grown-sound r s a pa (merge (head r a) (head r b)) merge-lower merge-based refl receiver (meeting h) left
+
+  -- no third console splits the two exactly when every two consoles have a meet after the merge
+  pub split-none : someThirdSplits r a b ≡ false → headsMeet (grown r a (merge (head r a) (head r b))) ≡ true
+  unfolding headsMeet
+  split-none h =
+      let after : Room = grown r a (merge (head r a) (head r b)) in
+      of consoleCount _
+      (λ c l. of consoleCount _
+      (λ d m. implies-i2 (present after c) (present after d) _
+      (λ pc pd. ap isSome (meet-found
+      (grown-meets r s a pa (merge (head r a) (head r b)) merge-lower merge-based refl receiver (meeting h) c d pc pd .1)))))
+
+  pub split-some : headsMeet (grown r a (merge (head r a) (head r b))) ≡ true → someThirdSplits r a b ≡ false
+  unfolding headsMeet
+  split-some h =
+      let n : Node = merge (head r a) (head r b) in
+      let after : Room = grown r a n in
+      let pa′ : present after a ≡ true = ap isSome (new-head r s a pa n) in
+      refuted _
+      (λ t.
+      let d = some-at consoleCount (splits r a b) t in
+      let parts = split-parts (d .0) (d .2) in
+      let f = kept r s a pa n (d .0) (parts .na) in
+      let z =
+      meets-of (n ∷ r .versions) (head after a) (head after (d .0)) _ refl
+      (implies-e2 (present after a) (present after (d .0)) _
+      (at consoleCount _ (at consoleCount _ h a (present-console r a (s .sixteen) pa)) (d .0) (d .1)) pa′ (there f (parts .pd))) in
+      clash (d .2)
+      (third-ordered (d .0) (parts .pd) (parts .na) (parts .nb)
+      (subst₂ (λ (u v : ℕ). Meet (n ∷ r .versions) u v (z .0)) (new-number r s a pa n) (number f) (z .1))))
+
+merge-sound : (r : Room) → Sound r → (a b : Console) → InRange (Merge a b) → stepRefusal r (Merge a b) ≡ 0 → Sound (step r (Merge a b))
+unfolding stepRefusal step
+merge-sound r s a b range h =
+    let t = none-applies _ h in
+    let both = t .0 (lit< tt) in
+    let fourteen = t .1 (lit< tt) in
+    let fifteen = fourteen .1 (lit< tt) in
+    let seventeen = fifteen .1 (lit< tt) in
+    merge-grown r s (a .0) (b .0) (not-false _ (or-none-l _ _ both)) (not-false _ (or-none-r (absent r (a .0)) _ both))
+    (fourteen .0 (lit< tt)) (fifteen .0 (lit< tt)) (seventeen .0 (lit< tt)) (leb-false _ _ (seventeen .1 (lit< tt) .0 (lit< tt)))
+
+-- each accepted command takes a sound room to a sound room
+pub step-sound : (r : Room) (c : Command) → sound r ≡ true → InRange c → stepRefusal r c ≡ 0 → sound (step r c) ≡ true
+step-sound r (Fork new old) s range h = facts-sound _ (fork-sound r (sound-facts r s) new old range h)
+step-sound r (Entry console code strip operand) s range h = facts-sound _ (entry-sound r (sound-facts r s) console code strip operand range h)
+step-sound r (Merge a b) s range h = facts-sound _ (merge-sound r (sound-facts r s) a b range h)
+step-sound r (FastForward a b) s range h = facts-sound _ (forward-sound r (sound-facts r s) a b range h)
