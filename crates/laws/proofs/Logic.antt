@@ -50,6 +50,11 @@ pub not-e : (a : Bool) → not a ≡ true → a ≡ false
 not-e true h = sym h
 not-e false h = refl
 
+-- a test that cannot be true is false
+pub false-of : (a : Bool) → (a ≡ true → ⊥) → a ≡ false
+false-of true h = absurd (h refl)
+false-of false h = refl
+
 -- two tests that are true together are equal
 pub bool-ext : (a b : Bool) → (a ≡ true → b ≡ true) → (b ≡ true → a ≡ true) → a ≡ b
 bool-ext true true f g = refl
