@@ -26,8 +26,8 @@ pub stands-left : {s : List ℕ} {at : ℕ} (xs ys : List ℕ) → Stands s at (
 stands-left xs ys h =
     record { read = λ i p. h .read i (rw length-append (omega arith)) ∙ List·getD-append xs ys 0 i p }
 
-pub stands-right : {s : List ℕ} {at : ℕ} (xs ys : List ℕ) → Stands s at (xs ++ ys) → Stands s (at + length xs) ys
-stands-right {s} {at} xs ys h =
+pub stands-right : {s : List ℕ} {at to : ℕ} (xs ys : List ℕ) → Stands s at (xs ++ ys) → at + length xs ≡ to → Stands s to ys
+stands-right {s} {at} xs ys h e =
     record {
       read = λ i p.
           ap (λ (k : ℕ). getD s k 0) (omega arith)

@@ -1,1 +1,3 @@
 pub mod Diagonal
+pub mod Blocks
+pub mod Ranges
