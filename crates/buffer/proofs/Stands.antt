@@ -2,12 +2,12 @@
 -- Assumes nothing.
 use mathlib.Core.Path.{_≡_, refl, sym, ap, ap₂, _∙_}
 use mathlib.Core.List.{List, [], _∷_, _++_}
-use Prim.Native.Nat.{ℕ, zero, suc, _+_, _*_, _≤_, _<_}
+use Prim.Native.Nat.{ℕ, zero, suc, _+_, _*_, _/_, _≤_, _<_}
 use native.Mathlib.Nat.{zero-add}
 use native.Mathlib.Omega.{arith}
 use lib.ListN.{length, getD, length-append, List·getD-append}
 use lib.Seq.{getD-append-add}
-use Rattle.buffer.specs.Field.{word, wordAt}
+use Rattle.buffer.specs.Field.{byte, word, wordAt}
 use Rattle.buffer.proofs.Fields.{bytes-word}
 
 pub record Stands (s : List ℕ) (at : ℕ) (xs : List ℕ) : Type 0 where
@@ -35,10 +35,20 @@ stands-right {s} {at} xs ys h e =
           ∙ getD-append-add xs ys i 0;
     }
 
+-- the byte that stands first
+pub stands-first : {s : List ℕ} {at x : ℕ} {xs : List ℕ} → Stands s at (x ∷ xs) → getD s at 0 ≡ x
+stands-first {s} h = ap (λ (k : ℕ). getD s k 0) (omega arith) ∙ h .read 0 (omega arith)
+
+-- a field whose two bytes stand in the list
+pub stands-field : {s : List ℕ} {at : ℕ} {xs : List ℕ} → Stands s at xs → (i x : ℕ) → i + 1 < length xs
+    → getD xs i 0 ≡ byte (x / 256) → getD xs (i + 1) 0 ≡ byte x → x < 65536 → wordAt s (at + i) ≡ x
+stands-field {s} {at} h i x l high low fits =
+    ap₂ (λ (a b : ℕ). a * 256 + b)
+    (h .read i (omega arith) ∙ high)
+    (ap (λ (k : ℕ). getD s k 0) (omega arith) ∙ h .read (i + 1) l ∙ low)
+    ∙ bytes-word x fits
+
 -- the field that stands at a place
 pub stands-word : {s : List ℕ} {at : ℕ} (x : ℕ) → Stands s at (word x) → x < 65536 → wordAt s at ≡ x
 stands-word {s} {at} x h fits =
-    ap₂ (λ (a b : ℕ). a * 256 + b)
-    (ap (λ (k : ℕ). getD s k 0) (omega arith) ∙ h .read 0 (omega arith))
-    (h .read 1 (omega arith))
-    ∙ bytes-word x fits
+    ap (wordAt s) (omega arith) ∙ stands-field h 0 x (omega arith) refl refl fits

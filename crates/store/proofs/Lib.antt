@@ -1,3 +1,4 @@
 pub mod Diagonal
 pub mod Blocks
 pub mod Ranges
+pub mod Reading
