@@ -1,12 +1,12 @@
 -- Every board is 384 bytes: a merge makes one of that length, and an entry keeps the length.
 -- Assumes nothing.
-use mathlib.Core.Path.{_≡_, refl, sym, ap, _∙_}
+use mathlib.Core.Path.{_≡_, refl}
 use mathlib.Core.Bool.{Bool, true, false, cond}
-use mathlib.Core.List.{List, [], _∷_, _++_}
-use Prim.Native.Nat.{ℕ, zero, suc, _+_, _*_}
+use mathlib.Core.List.{List}
+use Prim.Native.Nat.{ℕ, zero, suc, _*_}
 use native.Mathlib.Omega.{arith}
-use lib.ListN.{length, set, length-set, length-append}
-use Rattle.buffer.specs.Field.{putWord, byte}
+use lib.ListN.{length, length-set, length-append}
+use Rattle.buffer.specs.Field.{putWord}
 use Rattle.board.specs.Board.{boardSize, stripSize, mergeStrip, mergeStrips, mergeBoard, enter}
 
 pub mergeStrip-length : (l a b : List ℕ) (k : ℕ) → length (mergeStrip l a b k) ≡ stripSize

@@ -1,8 +1,8 @@
 -- A list of bytes stands at a place of another: every byte of it is found there. Where a list made of parts stands, each part stands.
 -- Assumes nothing.
-use mathlib.Core.Path.{_≡_, refl, sym, ap, ap₂, _∙_}
-use mathlib.Core.List.{List, [], _∷_, _++_}
-use Prim.Native.Nat.{ℕ, zero, suc, _+_, _*_, _/_, _≤_, _<_}
+use mathlib.Core.Path.{_≡_, refl, ap, ap₂, _∙_}
+use mathlib.Core.List.{List, _∷_, _++_}
+use Prim.Native.Nat.{ℕ, _+_, _*_, _/_, _<_}
 use native.Mathlib.Nat.{zero-add}
 use native.Mathlib.Omega.{arith}
 use lib.ListN.{length, getD, length-append, List·getD-append}
@@ -17,10 +17,6 @@ pub record Stands (s : List ℕ) (at : ℕ) (xs : List ℕ) : Type 0 where
 pub stands-front : (xs ys : List ℕ) → Stands (xs ++ ys) 0 xs
 stands-front xs ys =
     record { read = λ i h. ap (λ (k : ℕ). getD (xs ++ ys) k 0) (zero-add i) ∙ List·getD-append xs ys 0 i h }
-
--- the same, at a place that is written in another way
-pub stands-at : {s : List ℕ} {at to : ℕ} {xs : List ℕ} → Stands s at xs → at ≡ to → Stands s to xs
-stands-at {s} {xs = xs} h e = rw e at h
 
 pub stands-left : {s : List ℕ} {at : ℕ} (xs ys : List ℕ) → Stands s at (xs ++ ys) → Stands s at xs
 stands-left xs ys h =

@@ -2,25 +2,24 @@
 -- block of each version with its record, its row and its board.
 -- Assumes nothing.
 use mathlib.Core.Path.{_≡_, refl, subst₂}
-use mathlib.Core.Bool.{Bool, true, false}
-use mathlib.Core.List.{List, [], _∷_, _++_}
+use mathlib.Core.List.{List, _++_}
 use mathlib.Core.Option.{Option, none, some}
-use Prim.Native.Nat.{ℕ, zero, suc, _+_, _-_, _*_, _≤_, _<_}
+use Prim.Native.Nat.{ℕ, zero, suc, _+_, _-_, _*_, _<_}
 use native.Mathlib.Nat.{not-suc-le-zero, zero-add}
 use native.Mathlib.Decide.{ℕ-discrete}
 use native.Mathlib.Omega.{arith}
-use lib.ListN.{length, getD, length-append}
-use Rattle.buffer.specs.Field.{word, wordAt, zeros}
+use lib.ListN.{length, length-append}
+use Rattle.buffer.specs.Field.{word, zeros}
 use Rattle.buffer.specs.Row.{row}
 use Rattle.buffer.proofs.Fields.{zeros-length}
-use Rattle.buffer.proofs.Stands.{Stands, stands-front, stands-at, stands-left, stands-right, stands-word}
+use Rattle.buffer.proofs.Stands.{Stands, stands-left, stands-right}
 use Rattle.buffer.proofs.Rows.{rowFrom-length}
 use Rattle.graph.specs.Graph.{Graph, Node, entry, merge, versionCount, ancestor, isEntry, nodeOf}
 use Rattle.command.specs.Code.{consoleCount}
 use Rattle.room.specs.Room.{Room}
 use Rattle.room.specs.Boards.{boardOf}
 use Rattle.room.proofs.Lengths.{boardOf-length}
-use Rattle.store.specs.Layout.{headerSize, recordSize, rowSize, blockSize, storeSize, capacityAt, countAt, entriesAt, commonsAt, commonsSize, commonsEnd, commonAt, blockAt, rowAt, boardAt, commonField, commonRow, commonRows, header, recordOf, block, blocks, encode}
+use Rattle.store.specs.Layout.{headerSize, recordSize, rowSize, blockSize, capacityAt, countAt, entriesAt, commonsAt, commonsEnd, commonAt, blockAt, rowAt, boardAt, commonField, commonRow, commonRows, header, recordOf, block, blocks, encode}
 
 pub commonRow-length : (r : Room) (c d n : ℕ) → length (commonRow r c d n) ≡ 2 * n
 unfolding commonRow

@@ -2,3 +2,4 @@ pub mod Diagonal
 pub mod Blocks
 pub mod Ranges
 pub mod Reading
+pub mod RoundTrip

@@ -1,8 +1,7 @@
 -- The ranges that a sound room keeps: what its numbers must be to fit their fields.
 -- Assumes nothing.
-use mathlib.Core.Path.{_≡_, refl, sym, ap, _∙_}
-use mathlib.Core.Bool.{Bool, true, false, cond, _&&_}
-use mathlib.Core.List.{List, [], _∷_}
+use mathlib.Core.Path.{_≡_}
+use mathlib.Core.Bool.{Bool, true, false, cond}
 use Prim.Native.Nat.{ℕ, zero, suc, _≤_, _<_}
 use native.Mathlib.Nat.{not-suc-le-zero}
 use native.Mathlib.Decide.{ℕ-discrete}
@@ -12,7 +11,7 @@ use lib.ListN.{length}
 use borrow.Author.Tests.{eqb-true, leb-true, ltb-true}
 use Rattle.laws.proofs.Logic.{and-l, and-r}
 use Rattle.graph.specs.Below.{everyBelow}
-use Rattle.graph.specs.Graph.{Graph, Node, entry, merge, versionCount, everyVersion, parentsLower}
+use Rattle.graph.specs.Graph.{versionCount, everyVersion, parentsLower}
 use Rattle.command.specs.Code.{consoleCount, markCount, within, isOperand}
 use Rattle.room.specs.Room.{Room, headOf}
 use Rattle.room.specs.Sound.{entryInRange, namesVersion, sound}

@@ -1,25 +1,24 @@
 -- Reading versions and heads off bytes at whose front the encoding of a room of sound ranges stands gives the room's own.
 -- Assumes nothing.
 use mathlib.Core.Path.{_≡_, refl, sym, ap, ap₂, _∙_}
-use mathlib.Core.Bool.{Bool, true, false, cond, _&&_}
-use mathlib.Core.List.{List, [], _∷_, _++_}
-use mathlib.Core.Option.{Option, none, some, Option·getD}
-use Prim.Native.Nat.{ℕ, zero, suc, _+_, _*_, _/_, _%_, pred, _≤_, _<_}
+use mathlib.Core.Bool.{Bool, true, false, _&&_}
+use mathlib.Core.List.{List, [], _∷_}
+use mathlib.Core.Option.{Option, none, some}
+use Prim.Native.Nat.{ℕ, zero, suc, _+_, _≤_, _<_}
 use native.Mathlib.Nat.{not-suc-le-zero, le-of-suc-le-suc, zero-add}
 use native.Mathlib.Omega.{arith}
-use lib.Dec.{eqb, leb, ltb}
+use lib.Dec.{eqb}
 use lib.ListN.{length, getD}
 use lib.Seq.{ext-getD}
-use borrow.Author.Tests.{eqb-true, leb-true, ltb-true, eq-eqb, ne-eqb}
+use borrow.Author.Tests.{leb-true, ltb-true, eq-eqb, ne-eqb}
 use Rattle.laws.proofs.Logic.{and-l, and-r, cond-true, cond-false}
-use Rattle.buffer.specs.Field.{byte, word, wordAt, zeros}
-use Rattle.buffer.proofs.Fields.{bytes-word}
+use Rattle.buffer.specs.Field.{wordAt}
 use Rattle.buffer.proofs.Stands.{Stands, stands-first, stands-field, stands-word}
-use Rattle.graph.specs.Graph.{isSome, Graph, Node, entry, merge, versionCount, nodeOf, meetNumber, everyVersion, parentsLower}
-use Rattle.command.specs.Code.{consoleCount, isEntryCode, isStrip, isOperand}
+use Rattle.graph.specs.Graph.{isSome, Graph, Node, entry, merge, versionCount, nodeOf, everyVersion, parentsLower}
+use Rattle.command.specs.Code.{consoleCount}
 use Rattle.room.specs.Room.{Room, headOf, present, head, common}
 use Rattle.room.specs.Sound.{entryInRange, namesVersion}
-use Rattle.store.specs.Layout.{fieldWhere, blockAt, recordSize, commonAt, headAt, capacityAt, countAt, commonField, recordOf, encode, nodeAt, versionsAt, headIn, headsAt}
+use Rattle.store.specs.Layout.{fieldWhere, blockAt, commonAt, headAt, capacityAt, countAt, commonField, recordOf, encode, nodeAt, versionsAt, headIn, headsAt}
 use Rattle.store.proofs.Diagonal.{meetNumber-below, meetNumber-self}
 use Rattle.store.proofs.Blocks.{stands-common, stands-record, stands-capacity, stands-count}
 use Rattle.store.proofs.Ranges.{Ranges, operand-fits}
