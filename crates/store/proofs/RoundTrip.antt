@@ -44,12 +44,12 @@ pub holds-encode : (r : Room) (rest : List ℕ) → sound r ≡ true → holdsSt
 unfolding holdsStore
 holds-encode r rest h =
     let s = encode r ++ rest in
+    let n = storeSize (r .capacity) in
     let l = encode-length r h in
-    rw (capacity-read s r (stands-front (encode r) rest) (ranges r h), room-encode r rest h, take-at (encode r) rest (storeSize (r .capacity)) l)
-    (and-i (leb (storeSize (r .capacity)) (length s) && sound r) (same (encode r) (encode r))
-    (and-i (leb (storeSize (r .capacity)) (length s)) (sound r)
-    (le-leb (storeSize (r .capacity)) (length s) (rw length-append (omega arith))) h)
-    (same-refl (encode r)))
+    let fits = le-leb n (length s) (rw length-append (omega arith)) in
+    rw (capacity-read s r (stands-front (encode r) rest) (ranges r h), room-encode r rest h, take-at (encode r) rest n l)
+    (and-i (leb n (length s) && sound r) (same (encode r) (encode r))
+    (and-i (leb n (length s)) (sound r) fits h) (same-refl (encode r)))
 
 -- bytes that hold a store give a sound room
 pub holds-sound : (s : List ℕ) → holdsStore s ≡ true → sound (roomAt s) ≡ true
