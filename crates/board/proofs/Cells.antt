@@ -12,18 +12,10 @@ use lib.ListN.{length, getD, set, length-append, length-set, List·getD-append}
 use lib.Seq.{getD-append-add, getD-set-other}
 use Rattle.laws.proofs.Logic.{and-rest}
 use Rattle.buffer.specs.Field.{word, wordAt, putWord}
-use Rattle.buffer.proofs.Writes.{word-back, put-length, put-same, put-apart}
+use Rattle.buffer.proofs.Fields.{bytes-word}
+use Rattle.buffer.proofs.Writes.{put-same, put-apart}
 use Rattle.board.specs.Board.{stripSize, stripCount, boardSize, mergeStrip, mergeStrips, mergeBoard, mergeCount, mergeSetting, mergeMarks, levelAt, headingAt, marksAt, callsAt, alertsAt, flagAt, without, enter}
-
-strip-length : (l a b : List ℕ) (k : ℕ) → length (mergeStrip l a b k) ≡ stripSize
-unfolding mergeStrip
-strip-length l a b k = refl
-
-pub strips-length : (l a b : List ℕ) (n : ℕ) → length (mergeStrips l a b n) ≡ stripSize * n
-unfolding mergeStrips
-strips-length l a b zero = refl
-strips-length l a b (suc n) =
-    omega (arith, length-append (mergeStrips l a b n) (mergeStrip l a b n), strips-length l a b n, strip-length l a b n)
+use Rattle.board.proofs.Length.{mergeStrips-length}
 
 -- a byte of a merged board is a byte of the merged strip
 pub strips-at : (l a b : List ℕ) (n k i : ℕ) → k < n → i < stripSize → getD (mergeStrips l a b n) (stripSize * k + i) 0 ≡ getD (mergeStrip l a b k) i 0
@@ -31,17 +23,14 @@ unfolding mergeStrips
 strips-at l a b zero k i kn is = absurd (omega arith)
 strips-at l a b (suc n) k i kn is =
     elim (decLt k n) [
-      | yes lt ↦ List·getD-append (mergeStrips l a b n) (mergeStrip l a b n) 0 (stripSize * k + i) (omega (arith, strips-length l a b n)) ∙ strips-at l a b n k i lt is
+      | yes lt ↦ List·getD-append (mergeStrips l a b n) (mergeStrip l a b n) 0 (stripSize * k + i) (omega (arith, mergeStrips-length l a b n)) ∙ strips-at l a b n k i lt is
       | no ge ↦
           let e : k ≡ n = omega arith in
-          let at : stripSize * k + i ≡ length (mergeStrips l a b n) + i = omega (arith, strips-length l a b n) in
+          let at : stripSize * k + i ≡ length (mergeStrips l a b n) + i = omega (arith, mergeStrips-length l a b n) in
           ap (λ (j : ℕ). getD (mergeStrips l a b n ++ mergeStrip l a b n) j 0) at
           ∙ getD-append-add (mergeStrips l a b n) (mergeStrip l a b n) i 0
           ∙ ap (λ (j : ℕ). getD (mergeStrip l a b j) i 0) (sym e)
     ]
-
-pub board-length : (l a b : List ℕ) → length (mergeBoard l a b) ≡ boardSize
-board-length l a b = strips-length l a b stripCount
 
 module _ (l a b : List ℕ) (k : ℕ) (h : k < stripCount) where
   board-at : (i j : ℕ) → i < stripSize → j ≡ stripSize * k + i → getD (mergeBoard l a b) j 0 ≡ getD (mergeStrip l a b k) i 0
@@ -58,12 +47,12 @@ module _ (l a b : List ℕ) (k : ℕ) (h : k < stripCount) where
   pub calls-merged : mergeCount (wordAt l (callsAt k)) (wordAt a (callsAt k)) (wordAt b (callsAt k)) < 65536
       → wordAt (mergeBoard l a b) (callsAt k) ≡ mergeCount (wordAt l (callsAt k)) (wordAt a (callsAt k)) (wordAt b (callsAt k))
   unfolding mergeStrip
-  calls-merged small = board-word 6 (omega arith) ∙ word-back _ small
+  calls-merged small = board-word 6 (omega arith) ∙ bytes-word _ small
 
   pub alerts-merged : mergeCount (wordAt l (alertsAt k)) (wordAt a (alertsAt k)) (wordAt b (alertsAt k)) < 65536
       → wordAt (mergeBoard l a b) (alertsAt k) ≡ mergeCount (wordAt l (alertsAt k)) (wordAt a (alertsAt k)) (wordAt b (alertsAt k))
   unfolding mergeStrip
-  alerts-merged small = board-word 8 (omega arith) ∙ word-back _ small
+  alerts-merged small = board-word 8 (omega arith) ∙ bytes-word _ small
 
 -- what holds of both branches holds of a choice; the first may lean on its test
 chosen : (P : List ℕ → Type 0) (t : Bool) (x y : List ℕ) → (t ≡ true → P x) → P y → P (cond t x y)
@@ -89,18 +78,6 @@ flag-kept s k x i a =
     cc
 
 module _ (code k x : ℕ) (s : List ℕ) where
-  pub enter-length : length (enter code k x s) ≡ length s
-  unfolding enter
-  enter-length =
-      let P : List ℕ → Type 0 = λ t. length t ≡ length s in
-      either P (eqb code 2) _ _ (put-length s (levelAt k) x)
-      (either P (eqb code 3) _ _ (put-length s (headingAt k) x)
-      (either P (eqb code 4) _ _ (put-length s (marksAt k) _)
-      (either P (eqb code 5) _ _ (put-length s (marksAt k) _)
-      (either P (eqb code 6) _ _ (put-length s (callsAt k) _)
-      (either P (eqb code 7) _ _ (simp length-set)
-      (either P (eqb code 8) _ _ (length-set {A = ℕ} s (flagAt k) 0) refl))))))
-
   -- a 16-bit cell that an entry does not write stays as it was
   cell-kept : (i : ℕ) → Apart i (levelAt k) → Apart i (headingAt k) → Apart i (marksAt k) → (eqb code 6 ≡ true → Apart i (callsAt k))
       → (eqb code 7 ≡ true → Apart i (alertsAt k)) → Apart i (flagAt k) → wordAt (enter code k x s) i ≡ wordAt s i

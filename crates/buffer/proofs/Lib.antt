@@ -1,1 +1,4 @@
+pub mod Fields
 pub mod Writes
+pub mod Stands
+pub mod Rows

@@ -7,10 +7,7 @@ use native.Mathlib.Omega.{arith}
 use lib.ListN.{length, getD, set, length-set}
 use lib.Seq.{getD-set-same, getD-set-other}
 use Rattle.buffer.specs.Field.{byte, wordAt, putWord}
-
--- a 16-bit number is put together again from its two bytes
-pub word-back : (x : ℕ) → x < 65536 → byte (x / 256) * 256 + byte x ≡ x
-word-back x h = omega arith
+use Rattle.buffer.proofs.Fields.{bytes-word}
 
 pub put-length : (s : List ℕ) (at x : ℕ) → length (putWord s at x) ≡ length s
 put-length s at x = simp length-set
@@ -20,7 +17,7 @@ put-same s at x inside small =
     let hi = getD-set-other (set s at (byte (x / 256))) (at + 1) at (byte x) 0 (omega arith) in
     let hi′ = getD-set-same s at (byte (x / 256)) 0 (omega arith) in
     let lo = getD-set-same (set s at (byte (x / 256))) (at + 1) (byte x) 0 (omega (arith, length-set s at (byte (x / 256)))) in
-    cc (word-back x small)
+    cc (bytes-word x small)
 
 pub put-other : (s : List ℕ) (at x i : ℕ) → (i ≡ at → ⊥) → (i ≡ at + 1 → ⊥) → getD (putWord s at x) i 0 ≡ getD s i 0
 put-other s at x i p q = getD-set-other (set s at (byte (x / 256))) (at + 1) i (byte x) 0 q ∙ getD-set-other s at i (byte (x / 256)) 0 p

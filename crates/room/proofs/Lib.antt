@@ -1,3 +1,4 @@
+pub mod Lengths
 pub mod Sound
 pub mod Moves
 pub mod NewMeets

@@ -30,52 +30,6 @@ pub record Sound (r : Room) : Type 0 where
   pub fits : versionCount (r .versions) ≤ r .capacity
   pub ranged : everyVersion entryInRange (r .versions) ≡ true
 
--- the tests one by one
-record Tests (r : Room) : Type 0 where
-  lower : everyVersion parentsLower (r .versions) ≡ true
-  based : everyVersion mergeHasBase (r .versions) ≡ true
-  sixteen : eqb (length (r .heads)) consoleCount ≡ true
-  named : headsNameVersions r ≡ true
-  meets : headsMeet r ≡ true
-  first : present r 0 ≡ true
-  behind : allBehindHeads r ≡ true
-  capacity : isCapacity (r .capacity) ≡ true
-  fits : leb (versionCount (r .versions)) (r .capacity) ≡ true
-  ranged : everyVersion entryInRange (r .versions) ≡ true
-
-tests : (r : Room) → sound r ≡ true → Tests r
-unfolding sound
-tests r h =
-    let a = everyVersion parentsLower (r .versions) in
-    let b = a && everyVersion mergeHasBase (r .versions) in
-    let c = b && eqb (length (r .heads)) consoleCount in
-    let d = c && headsNameVersions r in
-    let e = d && headsMeet r in
-    let f = e && present r 0 in
-    let g = f && allBehindHeads r in
-    let i = g && isCapacity (r .capacity) in
-    let j = i && leb (versionCount (r .versions)) (r .capacity) in
-    let hj : j ≡ true = and-l j _ h in
-    let hi : i ≡ true = and-l i _ hj in
-    let hg : g ≡ true = and-l g _ hi in
-    let hf : f ≡ true = and-l f _ hg in
-    let he : e ≡ true = and-l e _ hf in
-    let hd : d ≡ true = and-l d _ he in
-    let hc : c ≡ true = and-l c _ hd in
-    let hb : b ≡ true = and-l b _ hc in
-    record {
-      lower = and-l a _ hb;
-      based = and-r a _ hb;
-      sixteen = and-r b _ hc;
-      named = and-r c _ hd;
-      meets = and-r d _ he;
-      first = and-r e _ hf;
-      behind = and-r f _ hg;
-      capacity = and-r g _ hi;
-      fits = and-r i _ hj;
-      ranged = and-r j _ h;
-    }
-
 -- a present console is one of the sixteen
 pub present-console : (r : Room) (c : ℕ) → length (r .heads) ≡ consoleCount → present r c ≡ true → c < consoleCount
 present-console r c l p =
@@ -102,31 +56,32 @@ pub meets-of : (g : Graph) (u v : ℕ) (o : Option ℕ) → meet g u v ≡ o →
 meets-of g u v none e t = clash t refl
 meets-of g u v (some m) e t = (m, meet-is g u v m e)
 
+-- each clause stands in the chain of tests
 pub sound-facts : (r : Room) → sound r ≡ true → Sound r
-unfolding headsMeet allBehindHeads
+unfolding sound headsMeet allBehindHeads
 sound-facts r h =
-    let t : Tests r = tests r h in
-    let l : length (r .heads) ≡ consoleCount = eqb-true _ _ (t .sixteen) in
+    let l : length (r .heads) ≡ consoleCount = eqb-true _ _ (search (and-l, and-r) depth 12) in
+    let named : headsNameVersions r ≡ true = search (and-l, and-r) depth 12 in
+    let meets : headsMeet r ≡ true = search (and-l, and-r) depth 12 in
+    let behind : allBehindHeads r ≡ true = search (and-l, and-r) depth 12 in
     record {
-      lower = t .lower;
-      based = t .based;
+      lower = search (and-l, and-r) depth 12;
+      based = search (and-l, and-r) depth 12;
       sixteen = l;
       named = λ c v e.
-          names (r .versions) (headOf r c) v
-          (at consoleCount _ (t .named) c (present-console r c l (ap isSome e))) e;
+          names (r .versions) (headOf r c) v (at consoleCount _ named c (present-console r c l (ap isSome e))) e;
       meets = λ c d p q.
           meets-of (r .versions) (head r c) (head r d) _ refl
           (implies-e2 (present r c) (present r d) _
-          (at consoleCount _
-          (at consoleCount _ (t .meets) c (present-console r c l p)) d (present-console r d l q))
+          (at consoleCount _ (at consoleCount _ meets c (present-console r c l p)) d (present-console r d l q))
           p q);
-      first = t .first;
+      first = search (and-l, and-r) depth 12;
       behind = λ v b.
-          let s = some-at consoleCount _ (at (versionCount (r .versions)) _ (t .behind) v b) in
+          let s = some-at consoleCount _ (at (versionCount (r .versions)) _ behind v b) in
           (s .0, and-l (present r (s .0)) _ (s .2), and-r (present r (s .0)) _ (s .2));
-      capacity = t .capacity;
-      fits = leb-true _ _ (t .fits);
-      ranged = t .ranged;
+      capacity = search (and-l, and-r) depth 12;
+      fits = leb-true _ _ (search (and-l, and-r) depth 12);
+      ranged = search (and-l, and-r) depth 12;
     }
 
 -- the way back

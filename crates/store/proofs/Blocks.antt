@@ -1,0 +1,169 @@
+-- Where the parts of a store's encoding stand in it and how long each is: the header with its fields, its row and its table, and the
+-- block of each version with its record, its row and its board.
+-- Assumes nothing.
+use mathlib.Core.Path.{_≡_, refl, subst₂}
+use mathlib.Core.List.{List, _++_}
+use mathlib.Core.Option.{Option, none, some}
+use Prim.Native.Nat.{ℕ, zero, suc, _+_, _-_, _*_, _<_}
+use native.Mathlib.Nat.{not-suc-le-zero, zero-add}
+use native.Mathlib.Decide.{ℕ-discrete}
+use native.Mathlib.Omega.{arith}
+use lib.ListN.{length, length-append}
+use Rattle.buffer.specs.Field.{word, zeros}
+use Rattle.buffer.specs.Row.{row}
+use Rattle.buffer.proofs.Fields.{zeros-length}
+use Rattle.buffer.proofs.Stands.{Stands, stands-left, stands-right}
+use Rattle.buffer.proofs.Rows.{rowFrom-length}
+use Rattle.graph.specs.Graph.{Graph, Node, entry, merge, versionCount, ancestor, isEntry, nodeOf}
+use Rattle.command.specs.Code.{consoleCount}
+use Rattle.room.specs.Room.{Room}
+use Rattle.room.specs.Boards.{boardOf}
+use Rattle.room.proofs.Lengths.{boardOf-length}
+use Rattle.store.specs.Layout.{headerSize, recordSize, rowSize, blockSize, capacityAt, countAt, entriesAt, commonsAt, commonsEnd, commonAt, blockAt, rowAt, boardAt, commonField, commonRow, commonRows, header, recordOf, block, blocks, encode}
+
+pub commonRow-length : (r : Room) (c d n : ℕ) → length (commonRow r c d n) ≡ 2 * n
+unfolding commonRow
+commonRow-length r c d zero = refl
+commonRow-length r c d (suc n) = rw (commonRow-length r c (suc d) n) (omega arith)
+
+pub commonRows-length : (r : Room) (c n : ℕ) → length (commonRows r c n) ≡ 32 * n
+unfolding commonRows
+commonRows-length r c zero = refl
+commonRows-length r c (suc n) =
+    rw (length-append, commonRow-length r c 0 16, commonRows-length r (suc c) n) (omega arith)
+
+pub header-length : (r : Room) → length (header r) ≡ headerSize
+unfolding header
+header-length r =
+    simp (length-append, zeros-length, rowFrom-length (isEntry (r .versions)) 0 128, commonRows-length r 0 16)
+
+pub recordOf-length : (g : Graph) (n : Option Node) → length (recordOf g n) ≡ recordSize
+unfolding recordOf
+recordOf-length g none = refl
+recordOf-length g (some (entry p code strip operand)) = refl
+recordOf-length g (some (merge p q)) = refl
+
+pub block-length : (g : Graph) (v : ℕ) → length (block g v) ≡ blockSize
+unfolding block
+block-length g v =
+    simp (length-append, recordOf-length g (nodeOf g v), rowFrom-length (λ u. ancestor g u v) 0 128, boardOf-length g v)
+
+pub blocks-length : (g : Graph) (n : ℕ) → length (blocks g n) ≡ blockSize * n
+unfolding blocks
+blocks-length g zero = refl
+blocks-length g (suc n) = rw (length-append, blocks-length g n, block-length g n) (omega arith)
+
+-- a field of a row of the table, a row of the table, a block of the blocks: each stands where its number says
+stands-in-row : {s : List ℕ} {at : ℕ} (r : Room) (c d n k : ℕ) → Stands s at (commonRow r c d n) → k < n
+    → Stands s (at + 2 * k) (word (commonField r c (d + k)))
+unfolding commonRow
+stands-in-row r c d zero k h l = absurd (not-suc-le-zero l)
+stands-in-row {s} {at} r c d (suc n) zero h l =
+    subst₂ (λ (i j : ℕ). Stands s i (word (commonField r c j))) (omega arith) (omega arith)
+    (stands-left (word (commonField r c d)) (commonRow r c (suc d) n) h)
+stands-in-row {s} {at} r c d (suc n) (suc k) h l =
+    subst₂ (λ (i j : ℕ). Stands s i (word (commonField r c j))) (omega arith) (omega arith)
+    (stands-in-row r c (suc d) n k (stands-right (word (commonField r c d)) (commonRow r c (suc d) n) h refl) (omega arith))
+
+stands-in-rows : {s : List ℕ} {at : ℕ} (r : Room) (c n k : ℕ) → Stands s at (commonRows r c n) → k < n
+    → Stands s (at + 32 * k) (commonRow r (c + k) 0 16)
+unfolding commonRows
+stands-in-rows r c zero k h l = absurd (not-suc-le-zero l)
+stands-in-rows {s} {at} r c (suc n) zero h l =
+    subst₂ (λ (i j : ℕ). Stands s i (commonRow r j 0 16)) (omega arith) (omega arith)
+    (stands-left (commonRow r c 0 16) (commonRows r (suc c) n) h)
+stands-in-rows {s} {at} r c (suc n) (suc k) h l =
+    subst₂ (λ (i j : ℕ). Stands s i (commonRow r j 0 16)) (omega arith) (omega arith)
+    (stands-in-rows {at = at + 32} r (suc c) n k
+    (stands-right (commonRow r c 0 16) (commonRows r (suc c) n) h (rw commonRow-length)) (omega arith))
+
+stands-in-blocks : {s : List ℕ} {at : ℕ} (g : Graph) (n v : ℕ) → Stands s at (blocks g n) → v < n
+    → Stands s (at + blockSize * v) (block g v)
+unfolding blocks
+stands-in-blocks g zero v h l = absurd (not-suc-le-zero l)
+stands-in-blocks {s} {at} g (suc n) v h l =
+    elim (ℕ-discrete v n) [
+      | yes e ↦ rw e (stands-right (blocks g n) (block g n) h (rw blocks-length))
+      | no ne ↦ stands-in-blocks g n v (stands-left (blocks g n) (block g n) h) (omega arith)
+    ]
+
+-- the start of a header, up to the row of the entry versions; that row; the table
+abbrev start : Room → List ℕ
+start r = word (r .capacity) ++ word (versionCount (r .versions)) ++ zeros (entriesAt - 4)
+
+abbrev entries : Room → List ℕ
+entries r = row (isEntry (r .versions)) rowSize
+
+abbrev table : Room → List ℕ
+table r = commonRows r 0 consoleCount
+
+abbrev filled : Room → List ℕ
+filled r = blocks (r .versions) (versionCount (r .versions))
+
+-- bytes at whose front the encoding of a room stands
+module _ {s : List ℕ} (r : Room) (h : Stands s 0 (encode r)) where
+  stands-used : Stands s 0 (header r ++ filled r)
+  unfolding encode
+  stands-used = stands-left (header r ++ filled r) (zeros (blockSize * (r .capacity - versionCount (r .versions)))) h
+
+  pub stands-header : Stands s 0 (header r)
+  stands-header = stands-left (header r) (filled r) stands-used
+
+  stands-fields : Stands s 0 (start r ++ entries r ++ table r)
+  unfolding header
+  stands-fields = stands-left (start r ++ entries r ++ table r) (zeros (headerSize - commonsEnd)) stands-header
+
+  stands-start : Stands s 0 (start r)
+  stands-start = stands-left (start r) (entries r) (stands-left (start r ++ entries r) (table r) stands-fields)
+
+  pub stands-capacity : Stands s capacityAt (word (r .capacity))
+  stands-capacity =
+      stands-left (word (r .capacity)) (word (versionCount (r .versions)) ++ zeros (entriesAt - 4)) stands-start
+
+  pub stands-count : Stands s countAt (word (versionCount (r .versions)))
+  stands-count =
+      stands-left (word (versionCount (r .versions))) (zeros (entriesAt - 4))
+      (stands-right (word (r .capacity)) (word (versionCount (r .versions)) ++ zeros (entriesAt - 4)) stands-start refl)
+
+  pub stands-entries : Stands s entriesAt (row (isEntry (r .versions)) rowSize)
+  stands-entries = stands-right (start r) (entries r) (stands-left (start r ++ entries r) (table r) stands-fields) refl
+
+  stands-table : Stands s commonsAt (table r)
+  stands-table =
+      stands-right (start r ++ entries r) (table r) stands-fields
+      (simp rowFrom-length)
+
+  -- the field of two consoles
+  pub stands-common : (c d : ℕ) → c < consoleCount → d < consoleCount → Stands s (commonAt c d) (word (commonField r c d))
+  stands-common c d i j =
+      subst₂ (λ (at e : ℕ). Stands s at (word (commonField r c e))) (omega arith) (zero-add d)
+      (stands-in-row r c 0 16 d (rw zero-add at (stands-in-rows r 0 16 c stands-table i)) j)
+
+  -- the block of a version, and what it is made of
+  pub stands-block : (v : ℕ) → v < versionCount (r .versions) → Stands s (blockAt v) (block (r .versions) v)
+  stands-block v l =
+      stands-in-blocks (r .versions) (versionCount (r .versions)) v
+      (stands-right (header r) (filled r) stands-used (rw header-length)) l
+
+  module _ (v : ℕ) (l : v < versionCount (r .versions)) where
+    abbrev lineage : List ℕ
+    lineage = row (λ u. ancestor (r .versions) u v) rowSize
+
+    abbrev note : List ℕ
+    note = recordOf (r .versions) (nodeOf (r .versions) v)
+
+    stands-ahead : Stands s (blockAt v) (note ++ lineage)
+    unfolding block
+    stands-ahead = stands-left (note ++ lineage) (boardOf (r .versions) v) (stands-block v l)
+
+    pub stands-record : Stands s (blockAt v) (recordOf (r .versions) (nodeOf (r .versions) v))
+    stands-record = stands-left note lineage stands-ahead
+
+    pub stands-row : Stands s (rowAt v) (row (λ u. ancestor (r .versions) u v) rowSize)
+    stands-row = stands-right note lineage stands-ahead (rw recordOf-length)
+
+    pub stands-board : Stands s (boardAt v) (boardOf (r .versions) v)
+    unfolding block
+    stands-board =
+        stands-right (note ++ lineage) (boardOf (r .versions) v) (stands-block v l)
+        (simp (length-append, recordOf-length, rowFrom-length) (omega arith))

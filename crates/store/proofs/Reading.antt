@@ -1,0 +1,122 @@
+-- Reading versions and heads off bytes at whose front the encoding of a room of sound ranges stands gives the room's own.
+-- Assumes nothing.
+use mathlib.Core.Path.{_≡_, refl, sym, ap, ap₂, _∙_}
+use mathlib.Core.Bool.{Bool, true, false, _&&_}
+use mathlib.Core.List.{List, [], _∷_}
+use mathlib.Core.Option.{Option, none, some}
+use Prim.Native.Nat.{ℕ, zero, suc, _+_, _≤_, _<_}
+use native.Mathlib.Nat.{not-suc-le-zero, le-of-suc-le-suc, zero-add}
+use native.Mathlib.Omega.{arith}
+use lib.Dec.{eqb}
+use lib.ListN.{length, getD}
+use lib.Seq.{ext-getD}
+use borrow.Author.Tests.{leb-true, ltb-true, eq-eqb, ne-eqb}
+use Rattle.laws.proofs.Logic.{and-l, and-r, cond-true, cond-false}
+use Rattle.buffer.specs.Field.{wordAt}
+use Rattle.buffer.proofs.Stands.{Stands, stands-first, stands-field, stands-word}
+use Rattle.graph.specs.Graph.{isSome, Graph, Node, entry, merge, versionCount, nodeOf, everyVersion, parentsLower}
+use Rattle.command.specs.Code.{consoleCount}
+use Rattle.room.specs.Room.{Room, headOf, present, head, common}
+use Rattle.room.specs.Sound.{entryInRange, namesVersion}
+use Rattle.store.specs.Layout.{fieldWhere, blockAt, commonAt, headAt, capacityAt, countAt, commonField, recordOf, encode, nodeAt, versionsAt, headIn, headsAt}
+use Rattle.store.proofs.Diagonal.{meetNumber-below, meetNumber-self}
+use Rattle.store.proofs.Blocks.{stands-common, stands-record, stands-capacity, stands-count}
+use Rattle.store.proofs.Ranges.{Ranges, operand-fits}
+
+-- a version in range reads back from its record; the graph g that its base is taken from does not matter
+pub node-read : (s : List ℕ) (v : ℕ) (g before : Graph) (n : Node)
+    → Stands s (blockAt v) (recordOf g (some n))
+    → length before < 1024 → parentsLower before n ≡ true → entryInRange before n ≡ true
+    → nodeAt s v ≡ n
+unfolding recordOf nodeAt
+node-read s v g before (entry p code strip operand) h l i j =
+    let a = leb-true 2 code (search (and-l, and-r)) in
+    let b = leb-true code 8 (search (and-l, and-r)) in
+    let c = ltb-true strip 32 (search (and-l, and-r)) in
+    let d = operand-fits code operand (search (and-l, and-r)) in
+    let e = ltb-true p (versionCount before) i in
+    let first : getD s (blockAt v) 0 ≡ code = stands-first h ∙ omega arith in
+    let second : getD s (blockAt v + 1) 0 ≡ strip = h .read 1 (omega arith) ∙ omega arith in
+    let third = stands-field h 2 operand (omega arith) refl refl (omega arith) in
+    let fourth = stands-field h 4 p (omega arith) refl refl (omega arith) in
+    let other : eqb code 9 ≡ false = ne-eqb code 9 (omega arith) in
+    cc
+node-read s v g before (merge p q) h l i j =
+    let a = ltb-true p (versionCount before) (search and-l) in
+    let b = ltb-true q (versionCount before) (search and-r) in
+    let first : getD s (blockAt v) 0 ≡ 9 = stands-first h in
+    let third = stands-field h 4 p (omega arith) refl refl (omega arith) in
+    let fourth = stands-field h 6 q (omega arith) refl refl (omega arith) in
+    cc
+
+node-newest : (n : Node) (g : Graph) → nodeOf (n ∷ g) (versionCount g) ≡ some n
+unfolding nodeOf
+node-newest n g =
+    cond-true (eqb (versionCount g) (versionCount g)) (some n) (nodeOf g (versionCount g)) (eq-eqb (versionCount g) (versionCount g) refl)
+
+node-older : (n : Node) (g : Graph) (v : ℕ) → v ≤ length g → nodeOf (n ∷ g) v ≡ nodeOf g v
+unfolding nodeOf
+node-older n g v l = cond-false (eqb v (versionCount g)) (some n) (nodeOf g v) (ne-eqb v (versionCount g) (omega arith))
+
+-- the versions of h read back where their records stand, whatever graph g the bases are taken from
+nodes-read : (s : List ℕ) (g h : Graph)
+    → ((v : ℕ) → v ≤ length h → Stands s (blockAt v) (recordOf g (nodeOf h v)))
+    → length h < 1024 → everyVersion parentsLower h ≡ true → everyVersion entryInRange h ≡ true
+    → versionsAt s (length h) ≡ h
+unfolding versionsAt everyVersion
+nodes-read s g [] at l p e = refl
+nodes-read s g (n ∷ h) at l p e =
+    ap₂ _∷_
+    (node-read s (versionCount h) g h n (rw node-newest at (at (versionCount h) (omega arith))) (omega arith) (search and-l) (search and-l))
+    (nodes-read s g h (λ v k. rw (node-older n h v k) at (at v (omega arith))) (omega arith) (search and-r) (search and-r))
+
+-- the heads that are read, one by one
+pub headsAt-length : (s : List ℕ) (c n : ℕ) → length (headsAt s c n) ≡ n
+unfolding headsAt
+headsAt-length s c zero = refl
+headsAt-length s c (suc n) = ap suc (headsAt-length s (suc c) n)
+
+pub headsAt-one : (s : List ℕ) (c n k : ℕ) → k < n → getD (headsAt s c n) k none ≡ headIn (wordAt s (headAt (c + k)))
+unfolding headsAt
+headsAt-one s c zero k l = absurd (not-suc-le-zero l)
+headsAt-one s c (suc n) zero l = ap (λ (i : ℕ). headIn (wordAt s (headAt i))) (omega arith)
+headsAt-one s c (suc n) (suc k) l =
+    headsAt-one s (suc c) n k (le-of-suc-le-suc l) ∙ ap (λ (i : ℕ). headIn (wordAt s (headAt i))) (omega arith)
+
+-- no field of the table is above the number of versions
+field-below : (t : Bool) (r : Room) (c d : ℕ) → fieldWhere t r c d ≤ versionCount (r .versions)
+unfolding common
+field-below true r c d = meetNumber-below (r .versions) (head r c) (head r d)
+field-below false r c d = omega arith
+
+-- on the diagonal stands the head
+field-self : (r : Room) (c : ℕ) (o : Option ℕ) → headOf r c ≡ o → namesVersion (r .versions) o ≡ true
+    → headIn (fieldWhere (isSome o && isSome o) r c c) ≡ o
+unfolding common
+field-self r c none e n = refl
+field-self r c (some v) e n = ap some (rw e (meetNumber-self (r .versions) v (ltb-true v (versionCount (r .versions)) n)))
+
+module _ (s : List ℕ) (r : Room) (h : Stands s 0 (encode r)) (k : Ranges r) where
+  pub capacity-read : wordAt s capacityAt ≡ r .capacity
+  capacity-read = stands-word (r .capacity) (stands-capacity r h) (omega arith)
+
+  pub count-read : wordAt s countAt ≡ versionCount (r .versions)
+  count-read = stands-word (versionCount (r .versions)) (stands-count r h) (omega arith)
+
+  pub versions-read : versionsAt s (length (r .versions)) ≡ r .versions
+  versions-read =
+      nodes-read s (r .versions) (r .versions) (λ v l. stands-record r h v (omega arith)) (omega arith) (k .parents) (k .entries)
+
+  -- the field of any two consoles
+  pub common-read : (c d : ℕ) → c < consoleCount → d < consoleCount → wordAt s (commonAt c d) ≡ commonField r c d
+  common-read c d i j = stands-word (commonField r c d) (stands-common r h c d i j)
+      (omega (arith, field-below (present r c && present r d) r c d))
+
+  pub head-read : (c : ℕ) → c < consoleCount → headIn (wordAt s (headAt c)) ≡ headOf r c
+  head-read c i = ap headIn (common-read c c i i) ∙ field-self r c (headOf r c) refl (k .heads c i)
+
+  pub heads-read : headsAt s 0 consoleCount ≡ r .heads
+  heads-read =
+      ext-getD none (headsAt s 0 consoleCount) (r .heads)
+      (headsAt-length s 0 consoleCount ∙ sym (k .sixteen))
+      (λ c l. let m : c < consoleCount = rw headsAt-length at l in headsAt-one s 0 consoleCount c m ∙ rw zero-add (head-read c m))
