@@ -3,3 +3,4 @@ pub mod Sound
 pub mod Moves
 pub mod NewMeets
 pub mod Steps
+pub mod Counters

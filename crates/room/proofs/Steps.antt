@@ -13,7 +13,8 @@ use borrow.Author.Tests.{leb-false, lt-ltb, ne-eqb, eqb-false, not-false}
 use lib.Dec.{lit<, eqb}
 use Rattle.board.specs.declared.Strip.{Strip}
 use Rattle.laws.proofs.Logic.{clash, decide, refuted, and-l, and-r, and-i, and-rest, implies-i2, implies-e2, or-none-l, or-none-r, not-e, not-i}
-use Rattle.graph.specs.Graph.{Graph, Node, entry, merge, versionCount, ancestor, meet, isSome, parentsLower, mergeHasBase}
+use Rattle.graph.specs.Graph.{Graph, Node, entry, merge, versionCount, ancestor, meet, isSome, isMeet, everyVersion, parentsLower, mergeHasBase}
+use Rattle.graph.specs.Below.{everyBelow, someBelow, highestBelow}
 use Rattle.graph.proofs.Below.{at, of, some-at, some-of}
 use Rattle.graph.proofs.Parent.{Parent, sole, receiver, giver}
 use Rattle.graph.proofs.Ancestor.{ancestor-above, ancestor-self}
@@ -24,8 +25,8 @@ use Rattle.command.specs.declared.Command.the-variants.{Fork, Entry, Merge, Fas
 use Rattle.command.specs.Code.{consoleCount, isEntryCode, isStrip, isOperand}
 use Rattle.command.proofs.Refusals.{none-applies}
 use Rattle.command.proofs.Ranges.{InRange}
-use Rattle.room.specs.Room.{Room, headOf, present, head, common}
-use Rattle.room.specs.Sound.{headsMeet, sound}
+use Rattle.room.specs.Room.{Room, headOf, present, head, common, fresh}
+use Rattle.room.specs.Sound.{isCapacity, headsMeet, allBehindHeads, sound}
 use Rattle.room.specs.Step.{absent, behind, apart, splits, someThirdSplits, full, stepRefusal, moved, grown, step}
 use Rattle.room.proofs.Sound.{Sound, present-console, present-head, meets-of, sound-facts, facts-sound}
 use Rattle.room.proofs.Moves.{there, number, new-head, new-number, kept, moved-sound, grown-sound, grown-meets}
@@ -194,3 +195,8 @@ step-sound r (Fork new old) s range h = facts-sound _ (fork-sound r (sound-facts
 step-sound r (Entry console code strip operand) s range h = facts-sound _ (entry-sound r (sound-facts r s) console code strip operand range h)
 step-sound r (Merge a b) s range h = facts-sound _ (merge-sound r (sound-facts r s) a b range h)
 step-sound r (FastForward a b) s range h = facts-sound _ (forward-sound r (sound-facts r s) a b range h)
+
+-- opening gives a sound room
+pub fresh-sound : (capacity : ℕ) → isCapacity capacity ≡ true → sound (fresh capacity) ≡ true
+unfolding sound everyVersion headsMeet allBehindHeads everyBelow someBelow ancestor meet isMeet highestBelow
+fresh-sound capacity h = and-i _ _ (and-i (isCapacity capacity) _ h (and-l _ _ h)) refl
