@@ -1,0 +1,34 @@
+-- A tape's content is accepted exactly where its capacity, its numbers and its room pass.
+-- Assumes nothing.
+use Prim.Native.Nat.{ℕ}
+use mathlib.Core.Path.{_≡_, refl, _∙_}
+use mathlib.Core.Bool.{Bool, true, false, not}
+use mathlib.Core.List.{List, [], _∷_}
+use mathlib.Core.Option.{some}
+use native.Mathlib.Omega.{arith}
+use borrow.Author.Tests.{not-false}
+use Rattle.command.specs.Refusal.{_when_, firstRefusal}
+use Rattle.command.proofs.Refusals.{passed, none-given}
+use Rattle.room.specs.Sound.{isCapacity, sound}
+use Rattle.tape.specs.Tape.{Content, roomOf, inRange, contentRefusal}
+
+pub record Accepted (c : Content) : Type 0 where
+  pub size : isCapacity (c .capacity) ≡ true
+  pub range : inRange c ≡ true
+  pub room : sound (roomOf c) ≡ true
+
+pub accepted : (c : Content) → contentRefusal (some c) ≡ 0 → Accepted c
+unfolding contentRefusal
+accepted c h =
+    let size = none-given 8 _ _ (omega arith) h in
+    let range = none-given 9 _ _ (omega arith) (size .1) in
+    let room = none-given 10 _ _ (omega arith) (range .1) in
+    record { size = not-false _ (size .0); range = not-false _ (range .0); room = not-false _ (room .0) }
+
+pub accepts : (c : Content) → Accepted c → contentRefusal (some c) ≡ 0
+unfolding contentRefusal firstRefusal
+accepts c a = simp (a .size, a .range, a .room)
+
+-- the room of an accepted tape is sound
+pub accepted-sound : (c : Content) → contentRefusal (some c) ≡ 0 → sound (roomOf c) ≡ true
+accepted-sound c h = accepted c h .room
