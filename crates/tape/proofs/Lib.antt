@@ -1,3 +1,4 @@
 pub mod Records
 pub mod Accepted
 pub mod Heads
+pub mod Reading
