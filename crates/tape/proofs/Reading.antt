@@ -7,17 +7,18 @@ use mathlib.Core.List.{List, [], _∷_, _++_, append-assoc}
 use mathlib.Core.Option.{Option, none, some}
 use native.Mathlib.Omega.{arith}
 use native.Mathlib.Nat.{zero-add, not-suc-le-zero}
-use lib.Dec.{eqb}
+use lib.Dec.{eqb, ltb}
 use lib.ListN.{length, drop, length-append}
 use borrow.Author.Tests.{ltb-true, leb-true}
 use Rattle.laws.proofs.Logic.{and-l, and-r}
 use Rattle.graph.specs.Graph.{Graph, Node, entry, merge, versionCount, everyVersion, parentsLower}
 use Rattle.command.specs.Code.{consoleCount, shapeOf, lengthOf, operandsOf}
+use Rattle.command.proofs.Ranges.{entry-below}
 use Rattle.room.specs.Sound.{entryInRange}
 use Rattle.tape.specs.declared.Record.{Record}
 use Rattle.tape.specs.declared.Record.the-variants.{Start, Entry, Merge, Head, End, Broken}
 use Rattle.tape.specs.Record.{recordAt, recordLength, recordFrom, recordBytes}
-use Rattle.tape.specs.Tape.{Content, Stage, inVersions, inHeads, Next, goOn, finish, refuse, afterRecord, readOn, versionRecord, versionRecords, headRecords}
+use Rattle.tape.specs.Tape.{Content, Stage, inVersions, inHeads, Next, goOn, finish, refuse, afterRecord, readOn, withHead, versionRecord, versionRecords, headRecords}
 use Rattle.tape.proofs.Records.{Fits, record-read, record-rest}
 use Rattle.tape.proofs.Heads.{headsFrom, Named, named-tail}
 
@@ -27,30 +28,31 @@ go k t rest (goOn next more) = readOn k next more (drop (recordLength rest) rest
 go k t rest finish = cond (eqb (length rest) (recordLength rest)) (some t) none
 go k t rest refuse = none
 
-pub read-step : (k : ℕ) (stage : Stage) (t : Content) (rest : List ℕ)
-    → readOn (suc k) stage t rest ≡ elim (afterRecord stage t (recordAt rest)) [
-      | goOn next more ↦ readOn k next more (drop (recordLength rest) rest)
-      | finish ↦ cond (eqb (length rest) (recordLength rest)) (some t) none
-      | refuse ↦ none
-    ]
+pub read-step : (k : ℕ) (stage : Stage) (t : Content) (rest : List ℕ) (n : Next) → afterRecord stage t (recordAt rest) ≡ n
+    → readOn (suc k) stage t rest ≡ go k t rest n
 unfolding readOn
-read-step k stage t rest = refl
-
-try : (k : ℕ) (stage : Stage) (t : Content) (rest : List ℕ)
-    → (n : Next) → afterRecord stage t (recordAt rest) ≡ n → readOn (suc k) stage t rest ≡ go k t rest n
-unfolding readOn go
-try k stage t rest (goOn next more) e = rw (e, readOn)
-try k stage t rest finish e = cc
-try k stage t rest refuse e = rw (readOn, e) ?
+read-step k stage t rest (goOn next more) e = cc
+read-step k stage t rest finish e = cc
+read-step k stage t rest refuse e = cc
 
 -- a record that may stand there is read, and reading goes on after it
 read-one : (k : ℕ) (stage next : Stage) (t more : Content) (x : Record) (rest : List ℕ) → Fits x → afterRecord stage t x ≡ goOn next more
     → readOn (suc k) stage t (recordBytes x ++ rest) ≡ readOn k next more rest
-read-one k stage next t more x rest fits e = rw (read-step, record-read x rest fits, e, record-rest x rest fits)
+read-one k stage next t more x rest fits e =
+    read-step k stage t (recordBytes x ++ rest) (goOn next more) (rw (record-read x rest fits) e) ∙ rw (record-rest x rest fits)
 
 node-fits : (g : Graph) (n : Node) → parentsLower g n ≡ true → entryInRange g n ≡ true → length g < 65535 → Fits (versionRecord n)
-node-fits g (entry p code strip operand) lower range l = ?
-node-fits g (merge p q) lower range l = ?
+node-fits g (entry p code strip operand) lower range l =
+    let below = entry-below code strip operand range in omega (arith, ltb-true p (versionCount g) lower)
+node-fits g (merge p q) lower range l =
+    omega (arith, ltb-true p (versionCount g) (and-l _ _ lower), ltb-true q (versionCount g) (and-r (ltb p (versionCount g)) _ lower))
+
+reads-version : (capacity : ℕ) (g : Graph) (n : Node)
+    → afterRecord inVersions (record { capacity = capacity; versions = g; heads = [] }) (versionRecord n)
+    ≡ goOn inVersions (record { capacity = capacity; versions = n ∷ g; heads = [] })
+unfolding afterRecord
+reads-version capacity g (entry p code strip operand) = refl
+reads-version capacity g (merge p q) = refl
 
 read-versions : (g : Graph) (k capacity : ℕ) (rest : List ℕ) → everyVersion parentsLower g ≡ true → everyVersion entryInRange g ≡ true
     → length g < 65536
@@ -58,4 +60,28 @@ read-versions : (g : Graph) (k capacity : ℕ) (rest : List ℕ) → everyVersio
     ≡ readOn k inVersions (record { capacity = capacity; versions = g; heads = [] }) rest
 unfolding versionRecords everyVersion
 read-versions [] k capacity rest lower range l = rw zero-add
-read-versions (n ∷ g) k capacity rest lower range l = ?
+read-versions (n ∷ g) k capacity rest lower range l =
+    let fits = node-fits g n (and-l _ _ lower) (and-l _ _ range) (omega arith) in
+    let fuel : suc (length g) + k ≡ length g + suc k = omega arith in
+    rw (fuel, append-assoc)
+      (read-versions g (suc k) capacity (recordBytes (versionRecord n) ++ rest) (and-r (parentsLower g n) _ lower) (and-r (entryInRange g n) _ range) (omega arith)
+        ∙ read-one k inVersions inVersions _ _ (versionRecord n) rest fits (reads-version capacity g n))
+
+read-end : (k : ℕ) (t : Content) → readOn (suc k) inHeads t (recordBytes End) ≡ some t
+unfolding readOn recordAt recordFrom recordBytes shapeOf lengthOf afterRecord
+read-end k t = refl
+
+-- the heads from console c on are read up to the end
+read-heads : (k c : ℕ) (later : List (Option ℕ)) (t : Content) → length (headRecords c later) < k → Named (t .versions) later
+    → length (t .versions) < 65535 → c + length later ≤ consoleCount
+    → readOn k inHeads t (headRecords c later ++ recordBytes End)
+    ≡ some (record { capacity = t .capacity; versions = t .versions; heads = headsFrom c later (t .heads) })
+unfolding headRecords recordBytes afterRecord
+read-heads zero c later t fuel named l fit = absurd (not-suc-le-zero fuel)
+read-heads (suc k) c [] t fuel named l fit = read-end k t
+read-heads (suc k) c (none ∷ later) t fuel named l fit =
+    read-heads (suc k) (suc c) later t fuel (named-tail (t .versions) none later named) l (omega arith)
+read-heads (suc k) c (some v ∷ later) t fuel named l fit =
+    let version = ltb-true v (versionCount (t .versions)) (named 0 (omega arith)) in
+    read-one k inHeads inHeads t (withHead t c v) (Head (record { 0 = c }) (record { 0 = v })) _ (omega arith) refl
+    ∙ read-heads k (suc c) later (withHead t c v) (omega arith) (named-tail (t .versions) (some v) later named) l (omega arith)
