@@ -66,13 +66,17 @@ Named g heads = (k : ℕ) → k < length heads → namesVersion g (getD heads k 
 pub named-tail : (g : Graph) (h : Option ℕ) (later : List (Option ℕ)) → Named g (h ∷ later) → Named g later
 named-tail g h later n k l = n (suc k) (omega arith)
 
-pub named-from : (g : Graph) (c : ℕ) (later : List (Option ℕ)) (before : List (ℕ × ℕ)) → Named g later → headsNamed g before ≡ true
+named-from : (g : Graph) (c : ℕ) (later : List (Option ℕ)) (before : List (ℕ × ℕ)) → Named g later → headsNamed g before ≡ true
     → headsNamed g (headsFrom c later before) ≡ true
 unfolding headsNamed
 named-from g c [] before n h = h
 named-from g c (none ∷ later) before n h = named-from g (suc c) later before (named-tail g none later n) h
 named-from g c (some v ∷ later) before n h =
     named-from g (suc c) later ((c, v) ∷ before) (named-tail g (some v) later n) (and-i _ _ (n 0 (omega arith)) h)
+
+pub all-named : (g : Graph) (heads : List (Option ℕ)) → Named g heads → headsNamed g (headsFrom 0 heads []) ≡ true
+unfolding headsNamed
+all-named g heads n = named-from g 0 heads [] n refl
 
 -- The other way: the slots that records with rising consoles fill.
 

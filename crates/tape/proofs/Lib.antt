@@ -2,3 +2,4 @@ pub mod Records
 pub mod Accepted
 pub mod Heads
 pub mod Reading
+pub mod RoundTrip

@@ -8,10 +8,10 @@ use mathlib.Core.Option.{Option, none, some}
 use native.Mathlib.Omega.{arith}
 use native.Mathlib.Nat.{zero-add, not-suc-le-zero}
 use lib.Dec.{eqb, ltb}
-use lib.ListN.{length, drop, length-append}
+use lib.ListN.{length, getD, drop, length-append}
 use borrow.Author.Tests.{ltb-true, leb-true}
-use Rattle.laws.proofs.Logic.{and-l, and-r}
-use Rattle.graph.specs.Graph.{Graph, Node, entry, merge, versionCount, everyVersion, parentsLower}
+use Rattle.laws.proofs.Logic.{clash, and-l, and-r}
+use Rattle.graph.specs.Graph.{Graph, Node, entry, merge, versionCount, isSome, everyVersion, parentsLower}
 use Rattle.command.specs.Code.{consoleCount, shapeOf, lengthOf, operandsOf}
 use Rattle.command.proofs.Ranges.{entry-below}
 use Rattle.room.specs.Sound.{entryInRange}
@@ -21,6 +21,10 @@ use Rattle.tape.specs.Record.{recordAt, recordLength, recordFrom, record
 use Rattle.tape.specs.Tape.{Content, Stage, inVersions, inHeads, Next, goOn, finish, refuse, afterRecord, readOn, withHead, versionRecord, versionRecords, headRecords}
 use Rattle.tape.proofs.Records.{Fits, record-read, record-rest}
 use Rattle.tape.proofs.Heads.{headsFrom, Named, named-tail}
+
+-- a content with other heads
+abbrev pub withHeads : Content → List (ℕ × ℕ) → Content
+withHeads t heads = record { capacity = t .capacity; versions = t .versions; heads = heads }
 
 -- one step of reading, over what the record at the front says of it
 abbrev pub go : ℕ → Content → List ℕ → Next → Option Content
@@ -54,7 +58,14 @@ unfolding afterRecord
 reads-version capacity g (entry p code strip operand) = refl
 reads-version capacity g (merge p q) = refl
 
-read-versions : (g : Graph) (k capacity : ℕ) (rest : List ℕ) → everyVersion parentsLower g ≡ true → everyVersion entryInRange g ≡ true
+-- each version takes a byte at least
+pub versions-long : (g : Graph) → length g ≤ length (versionRecords g)
+unfolding versionRecords recordBytes
+versions-long [] = omega arith
+versions-long (entry p code strip operand ∷ g) = simp length-append (omega (arith, versions-long g))
+versions-long (merge p q ∷ g) = simp length-append (omega (arith, versions-long g))
+
+pub read-versions : (g : Graph) (k capacity : ℕ) (rest : List ℕ) → everyVersion parentsLower g ≡ true → everyVersion entryInRange g ≡ true
     → length g < 65536
     → readOn (length g + k) inVersions (record { capacity = capacity; versions = []; heads = [] }) (versionRecords g ++ rest)
     ≡ readOn k inVersions (record { capacity = capacity; versions = g; heads = [] }) rest
@@ -64,24 +75,44 @@ read-versions (n ∷ g) k capacity rest lower range l =
     let fits = node-fits g n (and-l _ _ lower) (and-l _ _ range) (omega arith) in
     let fuel : suc (length g) + k ≡ length g + suc k = omega arith in
     rw (fuel, append-assoc)
-      (read-versions g (suc k) capacity (recordBytes (versionRecord n) ++ rest) (and-r (parentsLower g n) _ lower) (and-r (entryInRange g n) _ range) (omega arith)
-        ∙ read-one k inVersions inVersions _ _ (versionRecord n) rest fits (reads-version capacity g n))
+    (read-versions g (suc k) capacity (recordBytes (versionRecord n) ++ rest) (and-r (parentsLower g n) _ lower) (and-r (entryInRange g n) _ range) (omega arith)
+    ∙ read-one k inVersions inVersions _ _ (versionRecord n) rest fits (reads-version capacity g n))
 
 read-end : (k : ℕ) (t : Content) → readOn (suc k) inHeads t (recordBytes End) ≡ some t
 unfolding readOn recordAt recordFrom recordBytes shapeOf lengthOf afterRecord
 read-end k t = refl
 
+-- a head record is read wherever heads may stand
+read-head : (k c v : ℕ) (stage : Stage) (t : Content) (rest : List ℕ) → c < 256 → v < 65536
+    → readOn (suc k) stage t (recordBytes (Head (record { 0 = c }) (record { 0 = v })) ++ rest)
+    ≡ readOn k inHeads (withHead t c v) rest
+unfolding afterRecord
+read-head k c v inVersions t rest hc hv = read-one k inVersions inHeads t (withHead t c v) _ rest (hc, hv) refl
+read-head k c v inHeads t rest hc hv = read-one k inHeads inHeads t (withHead t c v) _ rest (hc, hv) refl
+
 -- the heads from console c on are read up to the end
 read-heads : (k c : ℕ) (later : List (Option ℕ)) (t : Content) → length (headRecords c later) < k → Named (t .versions) later
     → length (t .versions) < 65535 → c + length later ≤ consoleCount
-    → readOn k inHeads t (headRecords c later ++ recordBytes End)
-    ≡ some (record { capacity = t .capacity; versions = t .versions; heads = headsFrom c later (t .heads) })
-unfolding headRecords recordBytes afterRecord
+    → readOn k inHeads t (headRecords c later ++ recordBytes End) ≡ some (withHeads t (headsFrom c later (t .heads)))
+unfolding headRecords recordBytes
 read-heads zero c later t fuel named l fit = absurd (not-suc-le-zero fuel)
 read-heads (suc k) c [] t fuel named l fit = read-end k t
 read-heads (suc k) c (none ∷ later) t fuel named l fit =
     read-heads (suc k) (suc c) later t fuel (named-tail (t .versions) none later named) l (omega arith)
 read-heads (suc k) c (some v ∷ later) t fuel named l fit =
     let version = ltb-true v (versionCount (t .versions)) (named 0 (omega arith)) in
-    read-one k inHeads inHeads t (withHead t c v) (Head (record { 0 = c }) (record { 0 = v })) _ (omega arith) refl
+    read-head k c v inHeads t _ (omega arith) (omega arith)
     ∙ read-heads k (suc c) later (withHead t c v) (omega arith) (named-tail (t .versions) (some v) later named) l (omega arith)
+
+-- and so are all heads after the versions, where console 0 is there
+pub read-all-heads : (k : ℕ) (heads : List (Option ℕ)) (t : Content) → length (headRecords 0 heads) < k
+    → isSome (getD heads 0 none) ≡ true → Named (t .versions) heads → length (t .versions) < 65535 → length heads ≤ consoleCount
+    → readOn k inVersions t (headRecords 0 heads ++ recordBytes End) ≡ some (withHeads t (headsFrom 0 heads (t .heads)))
+unfolding headRecords recordBytes
+read-all-heads zero heads t fuel first named l fit = absurd (not-suc-le-zero fuel)
+read-all-heads (suc k) [] t fuel first named l fit = clash first refl
+read-all-heads (suc k) (none ∷ later) t fuel first named l fit = clash first refl
+read-all-heads (suc k) (some v ∷ later) t fuel first named l fit =
+    let version = ltb-true v (versionCount (t .versions)) (named 0 (omega arith)) in
+    read-head k 0 v inVersions t _ (omega arith) (omega arith)
+    ∙ read-heads k 1 later (withHead t 0 v) (omega arith) (named-tail (t .versions) (some v) later named) l (omega arith)

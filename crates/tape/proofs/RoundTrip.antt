@@ -1,0 +1,102 @@
+-- The tape of a sound room is accepted and gives back that room; an accepted tape is the tape of its room, byte for byte.
+-- Assumes nothing.
+use Prim.Native.Nat.{ℕ, zero, suc, _+_, _-_, _≤_, _<_}
+use mathlib.Core.Path.{_≡_, refl, sym, _∙_, ap}
+use mathlib.Core.Bool.{Bool, true, false, not, _&&_}
+use mathlib.Core.List.{List, [], _∷_, _++_, append-assoc}
+use mathlib.Core.Option.{Option, none, some}
+use native.Mathlib.Omega.{arith}
+use native.Mathlib.Decide.{ℕ-discrete}
+use native.Mathlib.Nat.{not-suc-le-zero}
+use lib.Dec.{eqb, ltb, leb}
+use lib.ListN.{length, getD, drop, length-append}
+use borrow.Author.Tests.{ltb-true, leb-true, eqb-true, le-ltb}
+use Rattle.laws.proofs.Logic.{and-i, and-l, and-r}
+use Rattle.graph.specs.Below.{everyBelow}
+use Rattle.graph.specs.Graph.{Graph, versionCount, everyVersion, parentsLower, mergeHasBase}
+use Rattle.command.specs.Code.{consoleCount}
+use Rattle.command.proofs.Ranges.{within-true}
+use Rattle.room.specs.Room.{Room, headOf, present}
+use Rattle.room.specs.Sound.{sound, isCapacity, headsNameVersions, headsMeet, allBehindHeads, entryInRange, namesVersion, maxCapacity}
+use Rattle.tape.specs.declared.Record.the-variants.{Start, Head, End}
+use Rattle.tape.specs.Record.{recordAt, recordLength, recordBytes}
+use Rattle.tape.specs.Tape.{Content, inVersions, readOn, readFrom, contentOf, contentRefusal, roomOf, tapeOf, versionRecords, headRecords, headSlots, inRange}
+use Rattle.tape.proofs.Records.{Bytes, record-read, record-rest}
+use Rattle.tape.proofs.Accepted.{Accepted, accepted, accepts}
+use Rattle.tape.proofs.Heads.{headsFrom, Named, all-named, slots-back, rises}
+use Rattle.tape.proofs.Reading.{read-versions, versions-long, read-all-heads}
+
+-- what the tape of a room says
+abbrev pub contentIn : Room → Content
+contentIn r = record { capacity = r .capacity; versions = r .versions; heads = headsFrom 0 (r .heads) [] }
+
+every-at : (n : ℕ) (f : ℕ → Bool) → everyBelow n f ≡ true → (k : ℕ) → k < n → f k ≡ true
+unfolding everyBelow
+every-at zero f h k l = absurd (not-suc-le-zero l)
+every-at (suc n) f h k l =
+    elim (ℕ-discrete k n) [
+      | yes e ↦ rw e (and-r (everyBelow n f) (f n) h)
+      | no ne ↦ every-at n f (and-l (everyBelow n f) (f n) h) k (omega arith)
+    ]
+
+-- what the tape needs of a sound room
+record Kept (r : Room) : Type 0 where
+  lower : everyVersion parentsLower (r .versions) ≡ true
+  sixteen : length (r .heads) ≡ consoleCount
+  named : Named (r .versions) (r .heads)
+  first : present r 0 ≡ true
+  size : isCapacity (r .capacity) ≡ true
+  room : versionCount (r .versions) ≤ r .capacity
+  range : everyVersion entryInRange (r .versions) ≡ true
+
+kept : (r : Room) → sound r ≡ true → Kept r
+unfolding sound
+kept r h =
+    let sixteen : length (r .heads) ≡ consoleCount = eqb-true _ _ (search (and-l, and-r) depth 12) in
+    record {
+      lower = search (and-l, and-r) depth 12;
+      sixteen = sixteen;
+      named = λ k l. every-at consoleCount (λ c. namesVersion (r .versions) (headOf r c)) (search (and-l, and-r) depth 12) k (omega arith);
+      first = search (and-l, and-r) depth 12;
+      size = search (and-l, and-r) depth 12;
+      room = leb-true _ _ (search (and-l, and-r) depth 12);
+      range = search (and-l, and-r) depth 12;
+    }
+
+tape-parts : (r : Room) → tapeOf r ≡ recordBytes (Start (r .capacity)) ++ (versionRecords (r .versions) ++ (headRecords 0 (r .heads) ++ recordBytes End))
+unfolding tapeOf
+tape-parts r = simp append-assoc
+
+module _ (r : Room) (k : Kept r) where
+  few : length (r .versions) < maxCapacity
+  few = omega (arith, k .room, within-true 1 maxCapacity (r .capacity) (k .size))
+
+  read-parts : (fuel : ℕ) → length (versionRecords (r .versions)) + length (headRecords 0 (r .heads)) < fuel
+      → readOn fuel inVersions (record { capacity = r .capacity; versions = []; heads = [] })
+      (versionRecords (r .versions) ++ (headRecords 0 (r .heads) ++ recordBytes End))
+      ≡ some (contentIn r)
+  read-parts fuel enough =
+      let long = versions-long (r .versions) in
+      let split : fuel ≡ length (r .versions) + (fuel - length (r .versions)) = omega arith in
+      rw split
+      (read-versions (r .versions) (fuel - length (r .versions)) (r .capacity) _ (k .lower) (k .range) (omega (arith, few))
+      ∙ read-all-heads _ (r .heads) _ (omega arith) (k .first) (k .named) (omega (arith, few)) (omega (arith, k .sixteen)))
+
+  tape-read : contentOf (tapeOf r) ≡ some (contentIn r)
+  unfolding contentOf recordBytes
+  tape-read =
+      let fits : r .capacity < 65536 = omega (arith, within-true 1 maxCapacity (r .capacity) (k .size)) in
+      rw (tape-parts, record-read (Start (r .capacity)) _ fits, record-rest (Start (r .capacity)) _ fits) (read-parts _ (simp length-append (omega arith)))
+
+  content-accepted : sound r ≡ true → Accepted (contentIn r)
+  content-accepted h =
+      record {
+        size = k .size;
+        range = simp (le-ltb (r .capacity) (versionCount (r .versions)) (k .room), k .lower, k .range, rises (r .heads) (k .sixteen) (k .first), all-named (r .versions) (r .heads) (k .named));
+        room = rw (slots-back (r .heads) (k .sixteen)) h;
+      }
+
+-- the tape of a sound room is accepted, and gives back that room
+pub tape-back : (r : Room) → sound r ≡ true
+    → (c : Content) × (contentOf (tapeOf r) ≡ some c) × (contentRefusal (some c) ≡ 0) × (roomOf c ≡ r)
+tape-back r h = let k = kept r h in (contentIn r, tape-read r k, accepts (contentIn r) (content-accepted r k h), rw (slots-back (r .heads) (k .sixteen)))
