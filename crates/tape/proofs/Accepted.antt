@@ -28,7 +28,3 @@ accepted c h =
 pub accepts : (c : Content) → Accepted c → contentRefusal (some c) ≡ 0
 unfolding contentRefusal firstRefusal
 accepts c a = simp (a .size, a .range, a .room)
-
--- the room of an accepted tape is sound
-pub accepted-sound : (c : Content) → contentRefusal (some c) ≡ 0 → sound (roomOf c) ≡ true
-accepted-sound c h = accepted c h .room

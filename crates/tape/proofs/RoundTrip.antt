@@ -20,10 +20,11 @@ use Rattle.room.specs.Room.{Room, headOf, present}
 use Rattle.room.specs.Sound.{sound, isCapacity, headsNameVersions, headsMeet, allBehindHeads, entryInRange, namesVersion, maxCapacity}
 use Rattle.tape.specs.declared.Record.the-variants.{Start, Head, End}
 use Rattle.tape.specs.Record.{recordAt, recordLength, recordBytes}
-use Rattle.tape.specs.Tape.{Content, inVersions, readOn, readFrom, contentOf, contentRefusal, roomOf, tapeOf, versionRecords, headRecords, headSlots, inRange}
+use Rattle.tape.specs.Tape.{Content, inVersions, readOn, readFrom, contentOf, contentRefusal, roomOf, tapeOf, versionRecords, headRecords, inRange, consolesRise, headsNamed}
 use Rattle.tape.proofs.Records.{Bytes, record-read, record-rest}
 use Rattle.tape.proofs.Accepted.{Accepted, accepted, accepts}
-use Rattle.tape.proofs.Heads.{headsFrom, Named, all-named, slots-back, rises}
+use Rattle.tape.proofs.Heads.{headsFrom, Named, slots-forth, all-named, slots-back, rises}
+use Rattle.tape.proofs.Written.{written, tape-written}
 use Rattle.tape.proofs.Reading.{read-versions, versions-long, read-all-heads}
 
 -- what the tape of a room says
@@ -100,3 +101,14 @@ module _ (r : Room) (k : Kept r) where
 pub tape-back : (r : Room) → sound r ≡ true
     → (c : Content) × (contentOf (tapeOf r) ≡ some c) × (contentRefusal (some c) ≡ 0) × (roomOf c ≡ r)
 tape-back r h = let k = kept r h in (contentIn r, tape-read r k, accepts (contentIn r) (content-accepted r k h), rw (slots-back (r .heads) (k .sixteen)))
+
+-- an accepted tape is the tape of its room
+pub tape-forth : (t : List ℕ) (c : Content) → Bytes t → contentOf t ≡ some c → contentRefusal (some c) ≡ 0 → tapeOf (roomOf c) ≡ t
+unfolding tapeOf
+tape-forth t c bytes e a =
+    let rise : consolesRise (c .heads) ≡ true = let range = accepted c a .range in search (and-l, and-r) in
+    simp (slots-forth (c .heads) rise, tape-written t c bytes e, append-assoc)
+
+-- the room of an accepted tape is sound
+pub accepted-sound : (c : Content) → contentRefusal (some c) ≡ 0 → sound (roomOf c) ≡ true
+accepted-sound c a = accepted c a .room
