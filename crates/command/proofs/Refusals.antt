@@ -1,4 +1,4 @@
--- No refusal is given exactly where no refusal's case is there.
+-- Where no refusal is given, the case of none is there.
 -- Assumes nothing.
 use Prim.Native.Nat.{ℕ}
 use mathlib.Core.Path.{_≡_, refl}
@@ -6,12 +6,6 @@ use mathlib.Core.Logic.{_≢_}
 use mathlib.Core.Bool.{Bool, true, false}
 use mathlib.Core.List.{List, _∷_}
 use Rattle.command.specs.Refusal.{_when_, firstRefusal}
-
--- a refusal whose case is not there is passed over
-pub passed : (number : ℕ) (case : Bool) (later : List (ℕ × Bool)) → case ≡ false
-    → firstRefusal (number when case ∷ later) ≡ firstRefusal later
-unfolding firstRefusal
-passed number case later h = rw h
 
 -- where none is given, the first's case is not there, and none of the later ones is given
 pub none-given : (number : ℕ) (case : Bool) (later : List (ℕ × Bool)) → number ≢ 0 → firstRefusal (number when case ∷ later) ≡ 0

@@ -1,14 +1,12 @@
 -- A tape's content is accepted exactly where its capacity, its numbers and its room pass.
 -- Assumes nothing.
-use Prim.Native.Nat.{ℕ}
-use mathlib.Core.Path.{_≡_, refl, _∙_}
-use mathlib.Core.Bool.{Bool, true, false, not}
-use mathlib.Core.List.{List, [], _∷_}
+use mathlib.Core.Path.{_≡_}
+use mathlib.Core.Bool.{true}
 use mathlib.Core.Option.{some}
 use native.Mathlib.Omega.{arith}
 use borrow.Author.Tests.{not-false}
-use Rattle.command.specs.Refusal.{_when_, firstRefusal}
-use Rattle.command.proofs.Refusals.{passed, none-given}
+use Rattle.command.specs.Refusal.{firstRefusal}
+use Rattle.command.proofs.Refusals.{none-given}
 use Rattle.room.specs.Sound.{isCapacity, sound}
 use Rattle.tape.specs.Tape.{Content, roomOf, inRange, contentRefusal}
 

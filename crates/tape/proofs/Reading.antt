@@ -1,22 +1,22 @@
 -- The records of versions and of heads, one after the other, are read on to the content that they were written from.
 -- Assumes nothing.
 use Prim.Native.Nat.{ℕ, zero, suc, _+_, _≤_, _<_}
-use mathlib.Core.Path.{_≡_, refl, sym, _∙_, ap}
-use mathlib.Core.Bool.{Bool, true, false, cond, _&&_}
+use mathlib.Core.Path.{_≡_, refl, _∙_}
+use mathlib.Core.Bool.{true, cond}
 use mathlib.Core.List.{List, [], _∷_, _++_, append-assoc}
 use mathlib.Core.Option.{Option, none, some}
 use native.Mathlib.Omega.{arith}
 use native.Mathlib.Nat.{zero-add, not-suc-le-zero}
 use lib.Dec.{eqb, ltb}
 use lib.ListN.{length, getD, drop, length-append}
-use borrow.Author.Tests.{ltb-true, leb-true}
+use borrow.Author.Tests.{ltb-true}
 use Rattle.laws.proofs.Logic.{clash, and-l, and-r}
 use Rattle.graph.specs.Graph.{Graph, Node, entry, merge, versionCount, isSome, everyVersion, parentsLower}
-use Rattle.command.specs.Code.{consoleCount, shapeOf, lengthOf, operandsOf}
+use Rattle.command.specs.Code.{consoleCount, shapeOf, lengthOf}
 use Rattle.command.proofs.Ranges.{entry-below}
 use Rattle.room.specs.Sound.{entryInRange}
 use Rattle.tape.specs.declared.Record.{Record}
-use Rattle.tape.specs.declared.Record.the-variants.{Start, Entry, Merge, Head, End, Broken}
+use Rattle.tape.specs.declared.Record.the-variants.{Head, End}
 use Rattle.tape.specs.Record.{recordAt, recordLength, recordFrom, recordBytes}
 use Rattle.tape.specs.Tape.{Content, Stage, inVersions, inHeads, Next, goOn, finish, refuse, afterRecord, readOn, withHead, versionRecord, versionRecords, headRecords}
 use Rattle.tape.proofs.Records.{Fits, record-read, record-rest}

@@ -1,22 +1,19 @@
 -- A record whose numbers fit its fields is read back from its bytes, and bytes that read as a record are that record's bytes.
 -- Assumes nothing.
-use Prim.Native.Nat.{ℕ, zero, suc, _+_, _*_, _/_, _%_, _≤_, _<_}
-use mathlib.Core.Path.{_≡_, refl, sym, _∙_, ap, subst}
-use mathlib.Core.Logic.{_⊎_, inl, inr, _≢_}
-use mathlib.Core.Bool.{Bool, true, false, cond}
+use Prim.Native.Nat.{ℕ, zero, suc, _+_, _*_, _/_, _≤_, _<_}
+use mathlib.Core.Path.{_≡_, refl, sym, _∙_, subst}
+use mathlib.Core.Logic.{inl, inr, _≢_}
+use mathlib.Core.Bool.{false, cond}
 use mathlib.Core.List.{List, [], _∷_, _++_}
 use native.Mathlib.Omega.{arith}
 use native.Mathlib.Decide.{ℕ-discrete}
 use native.Mathlib.Nat.{add-zero}
-use lib.Dec.{eqb, ltb}
+use lib.Dec.{ltb}
 use lib.ListN.{length, getD, drop, length-append}
 use lib.Seq.{drop-cons, drop-append-seam}
 use borrow.Author.Tests.{ltb-false, le-ltb, ne-eqb}
 use Rattle.laws.proofs.Logic.{decide, cond-true, cond-false}
-use Rattle.buffer.specs.Field.{byte, word, wordAt}
-use Rattle.board.specs.declared.Strip.{Strip}
-use Rattle.graph.specs.declared.Version.{Version}
-use Rattle.command.specs.declared.Console.{Console}
+use Rattle.buffer.specs.Field.{byte, wordAt}
 use Rattle.command.specs.declared.Operands.{Operands}
 use Rattle.command.specs.Code.{shapeOf, lengthOf, numberAt, operandsOf}
 use Rattle.tape.specs.declared.Record.{Record}

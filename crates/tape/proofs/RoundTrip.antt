@@ -1,30 +1,29 @@
 -- The tape of a sound room is accepted and gives back that room; an accepted tape is the tape of its room, byte for byte.
 -- Assumes nothing.
 use Prim.Native.Nat.{ℕ, zero, suc, _+_, _-_, _≤_, _<_}
-use mathlib.Core.Path.{_≡_, refl, sym, _∙_, ap}
-use mathlib.Core.Bool.{Bool, true, false, not, _&&_}
-use mathlib.Core.List.{List, [], _∷_, _++_, append-assoc}
-use mathlib.Core.Option.{Option, none, some}
+use mathlib.Core.Path.{_≡_, _∙_}
+use mathlib.Core.Bool.{Bool, true}
+use mathlib.Core.List.{List, [], _++_, append-assoc}
+use mathlib.Core.Option.{some}
 use native.Mathlib.Omega.{arith}
 use native.Mathlib.Decide.{ℕ-discrete}
 use native.Mathlib.Nat.{not-suc-le-zero}
-use lib.Dec.{eqb, ltb, leb}
-use lib.ListN.{length, getD, drop, length-append}
-use borrow.Author.Tests.{ltb-true, leb-true, eqb-true, le-ltb}
-use Rattle.laws.proofs.Logic.{and-i, and-l, and-r}
+use lib.ListN.{length, length-append}
+use borrow.Author.Tests.{leb-true, eqb-true, le-ltb}
+use Rattle.laws.proofs.Logic.{and-l, and-r}
 use Rattle.graph.specs.Below.{everyBelow}
-use Rattle.graph.specs.Graph.{Graph, versionCount, everyVersion, parentsLower, mergeHasBase}
+use Rattle.graph.specs.Graph.{versionCount, everyVersion, parentsLower}
 use Rattle.command.specs.Code.{consoleCount}
 use Rattle.command.proofs.Ranges.{within-true}
 use Rattle.room.specs.Room.{Room, headOf, present}
-use Rattle.room.specs.Sound.{sound, isCapacity, headsNameVersions, headsMeet, allBehindHeads, entryInRange, namesVersion, maxCapacity}
-use Rattle.tape.specs.declared.Record.the-variants.{Start, Head, End}
-use Rattle.tape.specs.Record.{recordAt, recordLength, recordBytes}
-use Rattle.tape.specs.Tape.{Content, inVersions, readOn, readFrom, contentOf, contentRefusal, roomOf, tapeOf, versionRecords, headRecords, inRange, consolesRise, headsNamed}
+use Rattle.room.specs.Sound.{sound, isCapacity, entryInRange, namesVersion, maxCapacity}
+use Rattle.tape.specs.declared.Record.the-variants.{Start, End}
+use Rattle.tape.specs.Record.{recordBytes}
+use Rattle.tape.specs.Tape.{Content, inVersions, readOn, contentOf, contentRefusal, roomOf, tapeOf, versionRecords, headRecords, consolesRise}
 use Rattle.tape.proofs.Records.{Bytes, record-read, record-rest}
 use Rattle.tape.proofs.Accepted.{Accepted, accepted, accepts}
 use Rattle.tape.proofs.Heads.{headsFrom, Named, slots-forth, all-named, slots-back, rises}
-use Rattle.tape.proofs.Written.{written, tape-written}
+use Rattle.tape.proofs.Written.{tape-written}
 use Rattle.tape.proofs.Reading.{read-versions, versions-long, read-all-heads}
 
 -- what the tape of a room says

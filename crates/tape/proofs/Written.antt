@@ -1,23 +1,22 @@
 -- What was read of a tape, written again, is what stood there: a tape with a content is the records of that content and the end.
 -- Assumes nothing.
-use Prim.Native.Nat.{ℕ, zero, suc, _+_, _≤_, _<_}
-use mathlib.Core.Path.{_≡_, refl, sym, _∙_, ap}
+use Prim.Native.Nat.{ℕ, zero, suc, _+_}
+use mathlib.Core.Path.{_≡_, refl, sym, _∙_}
 use mathlib.Core.Bool.{Bool, true, false, cond}
-use mathlib.Core.List.{List, [], _∷_, _++_, append-assoc, append-nil}
-use mathlib.Core.Option.{Option, none, some}
+use mathlib.Core.List.{List, [], _++_, append-assoc, append-nil}
+use mathlib.Core.Option.{none, some}
 use native.Mathlib.Omega.{arith}
 use lib.Dec.{eqb}
-use lib.ListN.{length, getD, drop, drop-of-length-le}
+use lib.ListN.{length, drop, drop-of-length-le}
 use lib.Seq.{getD-drop}
 use borrow.Author.Tests.{eqb-true}
-use Rattle.graph.specs.Graph.{Graph, Node, entry, merge}
 use Rattle.tape.specs.declared.Record.{Record}
 use Rattle.tape.specs.declared.Record.the-variants.{Start, Entry, Merge, Head, End, Broken}
 use Rattle.tape.specs.Record.{recordAt, recordLength, recordBytes}
-use Rattle.tape.specs.Tape.{Content, Stage, inVersions, inHeads, Next, goOn, finish, refuse, afterRecord, readOn, readFrom, contentOf, withVersion, withHead, versionRecord, versionRecords}
+use Rattle.tape.specs.Tape.{Content, Stage, inVersions, inHeads, Next, goOn, finish, refuse, afterRecord, readOn, readFrom, contentOf, versionRecords}
 use Rattle.tape.proofs.Records.{Bytes, Unbroken, record-whole}
 use Rattle.tape.proofs.Heads.{headBytes}
-use Rattle.tape.proofs.Reading.{go, read-step}
+use Rattle.tape.proofs.Reading.{read-step}
 
 -- the records of a content
 abbrev pub written : Content → List ℕ
