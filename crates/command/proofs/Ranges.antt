@@ -27,8 +27,7 @@ operand-below code x h = go (eqb code 0x02) (eqb code 0x03) (within 0x04 0x05 co
 pub entry-below : (code strip operand : ℕ) → isEntryCode code && isStrip strip && isOperand code operand ≡ true
     → (code ≤ 8) × (strip < stripCount) × (operand ≤ 600)
 entry-below code strip operand h =
-    let front = and-l (isEntryCode code && isStrip strip) (isOperand code operand) h in (
-      within-true 2 8 code (and-l (isEntryCode code) (isStrip strip) front) .1,
-      ltb-true strip stripCount (and-r (isEntryCode code) (isStrip strip) front),
-      operand-below code operand (and-r (isEntryCode code && isStrip strip) (isOperand code operand) h),
-    )
+    let c : isEntryCode code ≡ true = search (and-l, and-r) in
+    let k : isStrip strip ≡ true = search (and-l, and-r) in
+    let x : isOperand code operand ≡ true = search (and-l, and-r) in
+    (within-true 2 8 code c .1, ltb-true strip stripCount k, operand-below code operand x)

@@ -1,5 +1,4 @@
--- The heads of a room as head records, last first: the slots that they fill are the heads of the room, and the records that the slots
--- give are the records that were there.
+-- Heads and head records: which slots the records of a room's heads fill, and which records the slots of read heads give.
 -- Assumes nothing.
 use Prim.Native.Nat.{ℕ, zero, suc, _+_, _≤_, _<_}
 use mathlib.Core.Path.{_≡_, refl, sym, _∙_}
@@ -49,7 +48,9 @@ unfolding consolesRise
 rise-from c d v [] before h lt fit = h
 rise-from c d v (none ∷ later) before h lt fit = rise-from (suc c) d v later before h (omega arith) (omega arith)
 rise-from c d v (some w ∷ later) before h lt fit =
-    rise-from (suc c) c w later ((d, v) ∷ before) (simp (lt-ltb d c lt, lt-ltb c consoleCount (omega arith)) h) (omega arith) (omega arith)
+    let above = lt-ltb d c lt in
+    let below = lt-ltb c consoleCount (omega arith) in
+    rise-from (suc c) c w later ((d, v) ∷ before) (simp (above, below) h) (omega arith) (omega arith)
 
 -- consoles rise in the records of heads of which console 0 is there
 pub rises : (heads : List (Option ℕ)) → length heads ≡ consoleCount → isSome (getD heads 0 none) ≡ true
@@ -113,9 +114,7 @@ last-record b (suc c) v (some w ∷ later) l empty =
 rise-parts : (h b : ℕ × ℕ) (rest : List (ℕ × ℕ)) → consolesRise (h ∷ b ∷ rest) ≡ true
     → (b .0 < h .0) × (h .0 < consoleCount) × (consolesRise (b ∷ rest) ≡ true)
 unfolding consolesRise
-rise-parts h b rest rise =
-    let front = and-l (ltb (b .0) (h .0) && isConsole (h .0)) (consolesRise (b ∷ rest)) rise in
-    (ltb-true _ _ (and-l _ _ front), ltb-true _ _ (and-r (ltb (b .0) (h .0)) _ front), and-r (ltb (b .0) (h .0) && isConsole (h .0)) _ rise)
+rise-parts h b rest rise = (ltb-true _ _ (search (and-l, and-r)), ltb-true _ _ (search (and-l, and-r)), search (and-l, and-r))
 
 -- the slots from a record's console on are empty before it
 free : (h : ℕ × ℕ) (before : List (ℕ × ℕ)) → consolesRise (h ∷ before) ≡ true → (k : ℕ) → h .0 ≤ k

@@ -40,8 +40,8 @@ read-step k stage t rest finish e = cc
 read-step k stage t rest refuse e = cc
 
 -- a record that may stand there is read, and reading goes on after it
-read-one : (k : ℕ) (stage next : Stage) (t more : Content) (x : Record) (rest : List ℕ) → Fits x → afterRecord stage t x ≡ goOn next more
-    → readOn (suc k) stage t (recordBytes x ++ rest) ≡ readOn k next more rest
+read-one : (k : ℕ) (stage next : Stage) (t more : Content) (x : Record) (rest : List ℕ) → Fits x
+    → afterRecord stage t x ≡ goOn next more → readOn (suc k) stage t (recordBytes x ++ rest) ≡ readOn k next more rest
 read-one k stage next t more x rest fits e =
     read-step k stage t (recordBytes x ++ rest) (goOn next more) (rw (record-read x rest fits) e) ∙ rw (record-rest x rest fits)
 
@@ -65,8 +65,8 @@ versions-long [] = omega arith
 versions-long (entry p code strip operand ∷ g) = simp length-append (omega (arith, versions-long g))
 versions-long (merge p q ∷ g) = simp length-append (omega (arith, versions-long g))
 
-pub read-versions : (g : Graph) (k capacity : ℕ) (rest : List ℕ) → everyVersion parentsLower g ≡ true → everyVersion entryInRange g ≡ true
-    → length g < 65536
+pub read-versions : (g : Graph) (k capacity : ℕ) (rest : List ℕ) → everyVersion parentsLower g ≡ true
+    → everyVersion entryInRange g ≡ true → length g < 65536
     → readOn (length g + k) inVersions (record { capacity = capacity; versions = []; heads = [] }) (versionRecords g ++ rest)
     ≡ readOn k inVersions (record { capacity = capacity; versions = g; heads = [] }) rest
 unfolding versionRecords everyVersion
@@ -74,8 +74,10 @@ read-versions [] k capacity rest lower range l = rw zero-add
 read-versions (n ∷ g) k capacity rest lower range l =
     let fits = node-fits g n (and-l _ _ lower) (and-l _ _ range) (omega arith) in
     let fuel : suc (length g) + k ≡ length g + suc k = omega arith in
+    let lower-before = and-r (parentsLower g n) _ lower in
+    let range-before = and-r (entryInRange g n) _ range in
     rw (fuel, append-assoc)
-    (read-versions g (suc k) capacity (recordBytes (versionRecord n) ++ rest) (and-r (parentsLower g n) _ lower) (and-r (entryInRange g n) _ range) (omega arith)
+    (read-versions g (suc k) capacity (recordBytes (versionRecord n) ++ rest) lower-before range-before (omega arith)
     ∙ read-one k inVersions inVersions _ _ (versionRecord n) rest fits (reads-version capacity g n))
 
 read-end : (k : ℕ) (t : Content) → readOn (suc k) inHeads t (recordBytes End) ≡ some t

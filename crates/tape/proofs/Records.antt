@@ -48,7 +48,8 @@ pub record-read : (x : Record) (rest : List ℕ) → Fits x → recordAt (record
 unfolding recordAt recordFrom recordBytes shapeOf lengthOf numberAt operandsOf
 record-read (Start capacity) rest h = simp (whole (recordBytes (Start capacity)) rest, word-back)
 record-read (Entry parent code strip operand) rest h =
-    simp (whole (recordBytes (Entry parent code strip operand)) rest, word-back (parent .0) (h .0), byte-back code (h .1), byte-back (strip .0) (h .2), word-back operand (h .3))
+    let there = whole (recordBytes (Entry parent code strip operand)) rest in
+    simp (there, word-back (parent .0) (h .0), byte-back code (h .1), byte-back (strip .0) (h .2), word-back operand (h .3))
 record-read (Merge receiver giver) rest h =
     simp (whole (recordBytes (Merge receiver giver)) rest, word-back (receiver .0) (h .0), word-back (giver .0) (h .1))
 record-read (Head console version) rest h =
@@ -82,9 +83,9 @@ front-drop t at (suc n) h =
 recordOf : ℕ → List ℕ → Record
 recordOf c t = cond (ltb (length t) (lengthOf (shapeOf c))) Broken (recordFrom c (operandsOf (shapeOf c) t))
 
--- the tape begins with the bytes of that record
+-- the tape begins with the bytes of that record, and its numbers fit
 Begins : ℕ → List ℕ → Type 0
-Begins c t = t ≡ recordBytes (recordOf c t) ++ drop (lengthOf (shapeOf c)) t
+Begins c t = (t ≡ recordBytes (recordOf c t) ++ drop (lengthOf (shapeOf c)) t) × Fits (recordOf c t)
 
 -- no other code is a record's
 unknown : (c : ℕ) (o : Operands) → c ≢ 0x20 → c ≢ 0x21 → c ≢ 0x22 → c ≢ 0x23 → c ≢ 0x24 → recordFrom c o ≡ Broken
@@ -99,26 +100,34 @@ module _ (t : List ℕ) (bytes : Bytes t) where
   low : (k : ℕ) → byte (wordAt t k) ≡ getD t (k + 1) 0
   low k = omega (arith, bytes k, bytes (k + 1))
 
+  small : (k : ℕ) → wordAt t k < 65536
+  small k = omega (arith, bytes k, bytes (k + 1))
+
   begins-start : getD t 0 0 ≡ 0x20 → ltb (length t) 3 ≡ false → Begins 0x20 t
   unfolding Begins recordOf recordFrom recordBytes shapeOf lengthOf numberAt operandsOf
-  begins-start e l = cc (front-drop t 0 3 (ltb-false (length t) 3 l), high 1, low 1)
+  begins-start e l = (cc (front-drop t 0 3 (ltb-false (length t) 3 l), high 1, low 1), rw l (small 1))
 
   begins-entry : getD t 0 0 ≡ 0x21 → ltb (length t) 7 ≡ false → Begins 0x21 t
   unfolding Begins recordOf recordFrom recordBytes shapeOf lengthOf numberAt operandsOf
-  begins-entry e l =
-      cc (front-drop t 0 7 (ltb-false (length t) 7 l), high 1, low 1, byte-back _ (bytes 3), byte-back _ (bytes 4), high 5, low 5)
+  begins-entry e l = (
+    cc (front-drop t 0 7 (ltb-false (length t) 7 l), high 1, low 1, byte-back _ (bytes 3), byte-back _ (bytes 4), high 5, low 5),
+    rw l (small 1, bytes 3, bytes 4, small 5),
+  )
 
   begins-merge : getD t 0 0 ≡ 0x22 → ltb (length t) 5 ≡ false → Begins 0x22 t
   unfolding Begins recordOf recordFrom recordBytes shapeOf lengthOf numberAt operandsOf
-  begins-merge e l = cc (front-drop t 0 5 (ltb-false (length t) 5 l), high 1, low 1, high 3, low 3)
+  begins-merge e l = (cc (front-drop t 0 5 (ltb-false (length t) 5 l), high 1, low 1, high 3, low 3), rw l (small 1, small 3))
 
   begins-head : getD t 0 0 ≡ 0x23 → ltb (length t) 4 ≡ false → Begins 0x23 t
   unfolding Begins recordOf recordFrom recordBytes shapeOf lengthOf numberAt operandsOf
-  begins-head e l = cc (front-drop t 0 4 (ltb-false (length t) 4 l), byte-back _ (bytes 1), high 2, low 2)
+  begins-head e l = (
+    cc (front-drop t 0 4 (ltb-false (length t) 4 l), byte-back _ (bytes 1), high 2, low 2),
+    rw l (bytes 1, small 2),
+  )
 
   begins-end : getD t 0 0 ≡ 0x24 → ltb (length t) 1 ≡ false → Begins 0x24 t
   unfolding Begins recordOf recordFrom recordBytes shapeOf lengthOf numberAt operandsOf
-  begins-end e l = cc (front-drop t 0 1 (ltb-false (length t) 1 l))
+  begins-end e l = (cc (front-drop t 0 1 (ltb-false (length t) 1 l)), rw l tt)
 
   begins : (c : ℕ) → getD t 0 0 ≡ c → ltb (length t) (lengthOf (shapeOf c)) ≡ false → (recordOf c t ≡ Broken → ⊥) → Begins c t
   unfolding recordOf lengthOf shapeOf
@@ -154,7 +163,8 @@ Unbroken (Head console version) = Unit {0}
 Unbroken End = Unit {0}
 Unbroken Broken = ⊥
 
-pub record-whole : (x : Record) (t : List ℕ) → Bytes t → recordAt t ≡ x → Unbroken x → t ≡ recordBytes x ++ drop (recordLength t) t
+pub record-whole : (x : Record) (t : List ℕ) → Bytes t → recordAt t ≡ x → Unbroken x
+    → (t ≡ recordBytes x ++ drop (recordLength t) t) × Fits x
 unfolding recordAt recordOf Begins
 record-whole x t bytes e u =
     let unbroken : recordAt t ≡ Broken → ⊥ = λ b. subst Unbroken (sym e ∙ b) u in

@@ -21,7 +21,7 @@ use Rattle.tape.specs.declared.Record.the-variants.{Start, End}
 use Rattle.tape.specs.Record.{recordBytes}
 use Rattle.tape.specs.Tape.{Content, inVersions, readOn, contentOf, contentRefusal, roomOf, tapeOf, versionRecords, headRecords, consolesRise}
 use Rattle.tape.proofs.Records.{Bytes, record-read, record-rest}
-use Rattle.tape.proofs.Accepted.{Accepted, accepted, accepts}
+use Rattle.tape.proofs.Accepted.{accepted, accepts}
 use Rattle.tape.proofs.Heads.{headsFrom, Named, slots-forth, all-named, slots-back, rises}
 use Rattle.tape.proofs.Written.{tape-written}
 use Rattle.tape.proofs.Reading.{read-versions, versions-long, read-all-heads}
@@ -40,7 +40,7 @@ every-at (suc n) f h k l =
     ]
 
 -- what the tape needs of a sound room
-record Kept (r : Room) : Type 0 where
+record Clauses (r : Room) : Type 0 where
   lower : everyVersion parentsLower (r .versions) ≡ true
   sixteen : length (r .heads) ≡ consoleCount
   named : Named (r .versions) (r .heads)
@@ -49,27 +49,32 @@ record Kept (r : Room) : Type 0 where
   room : versionCount (r .versions) ≤ r .capacity
   range : everyVersion entryInRange (r .versions) ≡ true
 
-kept : (r : Room) → sound r ≡ true → Kept r
+clauses : (r : Room) → sound r ≡ true → Clauses r
 unfolding sound
-kept r h =
+clauses r h =
     let sixteen : length (r .heads) ≡ consoleCount = eqb-true _ _ (search (and-l, and-r) depth 12) in
+    let named : everyBelow consoleCount (λ c. namesVersion (r .versions) (headOf r c)) ≡ true = search (and-l, and-r) depth 12 in
     record {
       lower = search (and-l, and-r) depth 12;
       sixteen = sixteen;
-      named = λ k l. every-at consoleCount (λ c. namesVersion (r .versions) (headOf r c)) (search (and-l, and-r) depth 12) k (omega arith);
+      named = λ k l. every-at consoleCount _ named k (omega arith);
       first = search (and-l, and-r) depth 12;
       size = search (and-l, and-r) depth 12;
       room = leb-true _ _ (search (and-l, and-r) depth 12);
       range = search (and-l, and-r) depth 12;
     }
 
-tape-parts : (r : Room) → tapeOf r ≡ recordBytes (Start (r .capacity)) ++ (versionRecords (r .versions) ++ (headRecords 0 (r .heads) ++ recordBytes End))
+tape-parts : (r : Room)
+    → tapeOf r ≡ recordBytes (Start (r .capacity)) ++ (versionRecords (r .versions) ++ (headRecords 0 (r .heads) ++ recordBytes End))
 unfolding tapeOf
 tape-parts r = simp append-assoc
 
-module _ (r : Room) (k : Kept r) where
-  few : length (r .versions) < maxCapacity
-  few = omega (arith, k .room, within-true 1 maxCapacity (r .capacity) (k .size))
+module _ (r : Room) (s : sound r ≡ true) where
+  k : Clauses r
+  k = clauses r s
+
+  small : (r .capacity ≤ maxCapacity) × (length (r .versions) < maxCapacity)
+  small = omega (arith, k .room, within-true 1 maxCapacity (r .capacity) (k .size))
 
   read-parts : (fuel : ℕ) → length (versionRecords (r .versions)) + length (headRecords 0 (r .heads)) < fuel
       → readOn fuel inVersions (record { capacity = r .capacity; versions = []; heads = [] })
@@ -79,33 +84,38 @@ module _ (r : Room) (k : Kept r) where
       let long = versions-long (r .versions) in
       let split : fuel ≡ length (r .versions) + (fuel - length (r .versions)) = omega arith in
       rw split
-      (read-versions (r .versions) (fuel - length (r .versions)) (r .capacity) _ (k .lower) (k .range) (omega (arith, few))
-      ∙ read-all-heads _ (r .heads) _ (omega arith) (k .first) (k .named) (omega (arith, few)) (omega (arith, k .sixteen)))
+      (read-versions (r .versions) (fuel - length (r .versions)) (r .capacity) _ (k .lower) (k .range) (omega (arith, small))
+      ∙ read-all-heads _ (r .heads) _ (omega arith) (k .first) (k .named) (omega (arith, small)) (omega (arith, k .sixteen)))
 
-  tape-read : contentOf (tapeOf r) ≡ some (contentIn r)
+  pub tape-content : contentOf (tapeOf r) ≡ some (contentIn r)
   unfolding contentOf recordBytes
-  tape-read =
-      let fits : r .capacity < 65536 = omega (arith, within-true 1 maxCapacity (r .capacity) (k .size)) in
-      rw (tape-parts, record-read (Start (r .capacity)) _ fits, record-rest (Start (r .capacity)) _ fits) (read-parts _ (simp length-append (omega arith)))
+  tape-content =
+      let fits : r .capacity < 65536 = omega (arith, small) in
+      rw (tape-parts, record-read (Start (r .capacity)) _ fits, record-rest (Start (r .capacity)) _ fits)
+      (read-parts _ (simp length-append (omega arith)))
 
-  content-accepted : sound r ≡ true → Accepted (contentIn r)
-  content-accepted h =
-      record {
-        size = k .size;
-        range = simp (le-ltb (r .capacity) (versionCount (r .versions)) (k .room), k .lower, k .range, rises (r .heads) (k .sixteen) (k .first), all-named (r .versions) (r .heads) (k .named));
-        room = rw (slots-back (r .heads) (k .sixteen)) h;
-      }
+  pub tape-room : roomOf (contentIn r) ≡ r
+  tape-room = rw (slots-back (r .heads) (k .sixteen))
+
+  pub tape-accepted : contentRefusal (some (contentIn r)) ≡ 0
+  tape-accepted =
+      let enough = le-ltb (r .capacity) (versionCount (r .versions)) (k .room) in
+      let rise = rises (r .heads) (k .sixteen) (k .first) in
+      let named = all-named (r .versions) (r .heads) (k .named) in
+      accepts (contentIn r)
+      (record { size = k .size; range = simp (enough, k .lower, k .range, rise, named); room = rw tape-room s })
 
 -- the tape of a sound room is accepted, and gives back that room
 pub tape-back : (r : Room) → sound r ≡ true
     → (c : Content) × (contentOf (tapeOf r) ≡ some c) × (contentRefusal (some c) ≡ 0) × (roomOf c ≡ r)
-tape-back r h = let k = kept r h in (contentIn r, tape-read r k, accepts (contentIn r) (content-accepted r k h), rw (slots-back (r .heads) (k .sixteen)))
+tape-back r s = (contentIn r, tape-content r s, tape-accepted r s, tape-room r s)
 
 -- an accepted tape is the tape of its room
 pub tape-forth : (t : List ℕ) (c : Content) → Bytes t → contentOf t ≡ some c → contentRefusal (some c) ≡ 0 → tapeOf (roomOf c) ≡ t
 unfolding tapeOf
 tape-forth t c bytes e a =
-    let rise : consolesRise (c .heads) ≡ true = let range = accepted c a .range in search (and-l, and-r) in
+    let range = accepted c a .range in
+    let rise : consolesRise (c .heads) ≡ true = search (and-l, and-r) in
     simp (slots-forth (c .heads) rise, tape-written t c bytes e, append-assoc)
 
 -- the room of an accepted tape is sound

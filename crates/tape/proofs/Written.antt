@@ -67,13 +67,16 @@ kept (suc k) stage t d rest p bytes e = at (afterRecord stage t (recordAt rest))
         → written t ++ rest ≡ written d ++ recordBytes End)
         → written t ++ rest ≡ written d ++ recordBytes End
     at (goOn next more) q add on =
-        let whole = record-whole (recordAt rest) rest bytes refl (add .0) in
-        let later = on next more d (drop (recordLength rest) rest) (add .2) (bytes-drop (recordLength rest) rest bytes) (sym (read-step k stage t rest (goOn next more) q) ∙ e) in
-        cc (add .1, append-assoc (written t) (recordBytes (recordAt rest)) (drop (recordLength rest) rest))
+        let whole = record-whole (recordAt rest) rest bytes refl (add .0) .0 in
+        let left : List ℕ = drop (recordLength rest) rest in
+        let read-on : readOn k next more left ≡ some d = sym (read-step k stage t rest (goOn next more) q) ∙ e in
+        let later = on next more d left (add .2) (bytes-drop (recordLength rest) rest bytes) read-on in
+        cc (add .1, append-assoc (written t) (recordBytes (recordAt rest)) left)
     at finish q add on =
         let last = closed (eqb (length rest) (recordLength rest)) t d (sym (read-step k stage t rest finish q) ∙ e) in
-        let whole = record-whole End rest bytes add tt in
-        let none-left = drop-of-length-le rest {i = recordLength rest} (omega (arith, eqb-true (length rest) (recordLength rest) (last .0))) in
+        let whole = record-whole End rest bytes add tt .0 in
+        let ends = eqb-true (length rest) (recordLength rest) (last .0) in
+        let none-left = drop-of-length-le rest {i = recordLength rest} (omega arith) in
         cc (last .1, append-nil (recordBytes End))
     at refuse q add on = cc (read-step k stage t rest refuse q)
 
@@ -83,9 +86,10 @@ tape-written t c bytes e = at (recordAt t) refl e
   where
     at : (x : Record) → recordAt t ≡ x → readFrom (length t) (drop (recordLength t) t) x ≡ some c → t ≡ written c ++ recordBytes End
     at (Start capacity) q e =
-        let whole = record-whole (Start capacity) t bytes q tt in
+        let whole = record-whole (Start capacity) t bytes q tt .0 in
         let start : Content = record { capacity = capacity; versions = []; heads = [] } in
-        cc (kept (length t) inVersions start c (drop (recordLength t) t) refl (bytes-drop (recordLength t) t bytes) e, append-nil (recordBytes (Start capacity)))
+        let rest = kept (length t) inVersions start c (drop (recordLength t) t) refl (bytes-drop (recordLength t) t bytes) e in
+        cc (append-nil (recordBytes (Start capacity)))
     at (Entry parent code strip operand) q e = cc
     at (Merge receiver giver) q e = cc
     at (Head console version) q e = cc
