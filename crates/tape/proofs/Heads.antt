@@ -2,18 +2,17 @@
 -- Assumes nothing.
 use Prim.Native.Nat.{ℕ, zero, suc, _+_, _≤_, _<_}
 use mathlib.Core.Path.{_≡_, refl, sym, _∙_}
-use mathlib.Core.Bool.{true, _&&_}
+use mathlib.Core.Bool.{true}
 use mathlib.Core.List.{List, [], _∷_, _++_, append-assoc, append-nil}
 use mathlib.Core.Option.{Option, none, some}
 use native.Mathlib.Omega.{arith}
 use native.Mathlib.Nat.{add-zero, zero-add, not-suc-le-zero}
-use lib.Dec.{ltb}
 use lib.ListN.{length, getD, set, replicate, length-append, length-set}
 use lib.Seq.{append-snoc, set-at, getD-set-other}
 use borrow.Author.Tests.{lt-ltb, ltb-true, eqb-true}
 use Rattle.laws.proofs.Logic.{clash, and-i, and-l, and-r}
 use Rattle.graph.specs.Graph.{Graph, isSome}
-use Rattle.command.specs.Code.{consoleCount, isConsole}
+use Rattle.command.specs.Code.{consoleCount}
 use Rattle.room.specs.Sound.{namesVersion}
 use Rattle.tape.specs.declared.Record.the-variants.{Head}
 use Rattle.tape.specs.Record.{recordBytes}
