@@ -1,29 +1,26 @@
--- What it means that no refusal applies: each test of the list is false.
+-- Where no refusal is given, the case of none is there.
 -- Assumes nothing.
-use Prim.Native.Nat.{ℕ, zero, suc, _<_}
+use Prim.Native.Nat.{ℕ, _<_}
 use mathlib.Core.Path.{_≡_, refl}
-use mathlib.Core.Bool.{Bool, true, false, cond}
+use mathlib.Core.Logic.{_≢_}
+use mathlib.Core.Bool.{Bool, true, false}
 use mathlib.Core.List.{List, [], _∷_}
 use native.Mathlib.Omega.{arith}
 use Rattle.command.specs.Refusal.{_when_, firstRefusal}
 
--- each test is false, where its number is a refusal's
+-- where none is given, the first's case is not there, and none of the later ones is given
+pub none-given : (number : ℕ) (case : Bool) (later : List (ℕ × Bool)) → number ≢ 0 → firstRefusal (number when case ∷ later) ≡ 0
+    → (case ≡ false) × (firstRefusal later ≡ 0)
+unfolding firstRefusal
+none-given number true later given h = absurd (given h)
+none-given number false later given h = (refl, h)
+
+-- the same of a whole list: each test is false, where its number is a refusal's
 abbrev pub NoneApplies : List (ℕ × Bool) → Type 0
 NoneApplies [] = Unit {0}
 NoneApplies (r ∷ later) = (0 < r .0 → r .1 ≡ false) × (0 < r .0 → NoneApplies later)
 
-first-none : (n : ℕ) (t : Bool) (m : ℕ) → cond t n m ≡ 0 → 0 < n → t ≡ false
-first-none n true m h p = absurd (omega arith)
-first-none n false m h p = refl
-
-later-none : (n : ℕ) (t : Bool) (m : ℕ) → cond t n m ≡ 0 → 0 < n → m ≡ 0
-later-none n true m h p = absurd (omega arith)
-later-none n false m h p = h
-
 pub none-applies : (tests : List (ℕ × Bool)) → firstRefusal tests ≡ 0 → NoneApplies tests
-unfolding firstRefusal
 none-applies [] h = tt
-none-applies (r ∷ later) h = (
-  first-none (r .0) (r .1) (firstRefusal later) h,
-  λ p. none-applies later (later-none (r .0) (r .1) (firstRefusal later) h p),
-)
+none-applies (r ∷ later) h =
+    (λ p. none-given (r .0) (r .1) later (omega arith) h .0, λ p. none-applies later (none-given (r .0) (r .1) later (omega arith) h .1))

@@ -108,3 +108,10 @@ facts-sound r s =
     (s .capacity))
     (le-leb _ _ (s .fits)))
     (s .ranged)
+
+-- the clause on heads as a test of each console
+pub heads-named : (r : Room) → sound r ≡ true → (c : ℕ) → c < consoleCount → namesVersion (r .versions) (headOf r c) ≡ true
+unfolding sound
+heads-named r h c l =
+    let named : headsNameVersions r ≡ true = search (and-l, and-r) depth 12 in
+    at consoleCount _ named c l

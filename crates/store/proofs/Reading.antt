@@ -21,7 +21,8 @@ use Rattle.room.specs.Sound.{entryInRange, namesVersion}
 use Rattle.store.specs.Layout.{fieldWhere, blockAt, commonAt, headAt, capacityAt, countAt, commonField, recordOf, encode, nodeAt, versionsAt, headIn, headsAt}
 use Rattle.store.proofs.Diagonal.{meetNumber-below, meetNumber-self}
 use Rattle.store.proofs.Blocks.{stands-common, stands-record, stands-capacity, stands-count}
-use Rattle.store.proofs.Ranges.{Ranges, operand-fits}
+use Rattle.command.proofs.Limits.{operand-below}
+use Rattle.store.proofs.Ranges.{Ranges}
 
 -- a version in range reads back from its record; the graph g that its base is taken from does not matter
 pub node-read : (s : List ℕ) (v : ℕ) (g before : Graph) (n : Node)
@@ -33,7 +34,7 @@ node-read s v g before (entry p code strip operand) h l i j =
     let a = leb-true 2 code (search (and-l, and-r)) in
     let b = leb-true code 8 (search (and-l, and-r)) in
     let c = ltb-true strip 32 (search (and-l, and-r)) in
-    let d = operand-fits code operand (search (and-l, and-r)) in
+    let d = operand-below code operand (search (and-l, and-r)) in
     let e = ltb-true p (versionCount before) i in
     let first : getD s (blockAt v) 0 ≡ code = stands-first h ∙ omega arith in
     let second : getD s (blockAt v + 1) 0 ≡ strip = h .read 1 (omega arith) ∙ omega arith in

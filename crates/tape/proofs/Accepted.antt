@@ -1,0 +1,28 @@
+-- A tape's content is accepted exactly where its capacity, its numbers and its room pass.
+-- Assumes nothing.
+use mathlib.Core.Path.{_≡_}
+use mathlib.Core.Bool.{true}
+use mathlib.Core.Option.{some}
+use native.Mathlib.Omega.{arith}
+use borrow.Author.Tests.{not-false}
+use Rattle.command.specs.Refusal.{firstRefusal}
+use Rattle.command.proofs.Refusals.{none-given}
+use Rattle.room.specs.Sound.{isCapacity, sound}
+use Rattle.tape.specs.Tape.{Content, roomOf, inRange, contentRefusal}
+
+pub record Accepted (c : Content) : Type 0 where
+  pub size : isCapacity (c .capacity) ≡ true
+  pub range : inRange c ≡ true
+  pub room : sound (roomOf c) ≡ true
+
+pub accepted : (c : Content) → contentRefusal (some c) ≡ 0 → Accepted c
+unfolding contentRefusal
+accepted c h =
+    let size = none-given 8 _ _ (omega arith) h in
+    let range = none-given 9 _ _ (omega arith) (size .1) in
+    let room = none-given 10 _ _ (omega arith) (range .1) in
+    record { size = not-false _ (size .0); range = not-false _ (range .0); room = not-false _ (room .0) }
+
+pub accepts : (c : Content) → Accepted c → contentRefusal (some c) ≡ 0
+unfolding contentRefusal firstRefusal
+accepts c a = simp (a .size, a .range, a .room)

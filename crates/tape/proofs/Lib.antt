@@ -1,0 +1,6 @@
+pub mod Records
+pub mod Accepted
+pub mod Heads
+pub mod Reading
+pub mod Written
+pub mod RoundTrip

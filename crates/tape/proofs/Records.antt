@@ -1,0 +1,174 @@
+-- A record whose numbers fit its fields is read back from its bytes, and bytes that read as a record are that record's bytes.
+-- Assumes nothing.
+use Prim.Native.Nat.{ℕ, zero, suc, _+_, _*_, _/_, _≤_, _<_}
+use mathlib.Core.Path.{_≡_, refl, sym, _∙_, subst}
+use mathlib.Core.Logic.{inl, inr, _≢_}
+use mathlib.Core.Bool.{false, cond}
+use mathlib.Core.List.{List, [], _∷_, _++_}
+use native.Mathlib.Omega.{arith}
+use native.Mathlib.Decide.{ℕ-discrete}
+use native.Mathlib.Nat.{add-zero}
+use lib.Dec.{ltb}
+use lib.ListN.{length, getD, drop, length-append}
+use lib.Seq.{drop-cons, drop-append-seam}
+use borrow.Author.Tests.{ltb-false, le-ltb, ne-eqb}
+use Rattle.laws.proofs.Logic.{decide, cond-true, cond-false}
+use Rattle.buffer.specs.Field.{byte, wordAt}
+use Rattle.command.specs.declared.Operands.{Operands}
+use Rattle.command.specs.Code.{shapeOf, lengthOf, numberAt, operandsOf}
+use Rattle.tape.specs.declared.Record.{Record}
+use Rattle.tape.specs.declared.Record.the-variants.{Start, Entry, Merge, Head, End, Broken}
+use Rattle.tape.specs.Record.{recordAt, recordLength, recordFrom, recordBytes}
+
+-- every element is a byte; what lies past the end reads as 0
+abbrev pub Bytes : List ℕ → Type 0
+Bytes t = (k : ℕ) → getD t k 0 < 256
+
+-- each number of a record fits its field
+abbrev pub Fits : Record → Type 0
+Fits (Start capacity) = capacity < 65536
+Fits (Entry parent code strip operand) = (parent .0 < 65536) × (code < 256) × (strip .0 < 256) × (operand < 65536)
+Fits (Merge receiver giver) = (receiver .0 < 65536) × (giver .0 < 65536)
+Fits (Head console version) = (console .0 < 256) × (version .0 < 65536)
+Fits End = Unit {0}
+Fits Broken = ⊥
+
+-- two bytes give back the word that they were made of
+word-back : (x : ℕ) → x < 65536 → byte (x / 256) * 256 + byte x ≡ x
+word-back x h = omega arith
+
+byte-back : (x : ℕ) → x < 256 → byte x ≡ x
+byte-back x h = omega arith
+
+-- a list with a front is no shorter than the front
+whole : (front rest : List ℕ) → ltb (length (front ++ rest)) (length front) ≡ false
+whole front rest = le-ltb (length (front ++ rest)) (length front) (simp length-append (omega arith))
+
+pub record-read : (x : Record) (rest : List ℕ) → Fits x → recordAt (recordBytes x ++ rest) ≡ x
+unfolding recordAt recordFrom recordBytes shapeOf lengthOf numberAt operandsOf
+record-read (Start capacity) rest h = simp (whole (recordBytes (Start capacity)) rest, word-back)
+record-read (Entry parent code strip operand) rest h =
+    let there = whole (recordBytes (Entry parent code strip operand)) rest in
+    simp (there, word-back (parent .0) (h .0), byte-back code (h .1), byte-back (strip .0) (h .2), word-back operand (h .3))
+record-read (Merge receiver giver) rest h =
+    simp (whole (recordBytes (Merge receiver giver)) rest, word-back (receiver .0) (h .0), word-back (giver .0) (h .1))
+record-read (Head console version) rest h =
+    simp (whole (recordBytes (Head console version)) rest, byte-back (console .0) (h .0), word-back (version .0) (h .1))
+record-read End rest h = simp (whole (recordBytes End) rest)
+record-read Broken rest h = absurd h
+
+pub record-length : (x : Record) (rest : List ℕ) → Fits x → recordLength (recordBytes x ++ rest) ≡ length (recordBytes x)
+unfolding recordBytes shapeOf lengthOf
+record-length (Start capacity) rest h = refl
+record-length (Entry parent code strip operand) rest h = refl
+record-length (Merge receiver giver) rest h = refl
+record-length (Head console version) rest h = refl
+record-length End rest h = refl
+record-length Broken rest h = absurd h
+
+pub record-rest : (x : Record) (rest : List ℕ) → Fits x → drop (recordLength (recordBytes x ++ rest)) (recordBytes x ++ rest) ≡ rest
+record-rest x rest h = rw record-length (drop-append-seam (recordBytes x) rest)
+
+-- n elements of a tape from a place on, read one by one
+abbrev front : List ℕ → ℕ → ℕ → List ℕ
+front t at zero = []
+front t at (suc n) = getD t at 0 ∷ front t (suc at) n
+
+front-drop : (t : List ℕ) (at n : ℕ) → at + n ≤ length t → drop at t ≡ front t at n ++ drop (at + n) t
+front-drop t at zero h = rw add-zero
+front-drop t at (suc n) h =
+    let step : suc at + n ≡ at + suc n = omega arith in cc (drop-cons t at 0 (omega arith), front-drop t (suc at) n (omega arith))
+
+-- the record at the front of a tape of a code
+recordOf : ℕ → List ℕ → Record
+recordOf c t = cond (ltb (length t) (lengthOf (shapeOf c))) Broken (recordFrom c (operandsOf (shapeOf c) t))
+
+-- the tape begins with the bytes of that record, and its numbers fit
+Begins : ℕ → List ℕ → Type 0
+Begins c t = (t ≡ recordBytes (recordOf c t) ++ drop (lengthOf (shapeOf c)) t) × Fits (recordOf c t)
+
+-- no other code is a record's
+unknown : (c : ℕ) (o : Operands) → c ≢ 0x20 → c ≢ 0x21 → c ≢ 0x22 → c ≢ 0x23 → c ≢ 0x24 → recordFrom c o ≡ Broken
+unfolding recordFrom
+unknown c o n₀ n₁ n₂ n₃ n₄ = simp (ne-eqb c 0x20 n₀, ne-eqb c 0x21 n₁, ne-eqb c 0x22 n₂, ne-eqb c 0x23 n₃, ne-eqb c 0x24 n₄)
+
+module _ (t : List ℕ) (bytes : Bytes t) where
+  -- a word gives back the two bytes that it was read from
+  high : (k : ℕ) → byte (wordAt t k / 256) ≡ getD t k 0
+  high k = omega (arith, bytes k, bytes (k + 1))
+
+  low : (k : ℕ) → byte (wordAt t k) ≡ getD t (k + 1) 0
+  low k = omega (arith, bytes k, bytes (k + 1))
+
+  small : (k : ℕ) → wordAt t k < 65536
+  small k = omega (arith, bytes k, bytes (k + 1))
+
+  begins-start : getD t 0 0 ≡ 0x20 → ltb (length t) 3 ≡ false → Begins 0x20 t
+  unfolding Begins recordOf recordFrom recordBytes shapeOf lengthOf numberAt operandsOf
+  begins-start e l = (cc (front-drop t 0 3 (ltb-false (length t) 3 l), high 1, low 1), rw l (small 1))
+
+  begins-entry : getD t 0 0 ≡ 0x21 → ltb (length t) 7 ≡ false → Begins 0x21 t
+  unfolding Begins recordOf recordFrom recordBytes shapeOf lengthOf numberAt operandsOf
+  begins-entry e l = (
+    cc (front-drop t 0 7 (ltb-false (length t) 7 l), high 1, low 1, byte-back _ (bytes 3), byte-back _ (bytes 4), high 5, low 5),
+    rw l (small 1, bytes 3, bytes 4, small 5),
+  )
+
+  begins-merge : getD t 0 0 ≡ 0x22 → ltb (length t) 5 ≡ false → Begins 0x22 t
+  unfolding Begins recordOf recordFrom recordBytes shapeOf lengthOf numberAt operandsOf
+  begins-merge e l = (cc (front-drop t 0 5 (ltb-false (length t) 5 l), high 1, low 1, high 3, low 3), rw l (small 1, small 3))
+
+  begins-head : getD t 0 0 ≡ 0x23 → ltb (length t) 4 ≡ false → Begins 0x23 t
+  unfolding Begins recordOf recordFrom recordBytes shapeOf lengthOf numberAt operandsOf
+  begins-head e l = (
+    cc (front-drop t 0 4 (ltb-false (length t) 4 l), byte-back _ (bytes 1), high 2, low 2),
+    rw l (bytes 1, small 2),
+  )
+
+  begins-end : getD t 0 0 ≡ 0x24 → ltb (length t) 1 ≡ false → Begins 0x24 t
+  unfolding Begins recordOf recordFrom recordBytes shapeOf lengthOf numberAt operandsOf
+  begins-end e l = (cc (front-drop t 0 1 (ltb-false (length t) 1 l)), rw l tt)
+
+  begins : (c : ℕ) → getD t 0 0 ≡ c → ltb (length t) (lengthOf (shapeOf c)) ≡ false → (recordOf c t ≡ Broken → ⊥) → Begins c t
+  unfolding recordOf lengthOf shapeOf
+  begins c e l unbroken =
+      elim (ℕ-discrete c 0x20) [
+        | yes q ↦ rw q (begins-start (e ∙ q) (rw q at l))
+        | no n₀ ↦
+            elim (ℕ-discrete c 0x21) [
+              | yes q ↦ rw q (begins-entry (e ∙ q) (rw q at l))
+              | no n₁ ↦
+                  elim (ℕ-discrete c 0x22) [
+                    | yes q ↦ rw q (begins-merge (e ∙ q) (rw q at l))
+                    | no n₂ ↦
+                        elim (ℕ-discrete c 0x23) [
+                          | yes q ↦ rw q (begins-head (e ∙ q) (rw q at l))
+                          | no n₃ ↦
+                              elim (ℕ-discrete c 0x24) [
+                                | yes q ↦ rw q (begins-end (e ∙ q) (rw q at l))
+                                | no n₄ ↦
+                                    absurd (unbroken (cond-false _ _ _ l ∙ unknown c _ n₀ n₁ n₂ n₃ n₄))
+                              ]
+                        ]
+                  ]
+            ]
+      ]
+
+-- a record was there
+abbrev pub Unbroken : Record → Type 0
+Unbroken (Start capacity) = Unit {0}
+Unbroken (Entry parent code strip operand) = Unit {0}
+Unbroken (Merge receiver giver) = Unit {0}
+Unbroken (Head console version) = Unit {0}
+Unbroken End = Unit {0}
+Unbroken Broken = ⊥
+
+pub record-whole : (x : Record) (t : List ℕ) → Bytes t → recordAt t ≡ x → Unbroken x
+    → (t ≡ recordBytes x ++ drop (recordLength t) t) × Fits x
+unfolding recordAt recordOf Begins
+record-whole x t bytes e u =
+    let unbroken : recordAt t ≡ Broken → ⊥ = λ b. subst Unbroken (sym e ∙ b) u in
+    elim (decide (ltb (length t) (recordLength t))) [
+      | inl s ↦ absurd (unbroken (cond-true _ _ _ s))
+      | inr l ↦ rw (← e) (begins t bytes (getD t 0 0) refl l unbroken)
+    ]

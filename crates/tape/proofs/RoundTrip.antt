@@ -1,0 +1,89 @@
+-- The tape of a sound room is accepted and gives back that room; an accepted tape is the tape of its room, byte for byte.
+-- Assumes nothing.
+use Prim.Native.Nat.{ℕ, _+_, _-_, _≤_, _<_}
+use mathlib.Core.Path.{_≡_, _∙_}
+use mathlib.Core.Bool.{true}
+use mathlib.Core.List.{List, [], _++_, append-assoc}
+use mathlib.Core.Option.{some}
+use native.Mathlib.Omega.{arith}
+use lib.ListN.{length, length-append}
+use borrow.Author.Tests.{le-ltb}
+use Rattle.laws.proofs.Logic.{and-l, and-r}
+use Rattle.graph.specs.Graph.{versionCount}
+use Rattle.command.proofs.Limits.{within-true}
+use Rattle.room.specs.Room.{Room}
+use Rattle.room.specs.Sound.{sound, maxCapacity}
+use Rattle.room.proofs.Sound.{Sound, sound-facts, heads-named}
+use Rattle.tape.specs.declared.Record.the-variants.{Start, End}
+use Rattle.tape.specs.Record.{recordBytes}
+use Rattle.tape.specs.Tape.{Content, inVersions, readOn, contentOf, contentRefusal, roomOf, tapeOf, versionRecords, headRecords, consolesRise}
+use Rattle.tape.proofs.Records.{Bytes, record-read, record-rest}
+use Rattle.tape.proofs.Accepted.{accepted, accepts}
+use Rattle.tape.proofs.Heads.{headsFrom, Named, slots-forth, all-named, slots-back, rises}
+use Rattle.tape.proofs.Written.{tape-written}
+use Rattle.tape.proofs.Reading.{read-versions, versions-long, read-all-heads}
+
+-- what the tape of a room says
+abbrev pub contentIn : Room → Content
+contentIn r = record { capacity = r .capacity; versions = r .versions; heads = headsFrom 0 (r .heads) [] }
+
+tape-parts : (r : Room)
+    → tapeOf r ≡ recordBytes (Start (r .capacity)) ++ (versionRecords (r .versions) ++ (headRecords 0 (r .heads) ++ recordBytes End))
+unfolding tapeOf
+tape-parts r = simp append-assoc
+
+module _ (r : Room) (s : sound r ≡ true) where
+  k : Sound r
+  k = sound-facts r s
+
+  named-heads : Named (r .versions) (r .heads)
+  named-heads c l = heads-named r s c (omega (arith, k .sixteen))
+
+  small : (r .capacity ≤ maxCapacity) × (length (r .versions) < maxCapacity)
+  small = omega (arith, k .fits, within-true 1 maxCapacity (r .capacity) (k .capacity))
+
+  read-parts : (fuel : ℕ) → length (versionRecords (r .versions)) + length (headRecords 0 (r .heads)) < fuel
+      → readOn fuel inVersions (record { capacity = r .capacity; versions = []; heads = [] })
+      (versionRecords (r .versions) ++ (headRecords 0 (r .heads) ++ recordBytes End))
+      ≡ some (contentIn r)
+  read-parts fuel enough =
+      let long = versions-long (r .versions) in
+      let split : fuel ≡ length (r .versions) + (fuel - length (r .versions)) = omega arith in
+      rw split
+      (read-versions (r .versions) (fuel - length (r .versions)) (r .capacity) _ (k .lower) (k .ranged) (omega (arith, small))
+      ∙ read-all-heads _ (r .heads) _ (omega arith) (k .first) named-heads (omega (arith, small)) (omega (arith, k .sixteen)))
+
+  pub tape-content : contentOf (tapeOf r) ≡ some (contentIn r)
+  unfolding contentOf recordBytes
+  tape-content =
+      let fits : r .capacity < 65536 = omega (arith, small) in
+      rw (tape-parts, record-read (Start (r .capacity)) _ fits, record-rest (Start (r .capacity)) _ fits)
+      (read-parts _ (simp length-append (omega arith)))
+
+  pub tape-room : roomOf (contentIn r) ≡ r
+  tape-room = rw (slots-back (r .heads) (k .sixteen))
+
+  pub tape-accepted : contentRefusal (some (contentIn r)) ≡ 0
+  tape-accepted =
+      let enough = le-ltb (r .capacity) (versionCount (r .versions)) (k .fits) in
+      let rise = rises (r .heads) (k .sixteen) (k .first) in
+      let named = all-named (r .versions) (r .heads) named-heads in
+      accepts (contentIn r)
+      (record { size = k .capacity; range = simp (enough, k .lower, k .ranged, rise, named); room = rw tape-room s })
+
+-- the tape of a sound room is accepted, and gives back that room
+pub tape-back : (r : Room) → sound r ≡ true
+    → (c : Content) × (contentOf (tapeOf r) ≡ some c) × (contentRefusal (some c) ≡ 0) × (roomOf c ≡ r)
+tape-back r s = (contentIn r, tape-content r s, tape-accepted r s, tape-room r s)
+
+-- an accepted tape is the tape of its room
+pub tape-forth : (t : List ℕ) (c : Content) → Bytes t → contentOf t ≡ some c → contentRefusal (some c) ≡ 0 → tapeOf (roomOf c) ≡ t
+unfolding tapeOf
+tape-forth t c bytes e a =
+    let range = accepted c a .range in
+    let rise : consolesRise (c .heads) ≡ true = search (and-l, and-r) in
+    simp (slots-forth (c .heads) rise, tape-written t c bytes e, append-assoc)
+
+-- the room of an accepted tape is sound
+pub accepted-sound : (c : Content) → contentRefusal (some c) ≡ 0 → sound (roomOf c) ≡ true
+accepted-sound c a = accepted c a .room

@@ -1,0 +1,97 @@
+-- What was read of a tape, written again, is what stood there: a tape with a content is the records of that content and the end.
+-- Assumes nothing.
+use Prim.Native.Nat.{ℕ, zero, suc, _+_}
+use mathlib.Core.Path.{_≡_, refl, sym, _∙_}
+use mathlib.Core.Bool.{Bool, true, false, cond}
+use mathlib.Core.List.{List, [], _++_, append-assoc, append-nil}
+use mathlib.Core.Option.{none, some}
+use native.Mathlib.Omega.{arith}
+use lib.Dec.{eqb}
+use lib.ListN.{length, drop, drop-of-length-le}
+use lib.Seq.{getD-drop}
+use borrow.Author.Tests.{eqb-true}
+use Rattle.tape.specs.declared.Record.{Record}
+use Rattle.tape.specs.declared.Record.the-variants.{Start, Entry, Merge, Head, End, Broken}
+use Rattle.tape.specs.Record.{recordAt, recordLength, recordBytes}
+use Rattle.tape.specs.Tape.{Content, Stage, inVersions, inHeads, Next, goOn, finish, refuse, afterRecord, readOn, readFrom, contentOf, versionRecords}
+use Rattle.tape.proofs.Records.{Bytes, Unbroken, record-whole}
+use Rattle.tape.proofs.Heads.{headBytes}
+use Rattle.tape.proofs.Reading.{read-step}
+
+-- the records of a content
+abbrev pub written : Content → List ℕ
+written t = recordBytes (Start (t .capacity)) ++ (versionRecords (t .versions) ++ headBytes (t .heads))
+
+-- before the first head record there is no head
+abbrev Placed : Stage → Content → Type 0
+Placed inVersions t = t .heads ≡ []
+Placed inHeads t = Unit {0}
+
+-- what a record makes of what was read: it is written after it, or it is the end
+abbrev Adds : Content → Record → Next → Type 0
+Adds t x (goOn next more) = Unbroken x × (written more ≡ written t ++ recordBytes x) × Placed next more
+Adds t x finish = x ≡ End
+Adds t x refuse = Unit {0}
+
+adds : (stage : Stage) (t : Content) (x : Record) → Placed stage t → Adds t x (afterRecord stage t x)
+unfolding afterRecord versionRecords
+adds inVersions t (Start capacity) p = tt
+adds inVersions t (Entry parent code strip operand) p = (tt, simp (p, append-assoc, append-nil), p)
+adds inVersions t (Merge receiver giver) p = (tt, simp (p, append-assoc, append-nil), p)
+adds inVersions t (Head console version) p = (tt, simp append-assoc, tt)
+adds inVersions t End p = tt
+adds inVersions t Broken p = tt
+adds inHeads t (Start capacity) p = tt
+adds inHeads t (Entry parent code strip operand) p = tt
+adds inHeads t (Merge receiver giver) p = tt
+adds inHeads t (Head console version) p = (tt, simp append-assoc, tt)
+adds inHeads t End p = refl
+adds inHeads t Broken p = tt
+
+bytes-drop : (n : ℕ) (t : List ℕ) → Bytes t → Bytes (drop n t)
+bytes-drop n t bytes k = rw getD-drop (bytes (n + k))
+
+closed : (b : Bool) (t d : Content) → cond b (some t) none ≡ some d → (b ≡ true) × (t ≡ d)
+closed true t d e = (refl, cc)
+closed false t d e = (cc, cc)
+
+-- what was read before a place and the rest from there are together what is read in the end
+kept : (k : ℕ) (stage : Stage) (t d : Content) (rest : List ℕ) → Placed stage t → Bytes rest → readOn k stage t rest ≡ some d
+    → written t ++ rest ≡ written d ++ recordBytes End
+unfolding readOn
+kept zero stage t d rest p bytes e = cc
+kept (suc k) stage t d rest p bytes e = at (afterRecord stage t (recordAt rest)) refl (adds stage t (recordAt rest) p) (kept k)
+  where
+    at : (n : Next) → afterRecord stage t (recordAt rest) ≡ n → Adds t (recordAt rest) n
+        → ((stage : Stage) (t d : Content) (rest : List ℕ) → Placed stage t → Bytes rest → readOn k stage t rest ≡ some d
+        → written t ++ rest ≡ written d ++ recordBytes End)
+        → written t ++ rest ≡ written d ++ recordBytes End
+    at (goOn next more) q add on =
+        let whole = record-whole (recordAt rest) rest bytes refl (add .0) .0 in
+        let left : List ℕ = drop (recordLength rest) rest in
+        let read-on : readOn k next more left ≡ some d = sym (read-step k stage t rest (goOn next more) q) ∙ e in
+        let later = on next more d left (add .2) (bytes-drop (recordLength rest) rest bytes) read-on in
+        cc (add .1, append-assoc (written t) (recordBytes (recordAt rest)) left)
+    at finish q add on =
+        let last = closed (eqb (length rest) (recordLength rest)) t d (sym (read-step k stage t rest finish q) ∙ e) in
+        let whole = record-whole End rest bytes add tt .0 in
+        let ends = eqb-true (length rest) (recordLength rest) (last .0) in
+        let none-left = drop-of-length-le rest {i = recordLength rest} (omega arith) in
+        cc (last .1, append-nil (recordBytes End))
+    at refuse q add on = cc (read-step k stage t rest refuse q)
+
+pub tape-written : (t : List ℕ) (c : Content) → Bytes t → contentOf t ≡ some c → t ≡ written c ++ recordBytes End
+unfolding contentOf versionRecords
+tape-written t c bytes e = at (recordAt t) refl e
+  where
+    at : (x : Record) → recordAt t ≡ x → readFrom (length t) (drop (recordLength t) t) x ≡ some c → t ≡ written c ++ recordBytes End
+    at (Start capacity) q e =
+        let whole = record-whole (Start capacity) t bytes q tt .0 in
+        let start : Content = record { capacity = capacity; versions = []; heads = [] } in
+        let rest = kept (length t) inVersions start c (drop (recordLength t) t) refl (bytes-drop (recordLength t) t bytes) e in
+        cc (append-nil (recordBytes (Start capacity)))
+    at (Entry parent code strip operand) q e = cc
+    at (Merge receiver giver) q e = cc
+    at (Head console version) q e = cc
+    at End q e = cc
+    at Broken q e = cc
