@@ -21,7 +21,7 @@ boardSize = stripSize * stripCount
 abbrev pub emptyBoard : List ℕ
 emptyBoard = zeros boardSize
 
--- "Offsets: 0 level, 2 heading, 4 marks, 6 calls, 8 alert count, each 16 bits; 10 alert flag (0 or 1); 11 always zero."
+-- "Offsets: 0 level (..), 2 heading (..), 4 marks (..), 6 calls, 8 alert count, each 16 bits; 10 alert flag (0 or 1); 11 always zero."
 -- The place of a cell of strip k.
 abbrev pub levelAt : ℕ → ℕ
 levelAt k = stripSize * k

@@ -4,7 +4,7 @@ use mathlib.Core.List.{List, [], _∷_, _++_}
 use lib.ListN.{length, take, drop, set}
 use Rattle.buffer.specs.Field.{part, same}
 use Rattle.buffer.specs.Row.{bit}
-use Rattle.store.specs.Layout.{storeSize, encode, roomAt, holdsStore}
+use Rattle.store.specs.Layout.{storeSize, encode, roomIn, holdsStore}
 use Rattle.room.specs.Room.{Room, fresh}
 use Rattle.tape.specs.Tape.{tapeOf}
 use Rattle.unit.specs.declared.Reply.{Reply}
@@ -67,7 +67,7 @@ parts =
     ∷ (part mergedStore 5760 1 gives 15 ∷ [])
     ∷ (part mergedStore 5948 12 gives 0 ∷ 100 ∷ 0 ∷ 0 ∷ 0 ∷ 0 ∷ 0 ∷ 1 ∷ 0 ∷ 0 ∷ 0 ∷ 0 ∷ [])
     ∷ (length mergedStore ∷ [] gives 6272 ∷ [])
-    ∷ (tapeOf (roomAt mergedStore) gives tapeOf (made parted (merge 0 1 ∷ [])))
+    ∷ (tapeOf (roomIn mergedStore) gives tapeOf (made parted (merge 0 1 ∷ [])))
     ∷ []
 
 unfoldable pub damages : List Case

@@ -15,7 +15,7 @@ use Rattle.graph.specs.Graph.{versionCount}
 use Rattle.room.specs.Room.{Room, headOf, head}
 use Rattle.room.specs.Boards.{boardOf}
 use Rattle.room.specs.Step.{stepRefusal, step}
-use Rattle.store.specs.Layout.{storeSize, roomAt}
+use Rattle.store.specs.Layout.{storeSize, roomIn}
 use Rattle.unit.specs.declared.Reply.{Reply}
 use Rattle.unit.specs.Calls.{Outcome, openOutcome, commandOutcome}
 

@@ -18,7 +18,7 @@ use Rattle.command.specs.declared.Decoded.{Decoded}
 use Rattle.command.specs.declared.Decoded.the-variants.{Whole, Refused}
 use Rattle.command.specs.Refusal.{_when_, firstRefusal}
 use Rattle.command.specs.Code.{consoleCount, shapeOf, lengthOf, isEntryCode, isConsole, isStrip, isOperand}
-use Rattle.command.specs.Decode.{codeAt, operandsIn, isCommandCode, commandRefusal, commandOf, decode}
+use Rattle.command.specs.Decode.{codeIn, operandsIn, isCommandCode, commandRefusal, commandOf, decode}
 use Rattle.command.proofs.Refusals.{none-applies}
 
 -- two different consoles
@@ -39,7 +39,7 @@ record Passed (code : ℕ) (o : Operands) : Type 0 where
   five : isEntryCode code && not (isOperand code (o .third)) ≡ false
   six : not (isEntryCode code) && eqb (o .first) (o .second) ≡ false
 
-passed : (s : List ℕ) → commandRefusal s ≡ 0 → Passed (codeAt s) (operandsIn s)
+passed : (s : List ℕ) → commandRefusal s ≡ 0 → Passed (codeIn s) (operandsIn s)
 unfolding commandRefusal
 passed s h =
     let third = none-applies _ h .1 (lit< tt) .1 (lit< tt) in
@@ -84,11 +84,11 @@ ranges code o p false false true e = two code o p e
 ranges code o p false false false e = two code o p e
 
 whole : (s : List ℕ) (c : Command) (t : Bool) → eqb (commandRefusal s) 0 ≡ t
-    → cond t (Whole (commandOf (codeAt s) (operandsIn s))) (Refused (commandRefusal s)) ≡ Whole c → InRange c
+    → cond t (Whole (commandOf (codeIn s) (operandsIn s))) (Refused (commandRefusal s)) ≡ Whole c → InRange c
 unfolding commandOf
 whole s c true e h =
-    let same : commandOf (codeAt s) (operandsIn s) ≡ c = cc in
-    subst InRange same (ranges (codeAt s) (operandsIn s) (passed s (eqb-true _ _ e)) _ (eqb (codeAt s) 0x01) (eqb (codeAt s) 0x09) refl)
+    let same : commandOf (codeIn s) (operandsIn s) ≡ c = cc in
+    subst InRange same (ranges (codeIn s) (operandsIn s) (passed s (eqb-true _ _ e)) _ (eqb (codeIn s) 0x01) (eqb (codeIn s) 0x09) refl)
 whole s c false e h = absurd (let z : _≡_ {A = ℕ} 0 1 = cc in omega arith)
 
 pub decode-range : (s : List ℕ) (c : Command) → decode s ≡ Whole c → InRange c

@@ -36,12 +36,12 @@ shapeOf code =
     (cond (eqb code 0x23) (Known 1 2 0 0)
     (cond (eqb code 0x24) (Known 0 0 0 0) Unknown)))))))))
 
--- how many bytes a code and what follows it take
+-- how many bytes a code and what follows it take; an unknown code is refused, with 1 as a command and 7 on a tape
 unfoldable pub lengthOf : Shape → ℕ
 lengthOf (Known a b c d) = 1 + a + b + c + d
 lengthOf Unknown = 0
 
--- the number that stands at a place, one or two bytes wide; no byte gives 0
+-- the number that stands at a place, one or two bytes wide; of width 0 there is none, and it reads as 0
 unfoldable pub numberAt : List ℕ → ℕ → ℕ → ℕ
 numberAt s at width = cond (eqb width 2) (wordAt s at) (cond (eqb width 1) (getD s at 0) 0)
 
@@ -66,7 +66,7 @@ isConsole c = ltb c consoleCount
 abbrev pub isStrip : ℕ → Bool
 isStrip k = ltb k stripCount
 
--- "level (0 to 600 ..)", "heading (0 to 360 ..)", "mark k .. k from 0 to 15", "0 for 06 to 08"
+-- "level (0 to 600 ..)", "heading (0 to 360 ..)", "mark k .. k from 0 to 15", "0 for 06 to 08": what an entry of this code may carry
 unfoldable pub isOperand : ℕ → ℕ → Bool
 isOperand code x =
     cond (eqb code 0x02) (leb x 600)

@@ -4,6 +4,7 @@ use mathlib.Core.Bool.{Bool, true, false, cond, not, _&&_, _||_}
 use mathlib.Core.List.{List, [], _∷_}
 use lib.Dec.{eqb}
 use lib.ListN.{length, getD}
+use Rattle.buffer.specs.Field.{word}
 use Rattle.board.specs.declared.Strip.{Strip}
 use Rattle.command.specs.declared.Console.{Console}
 use Rattle.command.specs.declared.Operands.{Operands}
@@ -15,27 +16,27 @@ use Rattle.command.specs.Refusal.{_when_, firstRefusal}
 use Rattle.command.specs.Code.{within, shapeOf, lengthOf, operandsOf, isEntryCode, isConsole, isStrip, isOperand}
 
 -- the code of a command; an empty one has none, and reads as 0, which is no command's
-abbrev pub codeAt : List ℕ → ℕ
-codeAt s = getD s 0 0
+abbrev pub codeIn : List ℕ → ℕ
+codeIn s = getD s 0 0
 
 abbrev pub isCommandCode : ℕ → Bool
 isCommandCode code = within 0x01 0x0A code
 
 -- the operands of a command whose length is its code's
 abbrev pub operandsIn : List ℕ → Operands
-operandsIn s = operandsOf (shapeOf (codeAt s)) s
+operandsIn s = operandsOf (shapeOf (codeIn s)) s
 
 -- "1 empty command, or code outside 01 to 0A. 2 length not the code's. 3 console above 15. 4 strip above 31. 5 level above 600,
--- heading above 360, mark above 15. 6 the same console twice in 01, 09, 0A." Codes 02 to 08 name a console, a strip and an operand,
--- the others two consoles.
+-- heading above 360, mark above 15. 6 the same console twice in 01, 09, 0A." Codes 02 to 08 name a console and a strip,
+-- 02 to 05 an operand besides, the others two consoles.
 unfoldable pub commandRefusal : List ℕ → ℕ
 commandRefusal s =
-    let code : ℕ = codeAt s in
+    let code : ℕ = codeIn s in
     let o : Operands = operandsIn s in
     firstRefusal
     (1 when not (isCommandCode code)
     ∷ 2 when not (eqb (length s) (lengthOf (shapeOf code)))
-    ∷ 3 when (not (isConsole (o .first)) || not (isEntryCode code) && not (isConsole (o .second)))
+    ∷ 3 when (not (isConsole (o .first)) || (not (isEntryCode code) && not (isConsole (o .second))))
     ∷ 4 when (isEntryCode code && not (isStrip (o .second)))
     ∷ 5 when (isEntryCode code && not (isOperand code (o .third)))
     ∷ 6 when (not (isEntryCode code) && eqb (o .first) (o .second))
@@ -50,16 +51,20 @@ commandOf code o =
     (FastForward (record { 0 = o .first }) (record { 0 = o .second }))))
 
 unfoldable pub decode : List ℕ → Decoded
-decode s = cond (eqb (commandRefusal s) 0) (Whole (commandOf (codeAt s) (operandsIn s))) (Refused (commandRefusal s))
+decode s = cond (eqb (commandRefusal s) 0) (Whole (commandOf (codeIn s) (operandsIn s))) (Refused (commandRefusal s))
 
--- the refusal of what was decoded, 0 for a whole command
+-- the paper's number for what was decoded: its refusal, or 0 for a whole command
 abbrev pub refusalOf : Decoded → ℕ
 refusalOf (Whole c) = 0
 refusalOf (Refused n) = n
 
--- the paper's code for each command
-abbrev pub codeOf : Command → ℕ
-codeOf (Fork new old) = 0x01
-codeOf (Entry console code strip operand) = code
-codeOf (Merge receiver giver) = 0x09
-codeOf (FastForward receiver giver) = 0x0A
+-- an entry's operand: 16 bits for 02 and 03, a byte for 04 and 05, none for 06 to 08
+unfoldable pub operandBytes : ℕ → ℕ → List ℕ
+operandBytes code operand = cond (within 0x02 0x03 code) (word operand) (cond (within 0x04 0x05 code) (operand ∷ []) [])
+
+-- the paper's code and values for each command
+unfoldable pub commandBytes : Command → List ℕ
+commandBytes (Fork new old) = 0x01 ∷ new .0 ∷ old .0 ∷ []
+commandBytes (Entry console code strip operand) = code ∷ console .0 ∷ strip .0 ∷ operandBytes code operand
+commandBytes (Merge receiver giver) = 0x09 ∷ receiver .0 ∷ giver .0 ∷ []
+commandBytes (FastForward receiver giver) = 0x0A ∷ receiver .0 ∷ giver .0 ∷ []

@@ -11,7 +11,7 @@ use native.Mathlib.Decide.{ℕ-discrete}
 use lib.Dec.{eqb}
 use borrow.Author.Tests.{eqb-false}
 use Rattle.laws.proofs.Logic.{clash, refuted, and-l, and-r, and-i, not-e, bool-ext}
-use Rattle.graph.specs.Graph.{Node, merge, entry, Graph, versionCount, ancestor, isEntry, meet, everyVersion, parentsLower, isBase, mergeHasBase}
+use Rattle.graph.specs.Graph.{Node, merge, entry, Graph, versionCount, ancestor, isEntry, meet, everyVersion, parentsLower, servesAsBase, mergeHasBase}
 use Rattle.graph.proofs.Parent.{Parent, sole, receiver, giver}
 use Rattle.graph.proofs.Ancestor.{every-new, every-old, isEntry-new, isEntry-old, isEntry-named, ancestor-first, same, above, before, ways, ancestor-same, ancestor-above, ancestor-old, ancestor-le, ancestor-below, ancestor-trans}
 use Rattle.graph.proofs.Meet.{Meet, meet-is, meet-sym}
@@ -28,7 +28,7 @@ wellFormed-old {n} {g} w = record { lower = every-old parentsLower n g (w .lower
 pub merge-base : {p q : ℕ} {g : Graph} → WellFormed (merge p q ∷ g) → (l : ℕ) × Meet g p q l × (l ≡ p → ⊥) × (l ≡ q → ⊥)
 merge-base {p} {q} {g} w = go (meet g p q) refl (every-new mergeHasBase (merge p q) g (w .based))
   where
-    go : (o : Option ℕ) → meet g p q ≡ o → isBase p q o ≡ true → (l : ℕ) × Meet g p q l × (l ≡ p → ⊥) × (l ≡ q → ⊥)
+    go : (o : Option ℕ) → meet g p q ≡ o → servesAsBase p q o ≡ true → (l : ℕ) × Meet g p q l × (l ≡ p → ⊥) × (l ≡ q → ⊥)
     go none e h = clash h refl
     go (some l) e h = (
       l,

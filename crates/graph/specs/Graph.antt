@@ -19,15 +19,11 @@ pub data Node : Type 0 where
 abbrev pub Graph : Type 0
 Graph = List Node
 
--- the number of the newest version
-abbrev pub newest : Graph → ℕ
-newest g = length g
-
 -- how many versions there are, version 0 included
 abbrev pub versionCount : Graph → ℕ
 versionCount g = suc (length g)
 
--- a test of some parent of a version
+-- some parent of a version passes a test
 abbrev pub someParent : (ℕ → Bool) → Node → Bool
 someParent f (entry p code strip operand) = f p
 someParent f (merge p q) = f p || f q
@@ -44,12 +40,12 @@ unfoldable pub nodeOf : Graph → ℕ → Option Node
 nodeOf [] v = none
 nodeOf (n ∷ g) v = cond (eqb v (versionCount g)) (some n) (nodeOf g v)
 
--- version v is an entry
 abbrev pub entryNode : Option Node → Bool
 entryNode none = false
 entryNode (some (entry p code strip operand)) = true
 entryNode (some (merge p q)) = false
 
+-- version v is an entry
 abbrev pub isEntry : Graph → ℕ → Bool
 isEntry g v = entryNode (nodeOf g v)
 
@@ -62,6 +58,7 @@ unfoldable pub isMeet : Graph → ℕ → ℕ → ℕ → Bool
 isMeet g u v m =
     commonAncestor g u v m && everyBelow (versionCount g) (λ w. not (commonAncestor g u v w) || ancestor g w m)
 
+-- the meet, where there is one; no two versions pass the test, so that the highest that does is the only one
 unfoldable pub meet : Graph → ℕ → ℕ → Option ℕ
 meet g u v = highestBelow (versionCount g) (isMeet g u v)
 
@@ -73,7 +70,7 @@ abbrev pub isSome : Option ℕ → Bool
 isSome none = false
 isSome (some m) = true
 
--- a test of every version after version 0 and the versions before it
+-- every version after version 0 passes a test, which is given the versions before it and the version
 unfoldable pub everyVersion : (Graph → Node → Bool) → Graph → Bool
 everyVersion f [] = true
 everyVersion f (n ∷ g) = f g n && everyVersion f g
@@ -83,11 +80,15 @@ abbrev pub parentsLower : Graph → Node → Bool
 parentsLower g (entry p code strip operand) = ltb p (versionCount g)
 parentsLower g (merge p q) = ltb p (versionCount g) && ltb q (versionCount g)
 
--- "the two parents of a merge have a single lowest common ancestor, equal to neither, and it is the base"
-abbrev pub isBase : ℕ → ℕ → Option ℕ → Bool
-isBase p q none = false
-isBase p q (some m) = not (eqb m p) && not (eqb m q)
+-- "the two parents of a merge have a single lowest common ancestor, equal to neither, and it is the base": the base of a merge is the
+-- meet of its parents among the versions before it
+abbrev pub baseOf : Graph → ℕ → ℕ → ℕ
+baseOf g p q = meetNumber g p q
+
+abbrev pub servesAsBase : ℕ → ℕ → Option ℕ → Bool
+servesAsBase p q none = false
+servesAsBase p q (some m) = not (eqb m p) && not (eqb m q)
 
 abbrev pub mergeHasBase : Graph → Node → Bool
 mergeHasBase g (entry p code strip operand) = true
-mergeHasBase g (merge p q) = isBase p q (meet g p q)
+mergeHasBase g (merge p q) = servesAsBase p q (meet g p q)

@@ -16,7 +16,7 @@ use Rattle.graph.proofs.Below.{at, of, some-at, some-of}
 use Rattle.graph.proofs.Meet.{Meet, meet-is, meet-found}
 use Rattle.command.specs.Code.{consoleCount}
 use Rattle.room.specs.Room.{Room, headOf, present, head}
-use Rattle.room.specs.Sound.{isCapacity, entryInRange, namesVersion, headsNameVersions, twoMeet, headsMeet, behindHead, allBehindHeads, sound}
+use Rattle.room.specs.Sound.{isCapacity, entryInRange, namesVersion, headsNameVersions, twoMeet, headsMeet, behindHead, allBehindHeads, soundRoom}
 
 pub record Sound (r : Room) : Type 0 where
   pub lower : everyVersion parentsLower (r .versions) ≡ true
@@ -57,8 +57,8 @@ meets-of g u v none e t = clash t refl
 meets-of g u v (some m) e t = (m, meet-is g u v m e)
 
 -- each clause stands in the chain of tests
-pub sound-facts : (r : Room) → sound r ≡ true → Sound r
-unfolding sound headsMeet allBehindHeads
+pub sound-facts : (r : Room) → soundRoom r ≡ true → Sound r
+unfolding soundRoom headsMeet allBehindHeads
 sound-facts r h =
     let l : length (r .heads) ≡ consoleCount = eqb-true _ _ (search (and-l, and-r) depth 12) in
     let named : headsNameVersions r ≡ true = search (and-l, and-r) depth 12 in
@@ -89,8 +89,8 @@ names-of : (g : Graph) (h : Option ℕ) → ((v : ℕ) → h ≡ some v → v < 
 names-of g none f = refl
 names-of g (some v) f = lt-ltb v (versionCount g) (f v refl)
 
-pub facts-sound : (r : Room) → Sound r → sound r ≡ true
-unfolding sound headsMeet allBehindHeads
+pub facts-sound : (r : Room) → Sound r → soundRoom r ≡ true
+unfolding soundRoom headsMeet allBehindHeads
 facts-sound r s =
     let found : (c d : ℕ) → twoMeet r c d ≡ true =
     λ c d. implies-i2 (present r c) (present r d) _ (λ p q. ap isSome (meet-found (s .meets c d p q .1))) in
@@ -110,8 +110,8 @@ facts-sound r s =
     (s .ranged)
 
 -- the clause on heads as a test of each console
-pub heads-named : (r : Room) → sound r ≡ true → (c : ℕ) → c < consoleCount → namesVersion (r .versions) (headOf r c) ≡ true
-unfolding sound
+pub heads-named : (r : Room) → soundRoom r ≡ true → (c : ℕ) → c < consoleCount → namesVersion (r .versions) (headOf r c) ≡ true
+unfolding soundRoom
 heads-named r h c l =
     let named : headsNameVersions r ≡ true = search (and-l, and-r) depth 12 in
     at consoleCount _ named c l

@@ -26,7 +26,7 @@ use Rattle.command.specs.Code.{consoleCount, isEntryCode, isStrip, isOperand}
 use Rattle.command.proofs.Refusals.{none-applies}
 use Rattle.command.proofs.Ranges.{InRange}
 use Rattle.room.specs.Room.{Room, headOf, present, head, common, fresh}
-use Rattle.room.specs.Sound.{isCapacity, headsMeet, allBehindHeads, sound}
+use Rattle.room.specs.Sound.{isCapacity, headsMeet, allBehindHeads, soundRoom}
 use Rattle.room.specs.Step.{absent, behind, apart, splits, someThirdSplits, full, stepRefusal, moved, grown, step}
 use Rattle.room.proofs.Sound.{Sound, present-console, present-head, meets-of, sound-facts, facts-sound}
 use Rattle.room.proofs.Moves.{there, number, new-head, new-number, kept, moved-sound, grown-sound, grown-meets}
@@ -190,13 +190,13 @@ merge-sound r s a b range h =
     (fourteen .0 (lit< tt)) (fifteen .0 (lit< tt)) (seventeen .0 (lit< tt)) (leb-false _ _ (seventeen .1 (lit< tt) .0 (lit< tt)))
 
 -- each accepted command takes a sound room to a sound room
-pub step-sound : (r : Room) (c : Command) → sound r ≡ true → InRange c → stepRefusal r c ≡ 0 → sound (step r c) ≡ true
+pub step-sound : (r : Room) (c : Command) → soundRoom r ≡ true → InRange c → stepRefusal r c ≡ 0 → soundRoom (step r c) ≡ true
 step-sound r (Fork new old) s range h = facts-sound _ (fork-sound r (sound-facts r s) new old range h)
 step-sound r (Entry console code strip operand) s range h = facts-sound _ (entry-sound r (sound-facts r s) console code strip operand range h)
 step-sound r (Merge a b) s range h = facts-sound _ (merge-sound r (sound-facts r s) a b range h)
 step-sound r (FastForward a b) s range h = facts-sound _ (forward-sound r (sound-facts r s) a b range h)
 
 -- opening gives a sound room
-pub fresh-sound : (capacity : ℕ) → isCapacity capacity ≡ true → sound (fresh capacity) ≡ true
-unfolding sound everyVersion headsMeet allBehindHeads everyBelow someBelow ancestor meet isMeet highestBelow
+pub fresh-sound : (capacity : ℕ) → isCapacity capacity ≡ true → soundRoom (fresh capacity) ≡ true
+unfolding soundRoom everyVersion headsMeet allBehindHeads everyBelow someBelow ancestor meet isMeet highestBelow
 fresh-sound capacity h = and-i _ _ (and-i (isCapacity capacity) _ h (and-l _ _ h)) refl

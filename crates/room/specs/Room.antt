@@ -8,7 +8,8 @@ use Rattle.graph.specs.Below.{countBelow}
 use Rattle.graph.specs.Graph.{Graph, versionCount, ancestor, isEntry, meetNumber, isSome}
 use Rattle.command.specs.Code.{consoleCount}
 
--- Rows, boards, bases and commons are functions of these three.
+-- Rows, boards, bases and commons are functions of these three. Versions, consoles and strips are plain numbers here, as they are counted,
+-- compared and looked up; a value of the code (a command, a record of a tape) has them as tuple structs.
 pub record Room : Type 0 where
   pub capacity : ℕ
   pub versions : Graph
@@ -26,7 +27,7 @@ present r c = isSome (headOf r c)
 abbrev pub head : Room → ℕ → ℕ
 head r c = Option·getD (headOf r c) 0
 
--- "For each two present consoles a common version is recorded"; "of a console with itself: its head"
+-- "the ancestor of both heads of which every other common ancestor is an ancestor"; "of a console with itself: its head"
 unfoldable pub common : Room → ℕ → ℕ → ℕ
 common r c d = meetNumber (r .versions) (head r c) (head r d)
 

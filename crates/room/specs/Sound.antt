@@ -1,5 +1,5 @@
--- "A store is sound when: .." Clause by clause; that boards, rows, bases and commons are the right ones is the encoding's part, as they
--- are functions of the room.
+-- "A store is sound when: .." The clauses on the room, one by one. That its bytes show the right boards, rows, bases and commons is the
+-- clause "the bytes are its one encoding", in the store's Layout (`holdsStore`), as those are functions of the room.
 use Prim.Native.Nat.{ℕ, suc}
 use mathlib.Core.Bool.{Bool, true, false, not, _&&_, _||_}
 use mathlib.Core.List.{List, [], _∷_}
@@ -31,7 +31,7 @@ namesVersion g (some v) = ltb v (versionCount g)
 abbrev pub headsNameVersions : Room → Bool
 headsNameVersions r = everyBelow consoleCount (λ c. namesVersion (r .versions) (headOf r c))
 
--- "every two heads have one too"
+-- "every two heads have one too, and it is recorded"
 abbrev pub twoMeet : Room → ℕ → ℕ → Bool
 twoMeet r c d = not (present r c) || not (present r d) || isSome (meet (r .versions) (head r c) (head r d))
 
@@ -46,8 +46,8 @@ unfoldable pub allBehindHeads : Room → Bool
 allBehindHeads r = everyBelow (versionCount (r .versions)) (behindHead r)
 
 -- the clauses in the paper's order; a head that is none of the versions, and a list of other than 16 heads, are no room's
-unfoldable pub sound : Room → Bool
-sound r =
+unfoldable pub soundRoom : Room → Bool
+soundRoom r =
     everyVersion parentsLower (r .versions)
     && everyVersion mergeHasBase (r .versions)
     && eqb (length (r .heads)) consoleCount && headsNameVersions r && headsMeet r

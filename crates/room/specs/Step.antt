@@ -15,22 +15,23 @@ use Rattle.command.specs.Refusal.{_when_, firstRefusal}
 use Rattle.command.specs.Code.{consoleCount}
 use Rattle.room.specs.Room.{Room, headOf, present, head, common}
 
--- "12 a named console is absent (fork: the old one)."
 abbrev pub absent : Room → ℕ → Bool
 absent r c = not (present r c)
 
--- the head of c is an ancestor of the head of d
+-- the head of c is an ancestor of the head of d, itself included
 abbrev pub behind : Room → ℕ → ℕ → Bool
 behind r c d = ancestor (r .versions) (head r c) (head r d)
 
--- "17 merge: for some third console, its common versions with receiver and with giver are neither an ancestor of the other."
+-- neither of two versions is an ancestor of the other
 abbrev pub apart : Room → ℕ → ℕ → Bool
 apart r u v = not (ancestor (r .versions) u v) && not (ancestor (r .versions) v u)
 
+-- console k is a third one whose common versions with the two are apart
 abbrev pub splits : Room → ℕ → ℕ → ℕ → Bool
 splits r receiver giver k =
     present r k && not (eqb k receiver) && not (eqb k giver) && apart r (common r k receiver) (common r k giver)
 
+-- "17 merge: for some third console, its common versions with receiver and with giver are neither an ancestor of the other."
 abbrev pub someThirdSplits : Room → ℕ → ℕ → Bool
 someThirdSplits r receiver giver = someBelow consoleCount (splits r receiver giver)
 
@@ -38,7 +39,7 @@ someThirdSplits r receiver giver = someBelow consoleCount (splits r receiver giv
 abbrev pub full : Room → Bool
 full r = leb (r .capacity) (versionCount (r .versions))
 
--- The first refusal that applies, or 0. "13 fork's new console is present. 14 merge or fast-forward: giver's head is an ancestor of
+-- The first refusal that applies, or 0. "12 a named console is absent (fork: the old one). 13 fork's new console is present. 14 merge or fast-forward: giver's head is an ancestor of
 -- receiver's. 15 merge: receiver's head is an ancestor of giver's. 16 fast-forward: receiver's head isn't an ancestor of giver's."
 unfoldable pub stepRefusal : Room → Command → ℕ
 stepRefusal r (Fork new old) = firstRefusal (12 when absent r (old .0) ∷ 13 when present r (new .0) ∷ [])
@@ -71,7 +72,7 @@ grown r c n =
       heads = set (r .heads) c (some (versionCount (r .versions)));
     }
 
--- "Codes 02 to 08 make an entry version on the console's head". "Fork gives the new console the old one's head and makes no version.
+-- "Codes 02 to 08 make an entry version on the console's head, also when nothing visible changes." "Fork gives the new console the old one's head and makes no version.
 -- Fast-forward gives the receiver the giver's head and makes no version. Merge makes a version on the receiver."
 unfoldable pub step : Room → Command → Room
 step r (Fork new old) = moved r (new .0) (headOf r (old .0))

@@ -19,34 +19,34 @@ use Rattle.command.specs.Code.{consoleCount}
 use Rattle.room.specs.Room.{Room}
 use Rattle.room.specs.Boards.{boardOf}
 use Rattle.room.proofs.Lengths.{boardOf-length}
-use Rattle.store.specs.Layout.{headerSize, recordSize, rowSize, blockSize, capacityAt, countAt, entriesAt, commonsAt, commonsEnd, commonAt, blockAt, rowAt, boardAt, commonField, commonRow, commonRows, header, recordOf, block, blocks, encode}
+use Rattle.store.specs.Layout.{headerSize, nodeSize, rowSize, blockSize, capacityAt, countAt, entriesAt, commonsAt, commonsEnd, commonAt, blockAt, rowAt, boardAt, commonField, commonFields, commonTable, header, nodeBytes, block, blocks, encode}
 
-pub commonRow-length : (r : Room) (c d n : ℕ) → length (commonRow r c d n) ≡ 2 * n
-unfolding commonRow
-commonRow-length r c d zero = refl
-commonRow-length r c d (suc n) = rw (commonRow-length r c (suc d) n) (omega arith)
+pub commonFields-length : (r : Room) (c d n : ℕ) → length (commonFields r c d n) ≡ 2 * n
+unfolding commonFields
+commonFields-length r c d zero = refl
+commonFields-length r c d (suc n) = rw (commonFields-length r c (suc d) n) (omega arith)
 
-pub commonRows-length : (r : Room) (c n : ℕ) → length (commonRows r c n) ≡ 32 * n
-unfolding commonRows
-commonRows-length r c zero = refl
-commonRows-length r c (suc n) =
-    rw (length-append, commonRow-length r c 0 16, commonRows-length r (suc c) n) (omega arith)
+pub commonTable-length : (r : Room) (c n : ℕ) → length (commonTable r c n) ≡ 32 * n
+unfolding commonTable
+commonTable-length r c zero = refl
+commonTable-length r c (suc n) =
+    rw (length-append, commonFields-length r c 0 16, commonTable-length r (suc c) n) (omega arith)
 
 pub header-length : (r : Room) → length (header r) ≡ headerSize
 unfolding header
 header-length r =
-    simp (length-append, zeros-length, rowFrom-length (isEntry (r .versions)) 0 128, commonRows-length r 0 16)
+    simp (length-append, zeros-length, rowFrom-length (isEntry (r .versions)) 0 128, commonTable-length r 0 16)
 
-pub recordOf-length : (g : Graph) (n : Option Node) → length (recordOf g n) ≡ recordSize
-unfolding recordOf
-recordOf-length g none = refl
-recordOf-length g (some (entry p code strip operand)) = refl
-recordOf-length g (some (merge p q)) = refl
+pub nodeBytes-length : (g : Graph) (n : Option Node) → length (nodeBytes g n) ≡ nodeSize
+unfolding nodeBytes
+nodeBytes-length g none = refl
+nodeBytes-length g (some (entry p code strip operand)) = refl
+nodeBytes-length g (some (merge p q)) = refl
 
 pub block-length : (g : Graph) (v : ℕ) → length (block g v) ≡ blockSize
 unfolding block
 block-length g v =
-    simp (length-append, recordOf-length g (nodeOf g v), rowFrom-length (λ u. ancestor g u v) 0 128, boardOf-length g v)
+    simp (length-append, nodeBytes-length g (nodeOf g v), rowFrom-length (λ u. ancestor g u v) 0 128, boardOf-length g v)
 
 pub blocks-length : (g : Graph) (n : ℕ) → length (blocks g n) ≡ blockSize * n
 unfolding blocks
@@ -54,28 +54,28 @@ blocks-length g zero = refl
 blocks-length g (suc n) = rw (length-append, blocks-length g n, block-length g n) (omega arith)
 
 -- a field of a row of the table, a row of the table, a block of the blocks: each stands where its number says
-stands-in-row : {s : List ℕ} {at : ℕ} (r : Room) (c d n k : ℕ) → Stands s at (commonRow r c d n) → k < n
+stands-in-row : {s : List ℕ} {at : ℕ} (r : Room) (c d n k : ℕ) → Stands s at (commonFields r c d n) → k < n
     → Stands s (at + 2 * k) (word (commonField r c (d + k)))
-unfolding commonRow
+unfolding commonFields
 stands-in-row r c d zero k h l = absurd (not-suc-le-zero l)
 stands-in-row {s} {at} r c d (suc n) zero h l =
     subst₂ (λ (i j : ℕ). Stands s i (word (commonField r c j))) (omega arith) (omega arith)
-    (stands-left (word (commonField r c d)) (commonRow r c (suc d) n) h)
+    (stands-left (word (commonField r c d)) (commonFields r c (suc d) n) h)
 stands-in-row {s} {at} r c d (suc n) (suc k) h l =
     subst₂ (λ (i j : ℕ). Stands s i (word (commonField r c j))) (omega arith) (omega arith)
-    (stands-in-row r c (suc d) n k (stands-right (word (commonField r c d)) (commonRow r c (suc d) n) h refl) (omega arith))
+    (stands-in-row r c (suc d) n k (stands-right (word (commonField r c d)) (commonFields r c (suc d) n) h refl) (omega arith))
 
-stands-in-rows : {s : List ℕ} {at : ℕ} (r : Room) (c n k : ℕ) → Stands s at (commonRows r c n) → k < n
-    → Stands s (at + 32 * k) (commonRow r (c + k) 0 16)
-unfolding commonRows
+stands-in-rows : {s : List ℕ} {at : ℕ} (r : Room) (c n k : ℕ) → Stands s at (commonTable r c n) → k < n
+    → Stands s (at + 32 * k) (commonFields r (c + k) 0 16)
+unfolding commonTable
 stands-in-rows r c zero k h l = absurd (not-suc-le-zero l)
 stands-in-rows {s} {at} r c (suc n) zero h l =
-    subst₂ (λ (i j : ℕ). Stands s i (commonRow r j 0 16)) (omega arith) (omega arith)
-    (stands-left (commonRow r c 0 16) (commonRows r (suc c) n) h)
+    subst₂ (λ (i j : ℕ). Stands s i (commonFields r j 0 16)) (omega arith) (omega arith)
+    (stands-left (commonFields r c 0 16) (commonTable r (suc c) n) h)
 stands-in-rows {s} {at} r c (suc n) (suc k) h l =
-    subst₂ (λ (i j : ℕ). Stands s i (commonRow r j 0 16)) (omega arith) (omega arith)
+    subst₂ (λ (i j : ℕ). Stands s i (commonFields r j 0 16)) (omega arith) (omega arith)
     (stands-in-rows {at = at + 32} r (suc c) n k
-    (stands-right (commonRow r c 0 16) (commonRows r (suc c) n) h (rw commonRow-length)) (omega arith))
+    (stands-right (commonFields r c 0 16) (commonTable r (suc c) n) h (rw commonFields-length)) (omega arith))
 
 stands-in-blocks : {s : List ℕ} {at : ℕ} (g : Graph) (n v : ℕ) → Stands s at (blocks g n) → v < n
     → Stands s (at + blockSize * v) (block g v)
@@ -95,7 +95,7 @@ abbrev entries : Room → List ℕ
 entries r = row (isEntry (r .versions)) rowSize
 
 abbrev table : Room → List ℕ
-table r = commonRows r 0 consoleCount
+table r = commonTable r 0 consoleCount
 
 abbrev filled : Room → List ℕ
 filled r = blocks (r .versions) (versionCount (r .versions))
@@ -150,20 +150,20 @@ module _ {s : List ℕ} (r : Room) (h : Stands s 0 (encode r)) where
     lineage = row (λ u. ancestor (r .versions) u v) rowSize
 
     abbrev note : List ℕ
-    note = recordOf (r .versions) (nodeOf (r .versions) v)
+    note = nodeBytes (r .versions) (nodeOf (r .versions) v)
 
     stands-ahead : Stands s (blockAt v) (note ++ lineage)
     unfolding block
     stands-ahead = stands-left (note ++ lineage) (boardOf (r .versions) v) (stands-block v l)
 
-    pub stands-record : Stands s (blockAt v) (recordOf (r .versions) (nodeOf (r .versions) v))
+    pub stands-record : Stands s (blockAt v) (nodeBytes (r .versions) (nodeOf (r .versions) v))
     stands-record = stands-left note lineage stands-ahead
 
     pub stands-row : Stands s (rowAt v) (row (λ u. ancestor (r .versions) u v) rowSize)
-    stands-row = stands-right note lineage stands-ahead (rw recordOf-length)
+    stands-row = stands-right note lineage stands-ahead (rw nodeBytes-length)
 
     pub stands-board : Stands s (boardAt v) (boardOf (r .versions) v)
     unfolding block
     stands-board =
         stands-right (note ++ lineage) (boardOf (r .versions) v) (stands-block v l)
-        (simp (length-append, recordOf-length, rowFrom-length) (omega arith))
+        (simp (length-append, nodeBytes-length, rowFrom-length) (omega arith))

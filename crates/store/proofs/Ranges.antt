@@ -8,7 +8,7 @@ use Rattle.graph.specs.Graph.{versionCount, everyVersion, parentsLower}
 use Rattle.command.specs.Code.{consoleCount}
 use Rattle.command.proofs.Limits.{within-true}
 use Rattle.room.specs.Room.{Room, headOf}
-use Rattle.room.specs.Sound.{maxCapacity, entryInRange, namesVersion, sound}
+use Rattle.room.specs.Sound.{maxCapacity, entryInRange, namesVersion, soundRoom}
 use Rattle.room.proofs.Sound.{sound-facts, heads-named}
 
 -- the ranges, clause by clause of soundness
@@ -20,7 +20,7 @@ pub record Ranges (r : Room) : Type 0 where
   pub sixteen : length (r .heads) ≡ consoleCount
   pub heads : (c : ℕ) → c < consoleCount → namesVersion (r .versions) (headOf r c) ≡ true
 
-pub ranges : (r : Room) → sound r ≡ true → Ranges r
+pub ranges : (r : Room) → soundRoom r ≡ true → Ranges r
 ranges r h =
     let k = sound-facts r h in
     record {

@@ -18,7 +18,7 @@ use Rattle.graph.specs.Graph.{isSome, Graph, Node, entry, merge, versionCount, 
 use Rattle.command.specs.Code.{consoleCount}
 use Rattle.room.specs.Room.{Room, headOf, present, head, common}
 use Rattle.room.specs.Sound.{entryInRange, namesVersion}
-use Rattle.store.specs.Layout.{fieldWhere, blockAt, commonAt, headAt, capacityAt, countAt, commonField, recordOf, encode, nodeAt, versionsAt, headIn, headsAt}
+use Rattle.store.specs.Layout.{fieldWhere, blockAt, commonAt, headAt, capacityAt, countAt, commonField, nodeBytes, encode, nodeIn, versionsIn, headFrom, headsIn}
 use Rattle.store.proofs.Diagonal.{meetNumber-below, meetNumber-self}
 use Rattle.store.proofs.Blocks.{stands-common, stands-record, stands-capacity, stands-count}
 use Rattle.command.proofs.Limits.{operand-below}
@@ -26,10 +26,10 @@ use Rattle.store.proofs.Ranges.{Ranges}
 
 -- a version in range reads back from its record; the graph g that its base is taken from does not matter
 pub node-read : (s : List ℕ) (v : ℕ) (g before : Graph) (n : Node)
-    → Stands s (blockAt v) (recordOf g (some n))
+    → Stands s (blockAt v) (nodeBytes g (some n))
     → length before < 1024 → parentsLower before n ≡ true → entryInRange before n ≡ true
-    → nodeAt s v ≡ n
-unfolding recordOf nodeAt
+    → nodeIn s v ≡ n
+unfolding nodeBytes nodeIn
 node-read s v g before (entry p code strip operand) h l i j =
     let a = leb-true 2 code (search (and-l, and-r)) in
     let b = leb-true code 8 (search (and-l, and-r)) in
@@ -61,10 +61,10 @@ node-older n g v l = cond-false (eqb v (versionCount g)) (some n) (nodeOf g v) (
 
 -- the versions of h read back where their records stand, whatever graph g the bases are taken from
 nodes-read : (s : List ℕ) (g h : Graph)
-    → ((v : ℕ) → v ≤ length h → Stands s (blockAt v) (recordOf g (nodeOf h v)))
+    → ((v : ℕ) → v ≤ length h → Stands s (blockAt v) (nodeBytes g (nodeOf h v)))
     → length h < 1024 → everyVersion parentsLower h ≡ true → everyVersion entryInRange h ≡ true
-    → versionsAt s (length h) ≡ h
-unfolding versionsAt everyVersion
+    → versionsIn s (length h) ≡ h
+unfolding versionsIn everyVersion
 nodes-read s g [] at l p e = refl
 nodes-read s g (n ∷ h) at l p e =
     ap₂ _∷_
@@ -72,17 +72,17 @@ nodes-read s g (n ∷ h) at l p e =
     (nodes-read s g h (λ v k. rw (node-older n h v k) at (at v (omega arith))) (omega arith) (search and-r) (search and-r))
 
 -- the heads that are read, one by one
-pub headsAt-length : (s : List ℕ) (c n : ℕ) → length (headsAt s c n) ≡ n
-unfolding headsAt
-headsAt-length s c zero = refl
-headsAt-length s c (suc n) = ap suc (headsAt-length s (suc c) n)
+pub headsIn-length : (s : List ℕ) (c n : ℕ) → length (headsIn s c n) ≡ n
+unfolding headsIn
+headsIn-length s c zero = refl
+headsIn-length s c (suc n) = ap suc (headsIn-length s (suc c) n)
 
-pub headsAt-one : (s : List ℕ) (c n k : ℕ) → k < n → getD (headsAt s c n) k none ≡ headIn (wordAt s (headAt (c + k)))
-unfolding headsAt
-headsAt-one s c zero k l = absurd (not-suc-le-zero l)
-headsAt-one s c (suc n) zero l = ap (λ (i : ℕ). headIn (wordAt s (headAt i))) (omega arith)
-headsAt-one s c (suc n) (suc k) l =
-    headsAt-one s (suc c) n k (le-of-suc-le-suc l) ∙ ap (λ (i : ℕ). headIn (wordAt s (headAt i))) (omega arith)
+pub headsIn-one : (s : List ℕ) (c n k : ℕ) → k < n → getD (headsIn s c n) k none ≡ headFrom (wordAt s (headAt (c + k)))
+unfolding headsIn
+headsIn-one s c zero k l = absurd (not-suc-le-zero l)
+headsIn-one s c (suc n) zero l = ap (λ (i : ℕ). headFrom (wordAt s (headAt i))) (omega arith)
+headsIn-one s c (suc n) (suc k) l =
+    headsIn-one s (suc c) n k (le-of-suc-le-suc l) ∙ ap (λ (i : ℕ). headFrom (wordAt s (headAt i))) (omega arith)
 
 -- no field of the table is above the number of versions
 field-below : (t : Bool) (r : Room) (c d : ℕ) → fieldWhere t r c d ≤ versionCount (r .versions)
@@ -92,7 +92,7 @@ field-below false r c d = omega arith
 
 -- on the diagonal stands the head
 field-self : (r : Room) (c : ℕ) (o : Option ℕ) → headOf r c ≡ o → namesVersion (r .versions) o ≡ true
-    → headIn (fieldWhere (isSome o && isSome o) r c c) ≡ o
+    → headFrom (fieldWhere (isSome o && isSome o) r c c) ≡ o
 unfolding common
 field-self r c none e n = refl
 field-self r c (some v) e n = ap some (rw e (meetNumber-self (r .versions) v (ltb-true v (versionCount (r .versions)) n)))
@@ -104,7 +104,7 @@ module _ (s : List ℕ) (r : Room) (h : Stands s 0 (encode r)) (k : Ranges r) wh
   pub count-read : wordAt s countAt ≡ versionCount (r .versions)
   count-read = stands-word (versionCount (r .versions)) (stands-count r h) (omega arith)
 
-  pub versions-read : versionsAt s (length (r .versions)) ≡ r .versions
+  pub versions-read : versionsIn s (length (r .versions)) ≡ r .versions
   versions-read =
       nodes-read s (r .versions) (r .versions) (λ v l. stands-record r h v (omega arith)) (omega arith) (k .parents) (k .entries)
 
@@ -113,11 +113,11 @@ module _ (s : List ℕ) (r : Room) (h : Stands s 0 (encode r)) (k : Ranges r) wh
   common-read c d i j = stands-word (commonField r c d) (stands-common r h c d i j)
       (omega (arith, field-below (present r c && present r d) r c d))
 
-  pub head-read : (c : ℕ) → c < consoleCount → headIn (wordAt s (headAt c)) ≡ headOf r c
-  head-read c i = ap headIn (common-read c c i i) ∙ field-self r c (headOf r c) refl (k .heads c i)
+  pub head-read : (c : ℕ) → c < consoleCount → headFrom (wordAt s (headAt c)) ≡ headOf r c
+  head-read c i = ap headFrom (common-read c c i i) ∙ field-self r c (headOf r c) refl (k .heads c i)
 
-  pub heads-read : headsAt s 0 consoleCount ≡ r .heads
+  pub heads-read : headsIn s 0 consoleCount ≡ r .heads
   heads-read =
-      ext-getD none (headsAt s 0 consoleCount) (r .heads)
-      (headsAt-length s 0 consoleCount ∙ sym (k .sixteen))
-      (λ c l. let m : c < consoleCount = rw headsAt-length at l in headsAt-one s 0 consoleCount c m ∙ rw zero-add (head-read c m))
+      ext-getD none (headsIn s 0 consoleCount) (r .heads)
+      (headsIn-length s 0 consoleCount ∙ sym (k .sixteen))
+      (λ c l. let m : c < consoleCount = rw headsIn-length at l in headsIn-one s 0 consoleCount c m ∙ rw zero-add (head-read c m))

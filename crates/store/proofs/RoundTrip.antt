@@ -15,32 +15,32 @@ use Rattle.buffer.specs.Field.{wordAt, same}
 use Rattle.buffer.proofs.Fields.{zeros-length, same-true, same-refl}
 use Rattle.buffer.proofs.Stands.{stands-front}
 use Rattle.room.specs.Room.{Room}
-use Rattle.room.specs.Sound.{sound}
-use Rattle.store.specs.Layout.{storeSize, capacityAt, encode, versionsAt, roomAt, holdsStore}
+use Rattle.room.specs.Sound.{soundRoom}
+use Rattle.store.specs.Layout.{storeSize, capacityAt, encode, versionsIn, roomIn, holdsStore}
 use Rattle.store.proofs.Blocks.{header-length, blocks-length}
 use Rattle.store.proofs.Ranges.{ranges}
 use Rattle.store.proofs.Reading.{capacity-read, count-read, versions-read, heads-read}
 
-pub encode-length : (r : Room) → sound r ≡ true → length (encode r) ≡ storeSize (r .capacity)
+pub encode-length : (r : Room) → soundRoom r ≡ true → length (encode r) ≡ storeSize (r .capacity)
 unfolding encode
 encode-length r h =
     let k = ranges r h in
     simp (length-append, header-length, blocks-length, zeros-length) (omega arith)
 
 -- reading a room off its encoding gives it back, with any bytes after it
-pub room-encode : (r : Room) (rest : List ℕ) → sound r ≡ true → roomAt (encode r ++ rest) ≡ r
-unfolding roomAt
+pub room-encode : (r : Room) (rest : List ℕ) → soundRoom r ≡ true → roomIn (encode r ++ rest) ≡ r
+unfolding roomIn
 room-encode r rest h =
     let s = encode r ++ rest in
     let front = stands-front (encode r) rest in
     let k = ranges r h in
     λ i. record {
       capacity = capacity-read s r front k i;
-      versions = (ap (λ (n : ℕ). versionsAt s (pred n)) (count-read s r front k) ∙ versions-read s r front k) i;
+      versions = (ap (λ (n : ℕ). versionsIn s (pred n)) (count-read s r front k) ∙ versions-read s r front k) i;
       heads = heads-read s r front k i;
     }
 
-pub holds-encode : (r : Room) (rest : List ℕ) → sound r ≡ true → holdsStore (encode r ++ rest) ≡ true
+pub holds-encode : (r : Room) (rest : List ℕ) → soundRoom r ≡ true → holdsStore (encode r ++ rest) ≡ true
 unfolding holdsStore
 holds-encode r rest h =
     let s = encode r ++ rest in
@@ -48,21 +48,21 @@ holds-encode r rest h =
     let l = encode-length r h in
     let fits = le-leb n (length s) (rw length-append (omega arith)) in
     rw (capacity-read s r (stands-front (encode r) rest) (ranges r h), room-encode r rest h, take-at (encode r) rest n l)
-    (and-i (leb n (length s) && sound r) (same (encode r) (encode r))
-    (and-i (leb n (length s)) (sound r) fits h) (same-refl (encode r)))
+    (and-i (leb n (length s) && soundRoom r) (same (encode r) (encode r))
+    (and-i (leb n (length s)) (soundRoom r) fits h) (same-refl (encode r)))
 
 -- bytes that hold a store give a sound room
-pub holds-sound : (s : List ℕ) → holdsStore s ≡ true → sound (roomAt s) ≡ true
+pub holds-sound : (s : List ℕ) → holdsStore s ≡ true → soundRoom (roomIn s) ≡ true
 unfolding holdsStore
 holds-sound s h = search (and-l, and-r)
 
 -- and begin with its encoding
-pub holds-front : (s : List ℕ) → holdsStore s ≡ true → s ≡ encode (roomAt s) ++ drop (storeSize (roomAt s .capacity)) s
-unfolding holdsStore roomAt
+pub holds-front : (s : List ℕ) → holdsStore s ≡ true → s ≡ encode (roomIn s) ++ drop (storeSize (roomIn s .capacity)) s
+unfolding holdsStore roomIn
 holds-front s h =
     let n = storeSize (wordAt s capacityAt) in
-    sym (take-append-drop n s) ∙ ap (λ (front : List ℕ). front ++ drop n s) (same-true (take n s) (encode (roomAt s)) (search and-r))
+    sym (take-append-drop n s) ∙ ap (λ (front : List ℕ). front ++ drop n s) (same-true (take n s) (encode (roomIn s)) (search and-r))
 
 -- two rooms never share an encoding
-pub encode-unique : (r r′ : Room) → sound r ≡ true → sound r′ ≡ true → encode r ≡ encode r′ → r ≡ r′
-encode-unique r r′ h h′ e = sym (room-encode r [] h) ∙ ap (λ (s : List ℕ). roomAt (s ++ [])) e ∙ room-encode r′ [] h′
+pub encode-unique : (r r′ : Room) → soundRoom r ≡ true → soundRoom r′ ≡ true → encode r ≡ encode r′ → r ≡ r′
+encode-unique r r′ h h′ e = sym (room-encode r [] h) ∙ ap (λ (s : List ℕ). roomIn (s ++ [])) e ∙ room-encode r′ [] h′

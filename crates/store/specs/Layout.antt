@@ -9,25 +9,25 @@ use lib.ListN.{length, getD, take}
 use Rattle.buffer.specs.Field.{byte, word, wordAt, zeros, same}
 use Rattle.buffer.specs.Row.{row}
 use Rattle.board.specs.Board.{boardSize}
-use Rattle.graph.specs.Graph.{Graph, Node, entry, merge, versionCount, ancestor, isEntry, nodeOf, meetNumber}
+use Rattle.graph.specs.Graph.{Graph, Node, entry, merge, versionCount, ancestor, isEntry, nodeOf, baseOf}
 use Rattle.command.specs.Code.{consoleCount, isEntryCode}
 use Rattle.room.specs.Room.{Room, present, common}
-use Rattle.room.specs.Sound.{maxCapacity, sound}
+use Rattle.room.specs.Sound.{maxCapacity, soundRoom}
 use Rattle.room.specs.Boards.{boardOf}
 
--- Sizes: a store is a header and one block for each version that it may hold; a block is a record, an ancestry row and a board.
+-- Sizes: a store is a header and one block for each version that it may hold; a block is a node (what made the version), an ancestry row and a board.
 abbrev pub headerSize : ℕ
 headerSize = 4096
 
-abbrev pub recordSize : ℕ
-recordSize = 32
+abbrev pub nodeSize : ℕ
+nodeSize = 32
 
 -- one bit for each version that a store of the highest capacity may hold
 abbrev pub rowSize : ℕ
 rowSize = maxCapacity / 8
 
 abbrev pub blockSize : ℕ
-blockSize = recordSize + rowSize + boardSize
+blockSize = nodeSize + rowSize + boardSize
 
 abbrev pub storeSize : ℕ → ℕ
 storeSize capacity = headerSize + blockSize * capacity
@@ -62,11 +62,30 @@ headAt c = commonAt c c
 abbrev pub blockAt : ℕ → ℕ
 blockAt v = headerSize + blockSize * v
 
+-- the fields of the node: code, strip, operand, parent (a merge: the receiver's version), giver's version, base
+abbrev pub nodeCodeAt : ℕ → ℕ
+nodeCodeAt v = blockAt v
+
+abbrev pub nodeStripAt : ℕ → ℕ
+nodeStripAt v = blockAt v + 1
+
+abbrev pub nodeOperandAt : ℕ → ℕ
+nodeOperandAt v = blockAt v + 2
+
+abbrev pub nodeParentAt : ℕ → ℕ
+nodeParentAt v = blockAt v + 4
+
+abbrev pub nodeGiverAt : ℕ → ℕ
+nodeGiverAt v = blockAt v + 6
+
+abbrev pub nodeBaseAt : ℕ → ℕ
+nodeBaseAt v = blockAt v + 8
+
 abbrev pub rowAt : ℕ → ℕ
-rowAt v = blockAt v + recordSize
+rowAt v = blockAt v + nodeSize
 
 abbrev pub boardAt : ℕ → ℕ
-boardAt v = blockAt v + recordSize + rowSize
+boardAt v = blockAt v + nodeSize + rowSize
 
 -- A field of the table: 0 where one of the two consoles is absent, else 1 more than their common version.
 abbrev pub fieldWhere : Bool → Room → ℕ → ℕ → ℕ
@@ -77,34 +96,33 @@ abbrev pub commonField : Room → ℕ → ℕ → ℕ
 commonField r c d = fieldWhere (present r c && present r d) r c d
 
 -- the fields of n consoles against c, from console d on
-unfoldable pub commonRow : Room → ℕ → ℕ → ℕ → List ℕ
-commonRow r c d zero = []
-commonRow r c d (suc n) = word (commonField r c d) ++ commonRow r c (suc d) n
+unfoldable pub commonFields : Room → ℕ → ℕ → ℕ → List ℕ
+commonFields r c d zero = []
+commonFields r c d (suc n) = word (commonField r c d) ++ commonFields r c (suc d) n
 
 -- the rows of n consoles, from console c on
-unfoldable pub commonRows : Room → ℕ → ℕ → List ℕ
-commonRows r c zero = []
-commonRows r c (suc n) = commonRow r c 0 consoleCount ++ commonRows r (suc c) n
+unfoldable pub commonTable : Room → ℕ → ℕ → List ℕ
+commonTable r c zero = []
+commonTable r c (suc n) = commonFields r c 0 consoleCount ++ commonTable r (suc c) n
 
 unfoldable pub header : Room → List ℕ
 header r =
-    word (r .capacity) ++ word (versionCount (r .versions)) ++ zeros (entriesAt - 4)
+    word (r .capacity) ++ word (versionCount (r .versions)) ++ zeros (entriesAt - (countAt + 2))
     ++ row (isEntry (r .versions)) rowSize
-    ++ commonRows r 0 consoleCount
+    ++ commonTable r 0 consoleCount
     ++ zeros (headerSize - commonsEnd)
 
--- The record of a version: its code (09 for a merge, 0 for version 0), strip, operand, parent (a merge: the receiver's version), giver's
--- version, base; the rest is 0.
-unfoldable pub recordOf : Graph → Option Node → List ℕ
-recordOf g none = zeros recordSize
-recordOf g (some (entry p code strip operand)) =
-    byte code ∷ byte strip ∷ word operand ++ word p ++ zeros (recordSize - 6)
-recordOf g (some (merge p q)) =
-    0x09 ∷ 0 ∷ 0 ∷ 0 ∷ word p ++ word q ++ word (meetNumber g p q) ++ zeros (recordSize - 10)
+-- The node of a version: 09 stands for the code of a merge, 0 for that of version 0; what a version does not have is 0.
+unfoldable pub nodeBytes : Graph → Option Node → List ℕ
+nodeBytes g none = zeros nodeSize
+nodeBytes g (some (entry p code strip operand)) =
+    byte code ∷ byte strip ∷ word operand ++ word p ++ zeros (nodeSize - 6)
+nodeBytes g (some (merge p q)) =
+    0x09 ∷ 0 ∷ 0 ∷ 0 ∷ word p ++ word q ++ word (baseOf g p q) ++ zeros (nodeSize - 10)
 
 -- the block of version v of a graph
 unfoldable pub block : Graph → ℕ → List ℕ
-block g v = recordOf g (nodeOf g v) ++ row (λ u. ancestor g u v) rowSize ++ boardOf g v
+block g v = nodeBytes g (nodeOf g v) ++ row (λ u. ancestor g u v) rowSize ++ boardOf g v
 
 -- the blocks of the first n versions
 unfoldable pub blocks : Graph → ℕ → List ℕ
@@ -119,38 +137,38 @@ encode r =
     ++ zeros (blockSize * (r .capacity - versionCount (r .versions)))
 
 -- Reading a room off bytes: the fields as they stand, whatever they hold.
-unfoldable pub nodeAt : List ℕ → ℕ → Node
-nodeAt s v =
-    cond (eqb (getD s (blockAt v) 0) 0x09)
-    (merge (wordAt s (blockAt v + 4)) (wordAt s (blockAt v + 6)))
-    (entry (wordAt s (blockAt v + 4)) (getD s (blockAt v) 0) (getD s (blockAt v + 1) 0) (wordAt s (blockAt v + 2)))
+unfoldable pub nodeIn : List ℕ → ℕ → Node
+nodeIn s v =
+    cond (eqb (getD s (nodeCodeAt v) 0) 0x09)
+    (merge (wordAt s (nodeParentAt v)) (wordAt s (nodeGiverAt v)))
+    (entry (wordAt s (nodeParentAt v)) (getD s (nodeCodeAt v) 0) (getD s (nodeStripAt v) 0) (wordAt s (nodeOperandAt v)))
 
 -- versions 1 to n, the newest first
-unfoldable pub versionsAt : List ℕ → ℕ → Graph
-versionsAt s zero = []
-versionsAt s (suc n) = nodeAt s (suc n) ∷ versionsAt s n
+unfoldable pub versionsIn : List ℕ → ℕ → Graph
+versionsIn s zero = []
+versionsIn s (suc n) = nodeIn s (suc n) ∷ versionsIn s n
 
 -- the head that a field stands for
-abbrev pub headIn : ℕ → Option ℕ
-headIn zero = none
-headIn (suc v) = some v
+abbrev pub headFrom : ℕ → Option ℕ
+headFrom zero = none
+headFrom (suc v) = some v
 
 -- the heads of n consoles, from console c on
-unfoldable pub headsAt : List ℕ → ℕ → ℕ → List (Option ℕ)
-headsAt s c zero = []
-headsAt s c (suc n) = headIn (wordAt s (headAt c)) ∷ headsAt s (suc c) n
+unfoldable pub headsIn : List ℕ → ℕ → ℕ → List (Option ℕ)
+headsIn s c zero = []
+headsIn s c (suc n) = headFrom (wordAt s (headAt c)) ∷ headsIn s (suc c) n
 
-unfoldable pub roomAt : List ℕ → Room
-roomAt s =
+unfoldable pub roomIn : List ℕ → Room
+roomIn s =
     record {
       capacity = wordAt s capacityAt;
-      versions = versionsAt s (pred (wordAt s countAt));
-      heads = headsAt s 0 consoleCount;
+      versions = versionsIn s (pred (wordAt s countAt));
+      heads = headsIn s 0 consoleCount;
     }
 
 -- "the bytes are its one encoding, ancestry rows included": the bytes hold a sound store at their front
 unfoldable pub holdsStore : List ℕ → Bool
 holdsStore s =
     leb (storeSize (wordAt s capacityAt)) (length s)
-    && sound (roomAt s)
-    && same (take (storeSize (wordAt s capacityAt)) s) (encode (roomAt s))
+    && soundRoom (roomIn s)
+    && same (take (storeSize (wordAt s capacityAt)) s) (encode (roomIn s))

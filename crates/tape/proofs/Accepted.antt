@@ -7,13 +7,13 @@ use native.Mathlib.Omega.{arith}
 use borrow.Author.Tests.{not-false}
 use Rattle.command.specs.Refusal.{firstRefusal}
 use Rattle.command.proofs.Refusals.{none-given}
-use Rattle.room.specs.Sound.{isCapacity, sound}
+use Rattle.room.specs.Sound.{isCapacity, soundRoom}
 use Rattle.tape.specs.Tape.{Content, roomOf, inRange, contentRefusal}
 
 pub record Accepted (c : Content) : Type 0 where
   pub size : isCapacity (c .capacity) ≡ true
   pub range : inRange c ≡ true
-  pub room : sound (roomOf c) ≡ true
+  pub room : soundRoom (roomOf c) ≡ true
 
 pub accepted : (c : Content) → contentRefusal (some c) ≡ 0 → Accepted c
 unfolding contentRefusal

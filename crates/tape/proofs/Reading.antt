@@ -17,7 +17,7 @@ use Rattle.command.proofs.Limits.{entry-below}
 use Rattle.room.specs.Sound.{entryInRange}
 use Rattle.tape.specs.declared.Record.{Record}
 use Rattle.tape.specs.declared.Record.the-variants.{Head, End}
-use Rattle.tape.specs.Record.{recordAt, recordLength, recordFrom, recordBytes}
+use Rattle.tape.specs.Record.{recordIn, recordLength, recordFrom, recordBytes}
 use Rattle.tape.specs.Tape.{Content, Stage, inVersions, inHeads, Next, goOn, finish, refuse, afterRecord, readOn, withHead, versionRecord, versionRecords, headRecords}
 use Rattle.tape.proofs.Records.{Fits, record-read, record-rest}
 use Rattle.tape.proofs.Heads.{headsFrom, Named, named-tail}
@@ -32,7 +32,7 @@ go k t rest (goOn next more) = readOn k next more (drop (recordLength rest) rest
 go k t rest finish = cond (eqb (length rest) (recordLength rest)) (some t) none
 go k t rest refuse = none
 
-pub read-step : (k : ℕ) (stage : Stage) (t : Content) (rest : List ℕ) (n : Next) → afterRecord stage t (recordAt rest) ≡ n
+pub read-step : (k : ℕ) (stage : Stage) (t : Content) (rest : List ℕ) (n : Next) → afterRecord stage t (recordIn rest) ≡ n
     → readOn (suc k) stage t rest ≡ go k t rest n
 unfolding readOn
 read-step k stage t rest (goOn next more) e = cc
@@ -81,7 +81,7 @@ read-versions (n ∷ g) k capacity rest lower range l =
     ∙ read-one k inVersions inVersions _ _ (versionRecord n) rest fits (reads-version capacity g n))
 
 read-end : (k : ℕ) (t : Content) → readOn (suc k) inHeads t (recordBytes End) ≡ some t
-unfolding readOn recordAt recordFrom recordBytes shapeOf lengthOf afterRecord
+unfolding readOn recordIn recordFrom recordBytes shapeOf lengthOf afterRecord
 read-end k t = refl
 
 -- a head record is read wherever heads may stand

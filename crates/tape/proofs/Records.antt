@@ -18,7 +18,7 @@ use Rattle.command.specs.declared.Operands.{Operands}
 use Rattle.command.specs.Code.{shapeOf, lengthOf, numberAt, operandsOf}
 use Rattle.tape.specs.declared.Record.{Record}
 use Rattle.tape.specs.declared.Record.the-variants.{Start, Entry, Merge, Head, End, Broken}
-use Rattle.tape.specs.Record.{recordAt, recordLength, recordFrom, recordBytes}
+use Rattle.tape.specs.Record.{recordIn, recordLength, recordFrom, recordBytes}
 
 -- every element is a byte; what lies past the end reads as 0
 abbrev pub Bytes : List ℕ → Type 0
@@ -44,8 +44,8 @@ byte-back x h = omega arith
 whole : (front rest : List ℕ) → ltb (length (front ++ rest)) (length front) ≡ false
 whole front rest = le-ltb (length (front ++ rest)) (length front) (simp length-append (omega arith))
 
-pub record-read : (x : Record) (rest : List ℕ) → Fits x → recordAt (recordBytes x ++ rest) ≡ x
-unfolding recordAt recordFrom recordBytes shapeOf lengthOf numberAt operandsOf
+pub record-read : (x : Record) (rest : List ℕ) → Fits x → recordIn (recordBytes x ++ rest) ≡ x
+unfolding recordIn recordFrom recordBytes shapeOf lengthOf numberAt operandsOf
 record-read (Start capacity) rest h = simp (whole (recordBytes (Start capacity)) rest, word-back)
 record-read (Entry parent code strip operand) rest h =
     let there = whole (recordBytes (Entry parent code strip operand)) rest in
@@ -80,12 +80,12 @@ front-drop t at (suc n) h =
     let step : suc at + n ≡ at + suc n = omega arith in cc (drop-cons t at 0 (omega arith), front-drop t (suc at) n (omega arith))
 
 -- the record at the front of a tape of a code
-recordOf : ℕ → List ℕ → Record
-recordOf c t = cond (ltb (length t) (lengthOf (shapeOf c))) Broken (recordFrom c (operandsOf (shapeOf c) t))
+recordFor : ℕ → List ℕ → Record
+recordFor c t = cond (ltb (length t) (lengthOf (shapeOf c))) Broken (recordFrom c (operandsOf (shapeOf c) t))
 
 -- the tape begins with the bytes of that record, and its numbers fit
 Begins : ℕ → List ℕ → Type 0
-Begins c t = (t ≡ recordBytes (recordOf c t) ++ drop (lengthOf (shapeOf c)) t) × Fits (recordOf c t)
+Begins c t = (t ≡ recordBytes (recordFor c t) ++ drop (lengthOf (shapeOf c)) t) × Fits (recordFor c t)
 
 -- no other code is a record's
 unknown : (c : ℕ) (o : Operands) → c ≢ 0x20 → c ≢ 0x21 → c ≢ 0x22 → c ≢ 0x23 → c ≢ 0x24 → recordFrom c o ≡ Broken
@@ -104,33 +104,33 @@ module _ (t : List ℕ) (bytes : Bytes t) where
   small k = omega (arith, bytes k, bytes (k + 1))
 
   begins-start : getD t 0 0 ≡ 0x20 → ltb (length t) 3 ≡ false → Begins 0x20 t
-  unfolding Begins recordOf recordFrom recordBytes shapeOf lengthOf numberAt operandsOf
+  unfolding Begins recordFor recordFrom recordBytes shapeOf lengthOf numberAt operandsOf
   begins-start e l = (cc (front-drop t 0 3 (ltb-false (length t) 3 l), high 1, low 1), rw l (small 1))
 
   begins-entry : getD t 0 0 ≡ 0x21 → ltb (length t) 7 ≡ false → Begins 0x21 t
-  unfolding Begins recordOf recordFrom recordBytes shapeOf lengthOf numberAt operandsOf
+  unfolding Begins recordFor recordFrom recordBytes shapeOf lengthOf numberAt operandsOf
   begins-entry e l = (
     cc (front-drop t 0 7 (ltb-false (length t) 7 l), high 1, low 1, byte-back _ (bytes 3), byte-back _ (bytes 4), high 5, low 5),
     rw l (small 1, bytes 3, bytes 4, small 5),
   )
 
   begins-merge : getD t 0 0 ≡ 0x22 → ltb (length t) 5 ≡ false → Begins 0x22 t
-  unfolding Begins recordOf recordFrom recordBytes shapeOf lengthOf numberAt operandsOf
+  unfolding Begins recordFor recordFrom recordBytes shapeOf lengthOf numberAt operandsOf
   begins-merge e l = (cc (front-drop t 0 5 (ltb-false (length t) 5 l), high 1, low 1, high 3, low 3), rw l (small 1, small 3))
 
   begins-head : getD t 0 0 ≡ 0x23 → ltb (length t) 4 ≡ false → Begins 0x23 t
-  unfolding Begins recordOf recordFrom recordBytes shapeOf lengthOf numberAt operandsOf
+  unfolding Begins recordFor recordFrom recordBytes shapeOf lengthOf numberAt operandsOf
   begins-head e l = (
     cc (front-drop t 0 4 (ltb-false (length t) 4 l), byte-back _ (bytes 1), high 2, low 2),
     rw l (bytes 1, small 2),
   )
 
   begins-end : getD t 0 0 ≡ 0x24 → ltb (length t) 1 ≡ false → Begins 0x24 t
-  unfolding Begins recordOf recordFrom recordBytes shapeOf lengthOf numberAt operandsOf
+  unfolding Begins recordFor recordFrom recordBytes shapeOf lengthOf numberAt operandsOf
   begins-end e l = (cc (front-drop t 0 1 (ltb-false (length t) 1 l)), rw l tt)
 
-  begins : (c : ℕ) → getD t 0 0 ≡ c → ltb (length t) (lengthOf (shapeOf c)) ≡ false → (recordOf c t ≡ Broken → ⊥) → Begins c t
-  unfolding recordOf lengthOf shapeOf
+  begins : (c : ℕ) → getD t 0 0 ≡ c → ltb (length t) (lengthOf (shapeOf c)) ≡ false → (recordFor c t ≡ Broken → ⊥) → Begins c t
+  unfolding recordFor lengthOf shapeOf
   begins c e l unbroken =
       elim (ℕ-discrete c 0x20) [
         | yes q ↦ rw q (begins-start (e ∙ q) (rw q at l))
@@ -163,11 +163,11 @@ Unbroken (Head console version) = Unit {0}
 Unbroken End = Unit {0}
 Unbroken Broken = ⊥
 
-pub record-whole : (x : Record) (t : List ℕ) → Bytes t → recordAt t ≡ x → Unbroken x
+pub record-whole : (x : Record) (t : List ℕ) → Bytes t → recordIn t ≡ x → Unbroken x
     → (t ≡ recordBytes x ++ drop (recordLength t) t) × Fits x
-unfolding recordAt recordOf Begins
+unfolding recordIn recordFor Begins
 record-whole x t bytes e u =
-    let unbroken : recordAt t ≡ Broken → ⊥ = λ b. subst Unbroken (sym e ∙ b) u in
+    let unbroken : recordIn t ≡ Broken → ⊥ = λ b. subst Unbroken (sym e ∙ b) u in
     elim (decide (ltb (length t) (recordLength t))) [
       | inl s ↦ absurd (unbroken (cond-true _ _ _ s))
       | inr l ↦ rw (← e) (begins t bytes (getD t 0 0) refl l unbroken)

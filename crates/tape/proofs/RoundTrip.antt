@@ -7,12 +7,12 @@ use mathlib.Core.List.{List, [], _++_, append-assoc}
 use mathlib.Core.Option.{some}
 use native.Mathlib.Omega.{arith}
 use lib.ListN.{length, length-append}
-use borrow.Author.Tests.{le-ltb}
+use borrow.Author.Tests.{le-leb}
 use Rattle.laws.proofs.Logic.{and-l, and-r}
 use Rattle.graph.specs.Graph.{versionCount}
 use Rattle.command.proofs.Limits.{within-true}
 use Rattle.room.specs.Room.{Room}
-use Rattle.room.specs.Sound.{sound, maxCapacity}
+use Rattle.room.specs.Sound.{soundRoom, maxCapacity}
 use Rattle.room.proofs.Sound.{Sound, sound-facts, heads-named}
 use Rattle.tape.specs.declared.Record.the-variants.{Start, End}
 use Rattle.tape.specs.Record.{recordBytes}
@@ -32,7 +32,7 @@ tape-parts : (r : Room)
 unfolding tapeOf
 tape-parts r = simp append-assoc
 
-module _ (r : Room) (s : sound r ≡ true) where
+module _ (r : Room) (s : soundRoom r ≡ true) where
   k : Sound r
   k = sound-facts r s
 
@@ -65,14 +65,14 @@ module _ (r : Room) (s : sound r ≡ true) where
 
   pub tape-accepted : contentRefusal (some (contentIn r)) ≡ 0
   tape-accepted =
-      let enough = le-ltb (r .capacity) (versionCount (r .versions)) (k .fits) in
+      let enough = le-leb (versionCount (r .versions)) (r .capacity) (k .fits) in
       let rise = rises (r .heads) (k .sixteen) (k .first) in
       let named = all-named (r .versions) (r .heads) named-heads in
       accepts (contentIn r)
       (record { size = k .capacity; range = simp (enough, k .lower, k .ranged, rise, named); room = rw tape-room s })
 
 -- the tape of a sound room is accepted, and gives back that room
-pub tape-back : (r : Room) → sound r ≡ true
+pub tape-back : (r : Room) → soundRoom r ≡ true
     → (c : Content) × (contentOf (tapeOf r) ≡ some c) × (contentRefusal (some c) ≡ 0) × (roomOf c ≡ r)
 tape-back r s = (contentIn r, tape-content r s, tape-accepted r s, tape-room r s)
 
@@ -85,5 +85,5 @@ tape-forth t c bytes e a =
     simp (slots-forth (c .heads) rise, tape-written t c bytes e, append-assoc)
 
 -- the room of an accepted tape is sound
-pub accepted-sound : (c : Content) → contentRefusal (some c) ≡ 0 → sound (roomOf c) ≡ true
+pub accepted-sound : (c : Content) → contentRefusal (some c) ≡ 0 → soundRoom (roomOf c) ≡ true
 accepted-sound c a = accepted c a .room

@@ -12,7 +12,7 @@ use lib.Seq.{getD-drop}
 use borrow.Author.Tests.{eqb-true}
 use Rattle.tape.specs.declared.Record.{Record}
 use Rattle.tape.specs.declared.Record.the-variants.{Start, Entry, Merge, Head, End, Broken}
-use Rattle.tape.specs.Record.{recordAt, recordLength, recordBytes}
+use Rattle.tape.specs.Record.{recordIn, recordLength, recordBytes}
 use Rattle.tape.specs.Tape.{Content, Stage, inVersions, inHeads, Next, goOn, finish, refuse, afterRecord, readOn, readFrom, contentOf, versionRecords}
 use Rattle.tape.proofs.Records.{Bytes, Unbroken, record-whole}
 use Rattle.tape.proofs.Heads.{headBytes}
@@ -60,18 +60,18 @@ kept : (k : ℕ) (stage : Stage) (t d : Content) (rest : List ℕ) → Placed st
     → written t ++ rest ≡ written d ++ recordBytes End
 unfolding readOn
 kept zero stage t d rest p bytes e = cc
-kept (suc k) stage t d rest p bytes e = at (afterRecord stage t (recordAt rest)) refl (adds stage t (recordAt rest) p) (kept k)
+kept (suc k) stage t d rest p bytes e = at (afterRecord stage t (recordIn rest)) refl (adds stage t (recordIn rest) p) (kept k)
   where
-    at : (n : Next) → afterRecord stage t (recordAt rest) ≡ n → Adds t (recordAt rest) n
+    at : (n : Next) → afterRecord stage t (recordIn rest) ≡ n → Adds t (recordIn rest) n
         → ((stage : Stage) (t d : Content) (rest : List ℕ) → Placed stage t → Bytes rest → readOn k stage t rest ≡ some d
         → written t ++ rest ≡ written d ++ recordBytes End)
         → written t ++ rest ≡ written d ++ recordBytes End
     at (goOn next more) q add on =
-        let whole = record-whole (recordAt rest) rest bytes refl (add .0) .0 in
+        let whole = record-whole (recordIn rest) rest bytes refl (add .0) .0 in
         let left : List ℕ = drop (recordLength rest) rest in
         let read-on : readOn k next more left ≡ some d = sym (read-step k stage t rest (goOn next more) q) ∙ e in
         let later = on next more d left (add .2) (bytes-drop (recordLength rest) rest bytes) read-on in
-        cc (add .1, append-assoc (written t) (recordBytes (recordAt rest)) left)
+        cc (add .1, append-assoc (written t) (recordBytes (recordIn rest)) left)
     at finish q add on =
         let last = closed (eqb (length rest) (recordLength rest)) t d (sym (read-step k stage t rest finish q) ∙ e) in
         let whole = record-whole End rest bytes add tt .0 in
@@ -82,9 +82,9 @@ kept (suc k) stage t d rest p bytes e = at (afterRecord stage t (recordAt rest))
 
 pub tape-written : (t : List ℕ) (c : Content) → Bytes t → contentOf t ≡ some c → t ≡ written c ++ recordBytes End
 unfolding contentOf versionRecords
-tape-written t c bytes e = at (recordAt t) refl e
+tape-written t c bytes e = at (recordIn t) refl e
   where
-    at : (x : Record) → recordAt t ≡ x → readFrom (length t) (drop (recordLength t) t) x ≡ some c → t ≡ written c ++ recordBytes End
+    at : (x : Record) → recordIn t ≡ x → readFrom (length t) (drop (recordLength t) t) x ≡ some c → t ≡ written c ++ recordBytes End
     at (Start capacity) q e =
         let whole = record-whole (Start capacity) t bytes q tt .0 in
         let start : Content = record { capacity = capacity; versions = []; heads = [] } in

@@ -28,8 +28,8 @@ recordFrom code o =
     (cond (eqb code 0x24) End Broken))))
 
 -- the record at the front of a tape, where it is there whole
-unfoldable pub recordAt : List ℕ → Record
-recordAt t =
+unfoldable pub recordIn : List ℕ → Record
+recordIn t =
     cond (ltb (length t) (recordLength t)) Broken
     (recordFrom (getD t 0 0) (operandsOf (shapeOf (getD t 0 0)) t))
 

@@ -1,10 +1,10 @@
--- "20, capacity; one record per version from 1 upward; one head record per present console, consoles rising; 24, the last byte." The
--- tape of a room, the grammar of tapes, the room of a tape, and the refusals 7 to 10.
+-- "20, capacity (16 bits); one record per version from 1 upward; one head record per present console, consoles rising; 24, the last
+-- byte." The tape of a room, the grammar of tapes, the room of a tape, and the refusals 7 to 10.
 use Prim.Native.Nat.{ℕ, zero, suc}
 use mathlib.Core.Bool.{Bool, true, false, cond, not, _&&_, _||_}
 use mathlib.Core.List.{List, [], _∷_, _++_}
 use mathlib.Core.Option.{Option, none, some}
-use lib.Dec.{eqb, ltb}
+use lib.Dec.{eqb, leb, ltb}
 use lib.ListN.{length, drop, set, replicate}
 use Rattle.board.specs.declared.Strip.{Strip}
 use Rattle.graph.specs.declared.Version.{Version}
@@ -13,10 +13,10 @@ use Rattle.command.specs.declared.Console.{Console}
 use Rattle.command.specs.Refusal.{_when_, firstRefusal}
 use Rattle.command.specs.Code.{consoleCount, isConsole}
 use Rattle.room.specs.Room.{Room}
-use Rattle.room.specs.Sound.{isCapacity, entryInRange, sound}
+use Rattle.room.specs.Sound.{isCapacity, entryInRange, soundRoom}
 use Rattle.tape.specs.declared.Record.{Record}
 use Rattle.tape.specs.declared.Record.the-variants.{Start, Entry, Merge, Head, End, Broken}
-use Rattle.tape.specs.Record.{recordAt, recordLength, recordBytes}
+use Rattle.tape.specs.Record.{recordIn, recordLength, recordBytes}
 
 -- The tape of a room.
 abbrev pub versionRecord : Node → Record
@@ -81,7 +81,7 @@ afterRecord inHeads t Broken = refuse
 unfoldable pub readOn : ℕ → Stage → Content → List ℕ → Option Content
 readOn zero stage t rest = none
 readOn (suc k) stage t rest =
-    elim (afterRecord stage t (recordAt rest)) [
+    elim (afterRecord stage t (recordIn rest)) [
       | goOn next more ↦ readOn k next more (drop (recordLength rest) rest)
       | finish ↦ cond (eqb (length rest) (recordLength rest)) (some t) none
       | refuse ↦ none
@@ -95,9 +95,9 @@ readFrom k rest (Head console version) = none
 readFrom k rest End = none
 readFrom k rest Broken = none
 
--- what a tape says, where it "is such a sequence of whole records, with at least one head"
+-- what a tape says, where it is "such a sequence of whole records, with at least one head"
 unfoldable pub contentOf : List ℕ → Option Content
-contentOf t = readFrom (length t) (drop (recordLength t) t) (recordAt t)
+contentOf t = readFrom (length t) (drop (recordLength t) t) (recordIn t)
 
 -- The room of a tape: "Boards, bases and commons aren't on the tape; resume works them out."
 unfoldable pub headSlots : List (ℕ × ℕ) → List (Option ℕ)
@@ -118,21 +118,22 @@ unfoldable pub headsNamed : Graph → List (ℕ × ℕ) → Bool
 headsNamed g [] = true
 headsNamed g (h ∷ before) = ltb (h .1) (versionCount g) && headsNamed g before
 
--- "8 capacity outside 1 to 1,024. 9 on a tape: more versions than capacity, a parent not below its own version, an entry code, strip or
--- operand out of range, .. 10 the tape's versions and heads give no sound store."
+-- "9 on a tape: more versions than capacity, a parent not below its own version, an entry code, strip or operand out of range, the first
+-- console not 0, a console not above the one before it or above 15, a head that names no version."
 abbrev pub inRange : Content → Bool
 inRange t =
-    not (ltb (t .capacity) (versionCount (t .versions)))
+    leb (versionCount (t .versions)) (t .capacity)
     && everyVersion parentsLower (t .versions)
     && everyVersion entryInRange (t .versions)
     && consolesRise (t .heads)
     && headsNamed (t .versions) (t .heads)
 
+-- "8 capacity outside 1 to 1,024.", 9, "10 the tape's versions and heads give no sound store."
 abbrev pub contentTests : Content → List (ℕ × Bool)
 contentTests t =
     8 when not (isCapacity (t .capacity))
     ∷ 9 when not (inRange t)
-    ∷ 10 when not (sound (roomOf t))
+    ∷ 10 when not (soundRoom (roomOf t))
     ∷ []
 
 -- "7 tape isn't such a sequence of whole records, with at least one head."

@@ -3,7 +3,7 @@ use board::Strip;
 use command::Console;
 use graph::Version;
 
-// A record of the tape, or what is none: an unknown code, or too few bytes.
+// A record of the tape; Broken stands for what is none (a code that is no record's, or too few bytes) and is refused with 7.
 pub enum Record {
     Start {
         capacity: usize,

@@ -1,6 +1,6 @@
 -- "A refusal returns its number, counts 0, and changes no lent byte. An accepted call returns 0, and with it a question its number, pause
 -- and the copied board the bytes written, all others count 0." For each call its reply and the lent buffer that it may write, afterwards;
--- commands, tapes to read and stores to question are lent for reading alone.
+-- a command, a tape to resume, and the store of a pause or a question are lent for reading alone, so that nothing can change them.
 use Prim.Native.Nat.{ℕ}
 use mathlib.Core.Bool.{Bool, cond, not, _||_}
 use mathlib.Core.List.{List, [], _∷_, _++_}
@@ -19,7 +19,7 @@ use Rattle.room.specs.Room.{Room, head, common, heardCount, fresh}
 use Rattle.room.specs.Sound.{isCapacity}
 use Rattle.room.specs.Boards.{boardOf}
 use Rattle.room.specs.Step.{absent, stepRefusal, step}
-use Rattle.store.specs.Layout.{storeSize, encode, roomAt, holdsStore}
+use Rattle.store.specs.Layout.{storeSize, encode, roomIn, holdsStore}
 use Rattle.tape.specs.Tape.{Content, contentOf, contentTests, roomOf, tapeOf}
 use Rattle.unit.specs.declared.Reply.{Reply}
 
@@ -41,8 +41,8 @@ abbrev pub tooShort : List ℕ → ℕ → Bool
 tooShort buffer size = ltb (length buffer) size
 
 -- "11 in every call but opening and resume, which read no store: the lent bytes hold no sound store (too short included)."
-abbrev pub unsound : List ℕ → Bool
-unsound store = not (holdsStore store)
+abbrev pub holdsNoStore : List ℕ → Bool
+holdsNoStore store = not (holdsStore store)
 
 -- "Opening makes version 0 with console 0 on it."
 unfoldable pub openOutcome : ℕ → List ℕ → Outcome
@@ -53,11 +53,11 @@ openOutcome capacity store =
     (encode (fresh capacity))
     store
 
--- a command that was decoded whole, on a store
+-- what was decoded, on a store
 unfoldable pub stepOutcome : List ℕ → Decoded → Outcome
 stepOutcome store (Refused n) = written n 0 [] store
 stepOutcome store (Whole c) =
-    let room : Room = roomAt store in
+    let room : Room = roomIn store in
     let refusal : ℕ = cond (holdsStore store) (stepRefusal room c) 11 in
     let next : List ℕ = encode (step room c) in
     written refusal 0 next store
@@ -65,12 +65,12 @@ stepOutcome store (Whole c) =
 unfoldable pub commandOutcome : List ℕ → List ℕ → Outcome
 commandOutcome store command = stepOutcome store (decode command)
 
--- pause: "the one tape of the room", and the bytes written
+-- pause: the tape of the room, and how many bytes it has
 unfoldable pub pauseOutcome : List ℕ → List ℕ → Outcome
 pauseOutcome store output =
-    let tape : List ℕ = tapeOf (roomAt store) in
+    let tape : List ℕ = tapeOf (roomIn store) in
     written
-    (firstRefusal (11 when unsound store ∷ 19 when tooShort output (length tape) ∷ []))
+    (firstRefusal (11 when holdsNoStore store ∷ 19 when tooShort output (length tape) ∷ []))
     (length tape)
     tape
     output
@@ -91,11 +91,11 @@ resumeOutcome tape store = resumed (contentOf tape) store
 -- "a console's board copied out"
 unfoldable pub boardOutcome : List ℕ → ℕ → List ℕ → Outcome
 boardOutcome store console output =
-    let room : Room = roomAt store in
+    let room : Room = roomIn store in
     written
     (firstRefusal
     (3 when not (isConsole console)
-    ∷ 11 when unsound store
+    ∷ 11 when holdsNoStore store
     ∷ 12 when absent room console
     ∷ 19 when tooShort output boardSize
     ∷ []))
@@ -106,24 +106,24 @@ boardOutcome store console output =
 -- "its heard count"
 unfoldable pub heardReply : List ℕ → ℕ → Reply
 heardReply store console =
-    let room : Room = roomAt store in
+    let room : Room = roomIn store in
     replied
-    (firstRefusal (3 when not (isConsole console) ∷ 11 when unsound store ∷ 12 when absent room console ∷ []))
+    (firstRefusal (3 when not (isConsole console) ∷ 11 when holdsNoStore store ∷ 12 when absent room console ∷ []))
     (heardCount room console)
 
 -- "the common version of two consoles (of a console with itself: its head)"
 unfoldable pub commonReply : List ℕ → ℕ → ℕ → Reply
 commonReply store first second =
-    let room : Room = roomAt store in
+    let room : Room = roomIn store in
     replied
     (firstRefusal
     (3 when (not (isConsole first) || not (isConsole second))
-    ∷ 11 when unsound store
+    ∷ 11 when holdsNoStore store
     ∷ 12 when (absent room first || absent room second)
     ∷ []))
     (common room first second)
 
--- A call on a store, with all else that is lent to it.
+-- A call on a store: its kind, its numbers, and what is lent to it beside the store.
 pub data Call : Type 0 where
   opening : ℕ → Call
   command : List ℕ → Call
@@ -135,20 +135,20 @@ pub data Call : Type 0 where
 
 -- its reply
 unfoldable pub replyTo : List ℕ → Call → Reply
-replyTo store (opening capacity) = openOutcome capacity store .reply
-replyTo store (command c) = commandOutcome store c .reply
-replyTo store (pause output) = pauseOutcome store output .reply
-replyTo store (resume tape) = resumeOutcome tape store .reply
-replyTo store (board console output) = boardOutcome store console output .reply
+replyTo store (opening capacity) = (openOutcome capacity store) .reply
+replyTo store (command c) = (commandOutcome store c) .reply
+replyTo store (pause output) = (pauseOutcome store output) .reply
+replyTo store (resume tape) = (resumeOutcome tape store) .reply
+replyTo store (board console output) = (boardOutcome store console output) .reply
 replyTo store (heard console) = heardReply store console
 replyTo store (commonVersion first second) = commonReply store first second
 
 -- and the store's buffer afterwards, which a pause and a question leave as it is
 unfoldable pub storeAfter : List ℕ → Call → List ℕ
-storeAfter store (opening capacity) = openOutcome capacity store .buffer
-storeAfter store (command c) = commandOutcome store c .buffer
+storeAfter store (opening capacity) = (openOutcome capacity store) .buffer
+storeAfter store (command c) = (commandOutcome store c) .buffer
 storeAfter store (pause output) = store
-storeAfter store (resume tape) = resumeOutcome tape store .buffer
+storeAfter store (resume tape) = (resumeOutcome tape store) .buffer
 storeAfter store (board console output) = store
 storeAfter store (heard console) = store
 storeAfter store (commonVersion first second) = store
