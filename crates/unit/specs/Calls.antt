@@ -152,3 +152,13 @@ storeAfter store (resume tape) = (resumeOutcome tape store) .buffer
 storeAfter store (board console output) = store
 storeAfter store (heard console) = store
 storeAfter store (commonVersion first second) = store
+
+-- and the output lent to a pause or a board, which no other call has
+unfoldable pub outputAfter : List ℕ → Call → List ℕ
+outputAfter store (opening capacity) = []
+outputAfter store (command c) = []
+outputAfter store (pause output) = (pauseOutcome store output) .buffer
+outputAfter store (resume tape) = []
+outputAfter store (board console output) = (boardOutcome store console output) .buffer
+outputAfter store (heard console) = []
+outputAfter store (commonVersion first second) = []

@@ -8,7 +8,7 @@ use lib.Dec.{eqb}
 use lib.ListN.{length, getD, set, replicate}
 use Rattle.board.specs.declared.Strip.{Strip}
 use Rattle.graph.specs.Below.{countBelow}
-use Rattle.graph.specs.Graph.{Node, entry, merge}
+use Rattle.graph.specs.Graph.{Node, entry, merge, isSome}
 use Rattle.command.specs.declared.Console.{Console}
 use Rattle.command.specs.declared.Command.{Command}
 use Rattle.command.specs.declared.Command.the-variants.{Fork, Entry, Merge, FastForward}
@@ -31,22 +31,27 @@ pub record Journal : Type 0 where
   pub versions : List Made
   pub heads : List (Option ℕ)
 
-abbrev pub headIn : Journal → ℕ → Option ℕ
-headIn j c = getD (j .heads) c none
+-- the head of console c, or none while it is absent
+abbrev pub slotOf : Journal → ℕ → Option ℕ
+slotOf j c = getD (j .heads) c none
+
+abbrev pub isPresent : Journal → ℕ → Bool
+isPresent j c = isSome (slotOf j c)
 
 -- the number of a present console's head
 abbrev pub headNumber : Journal → ℕ → ℕ
-headNumber j c = Option·getD (headIn j c) 0
+headNumber j c = Option·getD (slotOf j c) 0
 
 -- the number of the next version
 abbrev pub nextVersion : Journal → ℕ
 nextVersion j = suc (length (j .versions))
 
-abbrev pub withHead : Journal → ℕ → Option ℕ → Journal
-withHead j c h = record { versions = j .versions; heads = set (j .heads) c h }
+-- console c moves to the head given, or to a new version
+abbrev pub moveTo : Journal → ℕ → Option ℕ → Journal
+moveTo j c h = record { versions = j .versions; heads = set (j .heads) c h }
 
-abbrev pub withVersion : Journal → ℕ → Made → Journal
-withVersion j c m = record { versions = m ∷ j .versions; heads = set (j .heads) c (some (nextVersion j)) }
+abbrev pub addVersion : Journal → ℕ → Made → Journal
+addVersion j c m = record { versions = m ∷ j .versions; heads = set (j .heads) c (some (nextVersion j)) }
 
 -- "Opening: version 0 without parent, console 0 on it, nothing else."
 abbrev pub opened : Journal
@@ -57,11 +62,11 @@ opened = record { versions = []; heads = set (replicate consoleCount none) 0 (so
 -- gets the giver's."
 unfoldable pub afterCommand : Journal → Decoded → Journal
 afterCommand j (Whole (Entry console code strip operand)) =
-    withVersion j (console .0) (entered (headNumber j (console .0)) code (strip .0))
+    addVersion j (console .0) (entered (headNumber j (console .0)) code (strip .0))
 afterCommand j (Whole (Merge receiver giver)) =
-    withVersion j (receiver .0) (merged (headNumber j (receiver .0)) (headNumber j (giver .0)))
-afterCommand j (Whole (Fork new old)) = withHead j (new .0) (headIn j (old .0))
-afterCommand j (Whole (FastForward receiver giver)) = withHead j (receiver .0) (headIn j (giver .0))
+    addVersion j (receiver .0) (merged (headNumber j (receiver .0)) (headNumber j (giver .0)))
+afterCommand j (Whole (Fork new old)) = moveTo j (new .0) (slotOf j (old .0))
+afterCommand j (Whole (FastForward receiver giver)) = moveTo j (receiver .0) (slotOf j (giver .0))
 afterCommand j (Refused n) = j
 
 -- "Resume: version 0 anew, then a version for each record 21 or 22 in order, with the parents, code and strip written there, then the
