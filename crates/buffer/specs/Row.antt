@@ -1,9 +1,11 @@
 -- "one bit per version": a set of numbers as a row of bits, eight to a byte, the lowest number in the lowest bit of the first byte.
 use Prim.Native.Nat.{ℕ, zero, suc, _+_, _*_, _/_, _%_, _^_}
-use mathlib.Core.Bool.{Bool, true, false}
+use mathlib.Core.Bool.{Bool, true, false, _&&_}
 use mathlib.Core.List.{List, [], _∷_}
 use lib.Dec.{eqb}
-use lib.ListN.{getD}
+use lib.Bits.{bitAnd, bitOr}
+use lib.ListN.{getD, set, drop}
+use Rattle.buffer.specs.Field.{allZero}
 
 abbrev pub bit : Bool → ℕ
 bit true = 1
@@ -26,4 +28,24 @@ row f n = rowFrom f 0 n
 
 -- v is a member of the row
 abbrev pub member : List ℕ → ℕ → Bool
-member s v = eqb (getD s (v / 8) 0 / 2 ^ (v % 8) % 2) 1
+member s v = eqb (getD s (v / 8) 0 / (2 ^ (v % 8)) % 2) 1
+
+-- the row with v as a member besides
+abbrev pub withMember : List ℕ → ℕ → List ℕ
+withMember s v = set s (v / 8) (bitOr (getD s (v / 8) 0) (2 ^ (v % 8)))
+
+-- two rows put together byte by byte
+unfoldable pub bytewise : (ℕ → ℕ → ℕ) → List ℕ → List ℕ → List ℕ
+bytewise f [] t = []
+bytewise f (x ∷ s) [] = []
+bytewise f (x ∷ s) (y ∷ t) = f x y ∷ bytewise f s t
+
+abbrev pub union : List ℕ → List ℕ → List ℕ
+union s t = bytewise bitOr s t
+
+abbrev pub intersection : List ℕ → List ℕ → List ℕ
+intersection s t = bytewise bitAnd s t
+
+-- no member is n or above
+abbrev pub noneFrom : List ℕ → ℕ → Bool
+noneFrom s n = eqb (getD s (n / 8) 0 / (2 ^ (n % 8))) 0 && allZero (drop (n / 8 + 1) s)

@@ -107,6 +107,8 @@ graphs =
     -- two heads without a single lowest common ancestor
     ∷ (answer (start 6 ++ call 0 ++ call 0 ++ merge 1 2 ++ merge 2 1 ++ head 0 3 ++ head 1 4 ++ end) gives 10 ∷ [])
     ∷ (answer (start 6 ++ call 0 ++ call 0 ++ merge 1 2 ++ call 2 ++ head 0 3 ++ head 1 4 ++ end) gives 0 ∷ [])
+    -- also of two others than console 0
+    ∷ (answer (start 6 ++ call 0 ++ call 0 ++ merge 1 2 ++ merge 2 1 ++ head 0 0 ++ head 1 3 ++ head 2 4 ++ end) gives 10 ∷ [])
     -- what pause would write is taken back
     ∷ (answer (tapeOf crossed) gives 0 ∷ [])
     ∷ (answer (tapeOf stuck) gives 0 ∷ [])

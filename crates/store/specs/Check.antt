@@ -1,0 +1,105 @@
+-- The test that the code makes of lent bytes, in one pass over the versions: each version is held against the parts of its parents and its
+-- base, which were tested before it. That it says of any bytes what `holdsStore` says is a theorem, so a reader need not believe this file.
+use Prim.Native.Nat.{ℕ, zero, suc, pred, _+_, _-_, _*_}
+use mathlib.Core.Bool.{Bool, true, false, cond, not, _&&_, _||_}
+use mathlib.Core.List.{List, [], _∷_}
+use lib.Dec.{eqb, leb, ltb}
+use lib.ListN.{length, getD}
+use Rattle.buffer.specs.Field.{wordAt, zeros, part, same, allZero}
+use Rattle.buffer.specs.Row.{row, member, withMember, union, intersection, noneFrom}
+use Rattle.board.specs.Board.{boardSize, enter, mergeBoard}
+use Rattle.graph.specs.Below.{everyBelow}
+use Rattle.command.specs.Code.{consoleCount, isEntryCode, isStrip, isOperand}
+use Rattle.room.specs.Sound.{isCapacity}
+use Rattle.store.specs.Layout.{headerSize, nodeSize, rowSize, blockSize, storeSize, capacityAt, countAt, entriesAt, commonsEnd, commonAt, headAt, blockAt, nodeCodeAt, nodeStripAt, nodeOperandAt, nodeParentAt, nodeGiverAt, nodeBaseAt, rowAt, boardAt}
+
+abbrev pub rowPart : List ℕ → ℕ → List ℕ
+rowPart s v = part s (rowAt v) rowSize
+
+abbrev pub boardPart : List ℕ → ℕ → List ℕ
+boardPart s v = part s (boardAt v) boardSize
+
+abbrev pub entriesPart : List ℕ → List ℕ
+entriesPart s = part s entriesAt rowSize
+
+-- version 0: no node, itself as its only ancestor, an empty board, no entry
+unfoldable pub rootRight : List ℕ → Bool
+rootRight s =
+    allZero (part s (blockAt 0) nodeSize)
+    && same (rowPart s 0) (withMember (zeros rowSize) 0)
+    && allZero (boardPart s 0)
+    && not (member (entriesPart s) 0)
+
+-- an entry with this parent, code, strip and operand
+unfoldable pub entryRight : List ℕ → ℕ → ℕ → ℕ → ℕ → ℕ → Bool
+entryRight s v p code strip operand =
+    isEntryCode code && isStrip strip && isOperand code operand && ltb p v
+    && allZero (part s (nodeGiverAt v) (nodeSize - 6))
+    && same (rowPart s v) (withMember (rowPart s p) v)
+    && same (boardPart s v) (enter code strip operand (boardPart s p))
+    && member (entriesPart s) v
+
+-- a merge with these parents and this base
+unfoldable pub mergeRight : List ℕ → ℕ → ℕ → ℕ → ℕ → Bool
+mergeRight s v p q l =
+    ltb p v && ltb q v && ltb l v && not (eqb l p) && not (eqb l q)
+    && allZero (part s (nodeStripAt v) 3)
+    && allZero (part s (nodeBaseAt v + 2) (nodeSize - 10))
+    && same (rowPart s l) (intersection (rowPart s p) (rowPart s q))
+    && same (rowPart s v) (withMember (union (rowPart s p) (rowPart s q)) v)
+    && same (boardPart s v) (mergeBoard (boardPart s l) (boardPart s p) (boardPart s q))
+    && not (member (entriesPart s) v)
+
+unfoldable pub versionRight : List ℕ → ℕ → Bool
+versionRight s v =
+    cond (eqb (getD s (nodeCodeAt v) 0) 0x09)
+    (mergeRight s v (wordAt s (nodeParentAt v)) (wordAt s (nodeGiverAt v)) (wordAt s (nodeBaseAt v)))
+    (entryRight s v (wordAt s (nodeParentAt v)) (getD s (nodeCodeAt v) 0) (getD s (nodeStripAt v) 0) (wordAt s (nodeOperandAt v)))
+
+-- versions 0 to n
+unfoldable pub versionsRight : List ℕ → ℕ → Bool
+versionsRight s zero = rootRight s
+versionsRight s (suc n) = versionsRight s n && versionRight s (suc n)
+
+-- A field of the table of commons: 0, or 1 more than a version.
+abbrev pub commonIn : List ℕ → ℕ → ℕ → ℕ
+commonIn s c d = wordAt s (commonAt c d)
+
+-- consoles c and d, of n versions: 0 where one is absent, else 1 more than the version whose row is the intersection of their heads'
+unfoldable pub pairRight : List ℕ → ℕ → ℕ → ℕ → Bool
+pairRight s n c d =
+    eqb (commonIn s d c) (commonIn s c d)
+    && cond (eqb (commonIn s c c) 0 || eqb (commonIn s d d) 0)
+    (eqb (commonIn s c d) 0)
+    (ltb 0 (commonIn s c d) && leb (commonIn s c d) n
+    && same (rowPart s (pred (commonIn s c d))) (intersection (rowPart s (pred (commonIn s c c))) (rowPart s (pred (commonIn s d d)))))
+
+-- console c: its head is a version, and its pairs with the consoles below it are right
+unfoldable pub consoleRight : List ℕ → ℕ → ℕ → Bool
+consoleRight s n c = leb (commonIn s c c) n && everyBelow c (pairRight s n c)
+
+-- the versions that are an ancestor of a head of one of the first c consoles
+unfoldable pub behindHeads : List ℕ → ℕ → List ℕ
+behindHeads s zero = zeros rowSize
+behindHeads s (suc c) =
+    cond (eqb (commonIn s c c) 0) (behindHeads s c) (union (behindHeads s c) (rowPart s (pred (commonIn s c c))))
+
+-- a store of this capacity with n versions
+unfoldable pub contentsRight : List ℕ → ℕ → ℕ → Bool
+contentsRight s capacity n =
+    leb 1 n && leb n capacity
+    && allZero (part s (countAt + 2) (entriesAt - (countAt + 2)))
+    && allZero (part s commonsEnd (headerSize - commonsEnd))
+    && versionsRight s (pred n)
+    && noneFrom (entriesPart s) n
+    && allZero (part s (blockAt n) (blockSize * (capacity - n)))
+    && everyBelow consoleCount (consoleRight s n)
+    && ltb 0 (commonIn s 0 0)
+    && same (behindHeads s consoleCount) (row (λ v. ltb v n) rowSize)
+
+unfoldable pub storeRight : List ℕ → Bool
+storeRight s =
+    leb headerSize (length s)
+    && isCapacity (wordAt s capacityAt)
+    && leb (storeSize (wordAt s capacityAt)) (length s)
+    && contentsRight s (wordAt s capacityAt) (wordAt s countAt)
