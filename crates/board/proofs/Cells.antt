@@ -44,13 +44,13 @@ module _ (l a b : List ℕ) (k : ℕ) (h : k < stripCount) where
       cc
 
   -- "calls and alert count: a + b − l", where that fits 16 bits
-  pub calls-merged : mergeCount (wordAt l (callsAt k)) (wordAt a (callsAt k)) (wordAt b (callsAt k)) < 65536
-      → wordAt (mergeBoard l a b) (callsAt k) ≡ mergeCount (wordAt l (callsAt k)) (wordAt a (callsAt k)) (wordAt b (callsAt k))
+  pub calls-merged : wordAt a (callsAt k) + wordAt b (callsAt k) - wordAt l (callsAt k) < 65536
+      → wordAt (mergeBoard l a b) (callsAt k) ≡ wordAt a (callsAt k) + wordAt b (callsAt k) - wordAt l (callsAt k)
   unfolding mergeStrip
   calls-merged small = board-word 6 (omega arith) ∙ bytes-word _ small
 
-  pub alerts-merged : mergeCount (wordAt l (alertsAt k)) (wordAt a (alertsAt k)) (wordAt b (alertsAt k)) < 65536
-      → wordAt (mergeBoard l a b) (alertsAt k) ≡ mergeCount (wordAt l (alertsAt k)) (wordAt a (alertsAt k)) (wordAt b (alertsAt k))
+  pub alerts-merged : wordAt a (alertsAt k) + wordAt b (alertsAt k) - wordAt l (alertsAt k) < 65536
+      → wordAt (mergeBoard l a b) (alertsAt k) ≡ wordAt a (alertsAt k) + wordAt b (alertsAt k) - wordAt l (alertsAt k)
   unfolding mergeStrip
   alerts-merged small = board-word 8 (omega arith) ∙ bytes-word _ small
 

@@ -1,6 +1,7 @@
 pub mod Lengths
 pub mod Sound
 pub mod Moves
+pub mod Effects
 pub mod NewMeets
 pub mod Steps
 pub mod Counters

@@ -149,7 +149,7 @@ module _ (r : Room) (s : Sound r) (a b : ℕ) (pa : present r a ≡ true) (pb : 
       grown-sound r s a pa (merge (head r a) (head r b)) merge-lower merge-based refl receiver (meeting h) left
 
   -- no third console splits the two exactly when every two consoles have a meet after the merge
-  pub split-none : someThirdSplits r a b ≡ false → headsMeet (grown r a (merge (head r a) (head r b))) ≡ true
+  split-none : someThirdSplits r a b ≡ false → headsMeet (grown r a (merge (head r a) (head r b))) ≡ true
   unfolding headsMeet
   split-none h =
       let after : Room = grown r a (merge (head r a) (head r b)) in
@@ -159,7 +159,7 @@ module _ (r : Room) (s : Sound r) (a b : ℕ) (pa : present r a ≡ true) (pb : 
       (λ pc pd. ap isSome (meet-found
       (grown-meets r s a pa (merge (head r a) (head r b)) merge-lower merge-based refl receiver (meeting h) c d pc pd .1)))))
 
-  pub split-some : headsMeet (grown r a (merge (head r a) (head r b))) ≡ true → someThirdSplits r a b ≡ false
+  split-some : headsMeet (grown r a (merge (head r a) (head r b))) ≡ true → someThirdSplits r a b ≡ false
   unfolding headsMeet
   split-some h =
       let n : Node = merge (head r a) (head r b) in
@@ -177,6 +177,20 @@ module _ (r : Room) (s : Sound r) (a b : ℕ) (pa : present r a ≡ true) (pb : 
       clash (d .2)
       (third-ordered (d .0) (parts .pd) (parts .na) (parts .nb)
       (subst₂ (λ (u v : ℕ). Meet (n ∷ r .versions) u v (z .0)) (new-number r s a pa n) (number f) (z .1))))
+
+-- refusal 17 is given exactly where the merge would leave two consoles without a single lowest common ancestor
+pub seventeen-exact : (r : Room) → soundRoom r ≡ true → (a b : Console) → present r (a .0) ≡ true → present r (b .0) ≡ true
+    → behind r (b .0) (a .0) ≡ false → behind r (a .0) (b .0) ≡ false → someThirdSplits r (a .0) (b .0) ≡ not (headsMeet (step r (Merge a b)))
+unfolding step
+seventeen-exact r h a b pa pb ahead back =
+    let s = sound-facts r h in
+    let after : Room = grown r (a .0) (merge (head r (a .0)) (head r (b .0))) in
+    elim (decide (headsMeet after)) [
+      | inl t ↦ split-some r s (a .0) (b .0) pa pb ahead back t ∙ sym (ap not t)
+      | inr f ↦
+          elim (decide (someThirdSplits r (a .0) (b .0)))
+          [ inl t ↦ t ∙ sym (ap not f) | inr g ↦ clash (split-none r s (a .0) (b .0) pa pb ahead back g) f ]
+    ]
 
 merge-sound : (r : Room) → Sound r → (a b : Console) → InRange (Merge a b) → stepRefusal r (Merge a b) ≡ 0 → Sound (step r (Merge a b))
 unfolding stepRefusal step

@@ -55,7 +55,7 @@ stepRefusal r (Merge receiver giver) =
 stepRefusal r (FastForward receiver giver) =
     firstRefusal
     (12 when (absent r (receiver .0) || absent r (giver .0))
-    ∷ 14 when behind r (giver .0) (receiver .0)
+    ∷ 14 when (behind r (giver .0) (receiver .0))
     ∷ 16 when not (behind r (receiver .0) (giver .0))
     ∷ [])
 
