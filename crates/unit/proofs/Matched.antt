@@ -33,50 +33,38 @@ use Rattle.unit.specs.Calls.{Outcome, openOutcome, stepOutcome, commandO
 use Rattle.unit.specs.Journal.{Journal, madeBy, opened, afterCommand, afterTape, afterAccepted, feed}
 use Rattle.unit.specs.Convergence.{begins, afterCalls}
 
+-- what a journal says that has followed a room
+abbrev pub journalOf : Room → Journal
+journalOf r = record { versions = map madeBy (r .versions); heads = r .heads }
+
 pub record Matched (store : List ℕ) (j : Journal) : Type 0 where
   pub holds : holdsStore store ≡ true
-  pub heads : roomIn store .heads ≡ j .heads
-  pub versions : map madeBy (roomIn store .versions) ≡ j .versions
+  pub journal : journalOf (roomIn store) ≡ j
 
 -- a sound room written over a buffer
-written-matched : (r : Room) (j : Journal) (old : List ℕ) → soundRoom r ≡ true → r .heads ≡ j .heads → map madeBy (r .versions) ≡ j .versions
-    → Matched (overwrite (encode r) old) j
-written-matched r j old s h v =
+written-matched : (r : Room) (old : List ℕ) {j : Journal} → soundRoom r ≡ true → journalOf r ≡ j → Matched (overwrite (encode r) old) j
+written-matched r old s e =
     let rest = drop (length (encode r)) old in
-    let back = room-encode r rest s in
-    record {
-      holds = holds-encode r rest s;
-      heads = ap (λ (x : Room). x .heads) back ∙ h;
-      versions = ap (λ (x : Room). map madeBy (x .versions)) back ∙ v;
-    }
+    record { holds = holds-encode r rest s; journal = ap journalOf (room-encode r rest s) ∙ e }
 
 opening-matched : (capacity : ℕ) (buffer : List ℕ) → openOutcome capacity buffer .reply .answer ≡ 0 → Matched (overwrite (encode (fresh capacity)) buffer) opened
 unfolding openOutcome
 opening-matched capacity buffer h =
-    written-matched (fresh capacity) opened buffer (fresh-sound capacity (not-false _ (none-applies _ h .0 (lit< tt)))) refl refl
+    written-matched (fresh capacity) buffer (fresh-sound capacity (not-false _ (none-applies _ h .0 (lit< tt)))) refl
 
 resume-matched : (t : Content) (j : Journal) (buffer : List ℕ) → resumed (some t) buffer .reply .answer ≡ 0
     → Matched (overwrite (encode (roomOf t)) buffer) (afterTape j (some t))
 unfolding resumed afterTape
 resume-matched t j buffer h =
-    written-matched (roomOf t) _ buffer (not-false _ (none-applies _ h .1 (lit< tt) .1 (lit< tt) .0 (lit< tt))) refl refl
+    written-matched (roomOf t) buffer (not-false _ (none-applies _ h .1 (lit< tt) .1 (lit< tt) .0 (lit< tt))) refl
 
--- a step moves the room's heads and versions as the journal's
-step-heads : (r : Room) (j : Journal) (c : Command) → r .heads ≡ j .heads → map madeBy (r .versions) ≡ j .versions
-    → step r c .heads ≡ afterCommand j (Whole c) .heads
+-- a command takes the journal of a room to that of the next
+step-journal : (r : Room) (c : Command) → journalOf (step r c) ≡ afterCommand (journalOf r) (Whole c)
 unfolding step afterCommand
-step-heads r j (Fork new old) h v = cc
-step-heads r j (Entry console code strip operand) h v = cc (length-map (r .versions) madeBy)
-step-heads r j (Merge receiver giver) h v = cc (length-map (r .versions) madeBy)
-step-heads r j (FastForward receiver giver) h v = cc
-
-step-versions : (r : Room) (j : Journal) (c : Command) → r .heads ≡ j .heads → map madeBy (r .versions) ≡ j .versions
-    → map madeBy (step r c .versions) ≡ afterCommand j (Whole c) .versions
-unfolding step afterCommand
-step-versions r j (Fork new old) h v = v
-step-versions r j (Entry console code strip operand) h v = cc
-step-versions r j (Merge receiver giver) h v = cc
-step-versions r j (FastForward receiver giver) h v = v
+step-journal r (Fork new old) = refl
+step-journal r (Entry console code strip operand) = cc (length-map (r .versions) madeBy)
+step-journal r (Merge receiver giver) = cc (length-map (r .versions) madeBy)
+step-journal r (FastForward receiver giver) = refl
 
 -- a call that changes both where it is accepted, and neither where it is refused
 either : {store store′ : List ℕ} {j j′ : Journal} (refusal : ℕ) → Matched store j → (refusal ≡ 0 → Matched store′ j′)
@@ -109,10 +97,8 @@ module _ (store : List ℕ) (j : Journal) (m : Matched store j) where
   command-matched s c e h =
       let r = roomIn store in
       let accepted : stepRefusal r c ≡ 0 = cc (m .holds) in
-      written-matched (step r c) (afterCommand j (Whole c)) store
-      (step-sound r c (holds-sound store (m .holds)) (decode-range s c e) accepted)
-      (step-heads r j c (m .heads) (m .versions))
-      (step-versions r j c (m .heads) (m .versions))
+      written-matched (step r c) store (step-sound r c (holds-sound store (m .holds)) (decode-range s c e) accepted)
+      (step-journal r c ∙ ap (λ (k : Journal). afterCommand k (Whole c)) (m .journal))
 
   command-kept : (s : List ℕ) (d : Decoded) → decode s ≡ d
       → Matched (stepOutcome store d .buffer) (cond (eqb (stepOutcome store d .reply .answer) 0) (afterCommand j d) j)
