@@ -1,19 +1,17 @@
--- After an opening or a resume that answered 0, and after every call since, the store holds a sound room, its present consoles and their
--- heads are the journal's, and the journal's versions are the room's.
+-- After an opening or a resume that answered 0, and after every call since, the store holds a sound room, and the journal is that of the
+-- room: its versions and its heads are the room's.
 -- Assumes nothing.
-use Prim.Native.Nat.{ℕ, suc}
-use mathlib.Core.Path.{_≡_, refl, sym, _∙_, ap}
+use Prim.Native.Nat.{ℕ}
+use mathlib.Core.Path.{_≡_, refl, _∙_, ap}
 use mathlib.Core.Bool.{Bool, true, false, cond}
-use mathlib.Core.List.{List, [], _∷_, _++_, map}
+use mathlib.Core.List.{List, [], _∷_, map}
 use mathlib.Core.Option.{Option, none, some}
 use native.Mathlib.Omega.{arith}
 use borrow.Author.Tests.{eqb-true, not-false}
 use lib.Dec.{eqb, lit<}
 use lib.ListN.{length, length-map, drop}
-use Rattle.laws.proofs.Logic.{clash, cond-true}
+use Rattle.laws.proofs.Logic.{clash}
 use Rattle.buffer.specs.Field.{overwrite}
-use Rattle.board.specs.declared.Strip.{Strip}
-use Rattle.command.specs.declared.Console.{Console}
 use Rattle.command.specs.declared.Command.{Command}
 use Rattle.command.specs.declared.Command.the-variants.{Fork, Entry, Merge, FastForward}
 use Rattle.command.specs.declared.Decoded.{Decoded}
@@ -28,12 +26,11 @@ use Rattle.room.proofs.Steps.{step-sound, fresh-sound}
 use Rattle.store.specs.Layout.{encode, roomIn, holdsStore}
 use Rattle.store.proofs.RoundTrip.{room-encode, holds-encode, holds-sound}
 use Rattle.tape.specs.Tape.{Content, contentOf, roomOf}
-use Rattle.unit.specs.declared.Reply.{Reply}
-use Rattle.unit.specs.Calls.{Outcome, openOutcome, stepOutcome, commandOutcome, resumed, resumeOutcome, Call, opening, command, pause, resume, board, heard, commonVersion, replyTo, storeAfter}
+use Rattle.unit.specs.Calls.{openOutcome, stepOutcome, commandOutcome, resumed, resumeOutcome, Call, opening, command, pause, resume, board, heard, commonVersion, replyTo, storeAfter}
 use Rattle.unit.specs.Journal.{Journal, madeBy, opened, afterCommand, afterTape, afterAccepted, feed}
 use Rattle.unit.specs.Convergence.{begins, afterCalls}
 
--- what a journal says that has followed a room
+-- the journal of a room: its versions, each as it was made, and its heads
 abbrev pub journalOf : Room → Journal
 journalOf r = record { versions = map madeBy (r .versions); heads = r .heads }
 
@@ -47,7 +44,8 @@ written-matched r old s e =
     let rest = drop (length (encode r)) old in
     record { holds = holds-encode r rest s; journal = ap journalOf (room-encode r rest s) ∙ e }
 
-opening-matched : (capacity : ℕ) (buffer : List ℕ) → openOutcome capacity buffer .reply .answer ≡ 0 → Matched (overwrite (encode (fresh capacity)) buffer) opened
+opening-matched : (capacity : ℕ) (buffer : List ℕ) → openOutcome capacity buffer .reply .answer ≡ 0
+    → Matched (overwrite (encode (fresh capacity)) buffer) opened
 unfolding openOutcome
 opening-matched capacity buffer h =
     written-matched (fresh capacity) buffer (fresh-sound capacity (not-false _ (none-applies _ h .0 (lit< tt)))) refl
@@ -106,6 +104,7 @@ module _ (store : List ℕ) (j : Journal) (m : Matched store j) where
   command-kept s (Refused n) e = either n m (λ _. m)
   command-kept s (Whole c) e = either (cond (holdsStore store) (stepRefusal (roomIn store) c) 11) m (command-matched s c e)
 
+  -- each call keeps them matched
   call-kept : (c : Call) → Matched (storeAfter store c) (feed j c (replyTo store c .answer))
   unfolding storeAfter feed replyTo afterAccepted openOutcome commandOutcome resumeOutcome
   call-kept (opening capacity) = either _ m (opening-matched capacity store)
@@ -116,13 +115,16 @@ module _ (store : List ℕ) (j : Journal) (m : Matched store j) where
   call-kept (heard console) = unchanged (heard console) refl
   call-kept (commonVersion first second) = unchanged (commonVersion first second) refl
 
+-- a list of calls
 calls-kept : (store : List ℕ) (j : Journal) (calls : List Call) → Matched store j
     → Matched (afterCalls store j calls .0) (afterCalls store j calls .1)
 unfolding afterCalls
 calls-kept store j [] m = m
 calls-kept store j (c ∷ calls) m = calls-kept _ _ calls (call-kept store j m c)
 
-resume-first : (buffer : List ℕ) (j : Journal) (o : Option Content) → resumed o buffer .reply .answer ≡ 0 → Matched (resumed o buffer .buffer) (afterTape j o)
+-- the opening or the resume before the list, on any buffer and any journal
+resume-first : (buffer : List ℕ) (j : Journal) (o : Option Content) → resumed o buffer .reply .answer ≡ 0
+    → Matched (resumed o buffer .buffer) (afterTape j o)
 unfolding resumed afterTape
 resume-first buffer j none h = absurd (omega arith)
 resume-first buffer j (some t) h = rw h (resume-matched t j buffer h)

@@ -1,18 +1,18 @@
 -- Where a journal's versions are those of a graph, what the journal says of them is what the graph does: which version leads to which, which
 -- are entries, and which are calls of a strip.
 -- Assumes nothing.
-use Prim.Native.Nat.{ℕ, suc}
+use Prim.Native.Nat.{ℕ}
 use mathlib.Core.Path.{_≡_, refl, sym, ap}
-use mathlib.Core.Bool.{Bool, true, false, cond, _&&_, _||_}
-use mathlib.Core.List.{List, [], _∷_, map}
+use mathlib.Core.Bool.{Bool, true, false, cond, _&&_}
+use mathlib.Core.List.{[], _∷_, map}
 use mathlib.Core.Option.{Option, none, some, Option·map}
 use borrow.Author.Tests.{eqb-true, eq-eqb}
 use lib.Dec.{eqb}
-use lib.ListN.{length, length-map}
+use lib.ListN.{length-map}
 use Rattle.laws.proofs.Logic.{bool-ext}
 use Rattle.graph.specs.Graph.{Graph, Node, entry, merge, versionCount, ancestor, nodeOf, entryNode, isEntry}
 use Rattle.room.proofs.Counters.{entryIs}
-use Rattle.unit.specs.Journal.{Made, entered, merged, madeBy, leads, madeAs, wasEntered, callOf}
+use Rattle.unit.specs.Journal.{madeBy, leads, madeAs, wasEntered, callOf}
 
 pub leads-ancestor : (g : Graph) (u v : ℕ) → leads (map madeBy g) u v ≡ ancestor g u v
 unfolding leads ancestor
