@@ -1,0 +1,150 @@
+-- Demand 3: consoles that heard the same entries show the same board, a common version holds what both have heard and every version common
+-- to both leads to it, and the call counters and heard counts are what was heard.
+-- Assumes nothing.
+use Prim.Native.Nat.{ℕ, suc, _≤_, _<_}
+use mathlib.Core.Path.{_≡_, refl, sym, _∙_, ap, subst}
+use mathlib.Core.Bool.{Bool, true, _&&_}
+use mathlib.Core.List.{List, map}
+use mathlib.Core.Option.{Option, none, some}
+use native.Mathlib.Omega.{arith}
+use borrow.Author.Tests.{lt-ltb, le-ltb}
+use lib.ListN.{length, length-map}
+use Rattle.laws.proofs.Logic.{and-l, and-r, and-both}
+use Rattle.buffer.specs.Field.{wordAt}
+use Rattle.buffer.proofs.Fields.{wordAt-left}
+use Rattle.board.specs.Board.{stripCount, boardSize, callsAt}
+use Rattle.graph.specs.Below.{countBelow}
+use Rattle.graph.specs.Graph.{versionCount, ancestor, isEntry}
+use Rattle.graph.proofs.Below.{count-ext}
+use Rattle.graph.proofs.Counting.{held}
+use Rattle.graph.proofs.Growth.{WellFormed, same-entries, meet-entries}
+use Rattle.command.specs.Refusal.{firstRefusal}
+use Rattle.command.specs.Code.{consoleCount, isConsole}
+use Rattle.command.proofs.Limits.{within-true}
+use Rattle.room.specs.Room.{Room, head, heardCount}
+use Rattle.room.specs.Sound.{maxCapacity}
+use Rattle.room.specs.Boards.{boardOf}
+use Rattle.room.proofs.Sound.{Sound, sound-facts, present-console, present-head}
+use Rattle.room.proofs.Steps.{common-meet}
+use Rattle.room.proofs.Counters.{tally, calls-tally}
+use Rattle.room.proofs.Lengths.{boardOf-length}
+use Rattle.store.specs.Layout.{roomIn, holdsStore}
+use Rattle.store.proofs.RoundTrip.{holds-sound}
+use Rattle.unit.specs.Calls.{replied, written, boardOutcome, heardReply, commonReply}
+use Rattle.unit.specs.Journal.{Journal, Made, entered, merged, madeBy, isPresent, headNumber, leads, madeAs, wasEntered, holds, hasHeard, entriesHeard, callOf, callsHeard}
+use Rattle.unit.specs.Convergence.{Common, Converged, Demand3}
+use Rattle.unit.proofs.Reading.{leads-ancestor, entered-entry, call-entry}
+use Rattle.unit.proofs.Matched.{journalOf, matched}
+
+-- what the journal of a room says is what the room says
+holds-ancestor : (r : Room) (v e : ℕ) → holds (journalOf r) v e ≡ (isEntry (r .versions) e && ancestor (r .versions) e v)
+holds-ancestor r v e = cc (entered-entry (r .versions) e, leads-ancestor (r .versions) e v)
+
+entries-count : (r : Room) (c : ℕ) → entriesHeard (journalOf r) c ≡ heardCount r c
+unfolding heardCount
+entries-count r c =
+    ap (λ (n : ℕ). countBelow (suc n) (hasHeard (journalOf r) c)) (length-map (r .versions) madeBy)
+    ∙ count-ext (versionCount (r .versions)) _ _ (λ e _. holds-ancestor r (head r c) e)
+
+-- a call that leads to a head is an entry heard
+call-heard : (k : ℕ) (o : Option Made) (b : Bool) → callOf k o && (wasEntered o && b) ≡ callOf k o && b
+call-heard k none b = refl
+call-heard k (some (entered p code strip)) b = refl
+call-heard k (some (merged p q)) b = refl
+
+calls-count : (r : Room) (c k : ℕ) → callsHeard (journalOf r) c k ≡ tally 6 k (r .versions) (head r c)
+unfolding held
+calls-count r c k =
+    let g = r .versions in
+    let made = map madeBy g in
+    ap (λ (n : ℕ). countBelow (suc n) (λ e. callOf k (madeAs made e) && hasHeard (journalOf r) c e)) (length-map g madeBy)
+    ∙ count-ext (versionCount g) _ _
+    (λ e _. cc (call-heard k (madeAs made e) (leads made e (head r c)), call-entry g k e, leads-ancestor g e (head r c)))
+
+-- the journal of the room that a store holds
+abbrev journalIn : List ℕ → Journal
+journalIn store = journalOf (roomIn store)
+
+module _ (store : List ℕ) (h : holdsStore store ≡ true) where
+  s : Sound (roomIn store)
+  s = sound-facts (roomIn store) (holds-sound store h)
+
+  well-formed : WellFormed (roomIn store .versions)
+  well-formed = record { lower = s .lower; based = s .based }
+
+  console : (c : ℕ) → isPresent (journalIn store) c ≡ true → isConsole c ≡ true
+  console c p = lt-ltb c consoleCount (present-console (roomIn store) c (s .sixteen) p)
+
+  module _ (c d : ℕ) (p : isPresent (journalIn store) c ≡ true) (q : isPresent (journalIn store) d ≡ true) where
+    same-head : ((e : ℕ) → hasHeard (journalIn store) c e ≡ hasHeard (journalIn store) d e)
+        → headNumber (journalIn store) c ≡ headNumber (journalIn store) d
+    same-head f =
+        let r = roomIn store in
+        same-entries well-formed (s .meets c d p q .1)
+        (λ e i. cc (f e, holds-ancestor r (head r c) e, holds-ancestor r (head r d) e))
+
+    same-board : headNumber (journalIn store) c ≡ headNumber (journalIn store) d
+        → (output : List ℕ) → boardOutcome store c output ≡ boardOutcome store d output
+    unfolding boardOutcome
+    same-board e output = cc (console c p, console d q)
+
+    common-version : (m : ℕ) × Common store (journalIn store) c d m
+    unfolding commonReply firstRefusal
+    common-version =
+        let r = roomIn store in
+        let g = r .versions in
+        let m = s .meets c d p q in (
+          m .0,
+          record {
+            answered = cc (h, console c p, console d q, common-meet r c d (m .1));
+            held = λ e.
+                cc (
+                  holds-ancestor r (m .0) e,
+                  holds-ancestor r (head r c) e,
+                  holds-ancestor r (head r d) e,
+                  meet-entries (m .1) e,
+                  and-both (isEntry g e) (ancestor g e (head r c)) (ancestor g e (head r d)),
+                );
+            common = simp (leads-ancestor, m .1 .first, m .1 .second);
+            last = λ v t.
+                let both = simp leads-ancestor at t in
+                rw leads-ancestor (m .1 .lowest v (and-l _ _ both) (and-r (ancestor g v (head r c)) _ both));
+          },
+        )
+
+  module _ (c : ℕ) (p : isPresent (journalIn store) c ≡ true) where
+    board-shown : (output : List ℕ) → boardSize ≤ length output
+        → boardOutcome store c output ≡ written 0 boardSize (boardOf (roomIn store .versions) (head (roomIn store) c)) output
+    unfolding boardOutcome firstRefusal
+    board-shown output fits = cc (h, console c p, le-ltb (length output) boardSize fits)
+
+    heard-count : heardReply store c ≡ replied 0 (entriesHeard (journalIn store) c)
+    unfolding heardReply firstRefusal
+    heard-count = cc (h, console c p, entries-count (roomIn store) c)
+
+    calls-counted : (k : ℕ) → k < stripCount → (output : List ℕ) → boardSize ≤ length output
+        → (boardOutcome store c output .reply ≡ replied 0 boardSize)
+        × (wordAt (boardOutcome store c output .buffer) (callsAt k) ≡ callsHeard (journalIn store) c k)
+    calls-counted k l output fits =
+        let r = roomIn store in
+        let g = r .versions in
+        let v = head r c in
+        let named : v < versionCount g = s .named c v (present-head r c p) in
+        let small : length g < 65535 = omega (arith, s .fits, within-true 1 maxCapacity (r .capacity) (s .capacity)) in
+        let front = wordAt-left (boardOf g v) _ (callsAt k) (omega (arith, boardOf-length g v)) in
+        rw (board-shown output fits) (refl, front ∙ calls-tally g v k well-formed small named l ∙ sym (calls-count r c k))
+
+  converged : Converged store (journalIn store)
+  converged = record {
+    sound = h;
+    heads = refl;
+    same = λ c d p q f. let e = same-head c d p q f in (e, same-board c d p q e);
+    commons = common-version;
+    calls = λ c k p. calls-counted c p k;
+    heard = heard-count;
+  }
+
+pub demand-3 : Demand3
+demand-3 buffer before first calls b accepted =
+    let m = matched buffer before first calls b accepted in
+    subst (Converged _) (m .journal) (converged _ (m .holds))
