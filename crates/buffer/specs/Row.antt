@@ -4,6 +4,7 @@ use mathlib.Core.Bool.{Bool, true, false, _&&_}
 use mathlib.Core.List.{List, [], _∷_}
 use lib.Dec.{eqb}
 use lib.Bits.{bitAnd, bitOr}
+use lib.Count.{ones}
 use lib.ListN.{getD, set, drop}
 use Rattle.buffer.specs.Field.{allZero}
 
@@ -49,3 +50,8 @@ intersection s t = bytewise bitAnd s t
 -- no member is n or above
 abbrev pub noneFrom : List ℕ → ℕ → Bool
 noneFrom s n = eqb (getD s (n / 8) 0 / (2 ^ (n % 8))) 0 && allZero (drop (n / 8 + 1) s)
+
+-- how many members a row has: the ones of its bytes
+unfoldable pub memberCount : List ℕ → ℕ
+memberCount [] = 0
+memberCount (x ∷ s) = ones x + memberCount s
