@@ -2,3 +2,6 @@ pub mod Fields
 pub mod Writes
 pub mod Stands
 pub mod Rows
+pub mod Compare
+pub mod Bytewise
+pub mod Accumulate
