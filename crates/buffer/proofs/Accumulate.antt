@@ -12,6 +12,8 @@ use lib.Seq.{take-all}
 use borrow.Author.Tests.{eqb-true, eq-eqb}
 use Rattle.laws.proofs.Logic.{and-l, and-r, and-i, bool-ext}
 use Rattle.buffer.specs.Field.{same}
+use Rattle.buffer.specs.Row.{bytewise}
+use Rattle.buffer.proofs.Bytewise.{bytewise-length, bytewise-at}
 use Rattle.buffer.proofs.Compare.{same-more}
 
 or-none : (a b : ℕ) → eqb (bitOr a b) 0 ≡ eqb a 0 && eqb b 0
@@ -57,3 +59,13 @@ compared-more {s} {t} {acc} {i} {d} c h e =
 
 pub compared-all : {s t : List ℕ} {acc i : ℕ} → Compared s t acc i → length s ≤ i → eqb acc 0 ≡ same s t
 compared-all {s} {t} {acc} {i} c h = c .found ∙ ap₂ same (take-all i s h) (take-all i t (omega arith))
+
+-- the same where the second list is two rows put together byte by byte
+module _ (f : ℕ → ℕ → ℕ) (s p q : List ℕ) (first : length s ≡ length p) (second : length s ≡ length q) where
+  pub paired-none : Compared s (bytewise f p q) 0 0
+  paired-none = compared-none s (bytewise f p q) (omega (arith, bytewise-length f p q (omega arith)))
+
+  pub paired-more : {acc i : ℕ} → Compared s (bytewise f p q) acc i → i < length s
+      → Compared s (bytewise f p q) (bitOr acc (bitXor (getD s i 0) (f (getD p i 0) (getD q i 0)))) (i + 1)
+  paired-more {acc} {i} c h =
+      compared-more c h (ap (bitXor (getD s i 0)) (bytewise-at f p q i (omega arith) (omega arith)))

@@ -2,7 +2,8 @@
 ghost use mathlib.Core.Path.{_≡_};
 ghost use Prim.Native.Nat.{_+_, _<_};
 ghost use lib.ListN.{length};
-ghost use Rattle.buffer.specs.Field.{wordAt, same};
+ghost use Rattle.buffer.specs.Field.{wordAt, same, allZero};
+ghost use Rattle.buffer.specs.Row.{union, intersection};
 
 // A byte as a number of the machine's width.
 fn wide(b: u8) -> usize
@@ -28,6 +29,47 @@ pub fn is_same(s: &[u8], t: &[u8]) -> bool
     let mut i = 0;
     while i < s.len() {
         acc = acc | (s[i] ^ t[i]);
+        i += 1;
+    }
+    acc == 0
+}
+
+// Whether every byte is 0.
+pub fn is_zero(s: &[u8]) -> bool
+    ensures { λ r. ⌜ r ≡ allZero (now (s .entry)) ⌝ }
+{
+    let mut acc = 0u8;
+    let mut i = 0;
+    while i < s.len() {
+        acc = acc | s[i];
+        i += 1;
+    }
+    acc == 0
+}
+
+// Whether s is the intersection of the rows p and q.
+pub fn is_intersection(s: &[u8], p: &[u8], q: &[u8]) -> bool
+    requires { ⌜ (length (now s) ≡ length (now p)) × (length (now s) ≡ length (now q)) ⌝ }
+    ensures { λ r. ⌜ r ≡ same (now (s .entry)) (intersection (now (p .entry)) (now (q .entry))) ⌝ }
+{
+    let mut acc = 0u8;
+    let mut i = 0;
+    while i < s.len() {
+        acc = acc | (s[i] ^ (p[i] & q[i]));
+        i += 1;
+    }
+    acc == 0
+}
+
+// Whether s is the union of the rows p and q.
+fn is_union(s: &[u8], p: &[u8], q: &[u8]) -> bool
+    requires { ⌜ (length (now s) ≡ length (now p)) × (length (now s) ≡ length (now q)) ⌝ }
+    ensures { λ r. ⌜ r ≡ same (now (s .entry)) (union (now (p .entry)) (now (q .entry))) ⌝ }
+{
+    let mut acc = 0u8;
+    let mut i = 0;
+    while i < s.len() {
+        acc = acc | (s[i] ^ (p[i] | q[i]));
         i += 1;
     }
     acc == 0
