@@ -1,9 +1,9 @@
 // Bytes of a lent buffer: 16-bit fields, bit rows and parts. Nothing here knows the room unit.
 ghost use mathlib.Core.Path.{_≡_};
-ghost use Prim.Native.Nat.{_+_, _<_};
+ghost use Prim.Native.Nat.{_+_, _/_, _%_, _^_, _<_};
 ghost use lib.ListN.{length};
 ghost use Rattle.buffer.specs.Field.{wordAt, same, allZero};
-ghost use Rattle.buffer.specs.Row.{union, intersection};
+ghost use Rattle.buffer.specs.Row.{union, intersection, withMember};
 
 // A byte as a number of the machine's width.
 fn wide(b: u8) -> usize
@@ -73,4 +73,21 @@ fn is_union(s: &[u8], p: &[u8], q: &[u8]) -> bool
         i += 1;
     }
     acc == 0
+}
+
+// The bit of a member within its byte.
+fn bit_of(v: usize) -> u8
+    ensures { λ r. ⌜ r ≡ 2 ^ (v % 8) ⌝ }
+{
+    1u8 << (v % 8)
+}
+
+// Whether the row s is p with v as a member besides.
+pub fn is_extended(s: &[u8], p: &[u8], v: usize) -> bool
+    requires { ⌜ (length (now s) ≡ length (now p)) × (v / 8 < length (now p)) ⌝ }
+    ensures { λ r. ⌜ r ≡ same (now (s .entry)) (withMember (now (p .entry)) v) ⌝ }
+{
+    let at = v / 8;
+    let next = at + 1;
+    is_same(&s[..at], &p[..at]) & (s[at] == (p[at] | bit_of(v))) & is_same(&s[next..], &p[next..])
 }
