@@ -3,13 +3,13 @@
 use mathlib.Core.Path.{_≡_, refl, sym, ap, ap₂, _∙_}
 use mathlib.Core.Bool.{Bool, _&&_, and-assoc, and-true}
 use mathlib.Core.List.{List, [], _∷_, _++_}
-use Prim.Native.Nat.{ℕ, suc, _+_, _-_, _<_}
+use Prim.Native.Nat.{ℕ, suc, _+_, _<_}
 use native.Mathlib.Nat.{suc-inj}
 use native.Mathlib.Numerals.{add-one}
 use native.Mathlib.Omega.{arith}
 use lib.Dec.{eqb}
-use lib.ListN.{length, getD, take, drop, set, length-set, length-drop}
-use lib.Seq.{split-at, take-all, take-suc, length-take-le, take-set-le, getD-set-same, drop-set-lt}
+use lib.ListN.{length, getD, take, drop, set, length-set}
+use lib.Seq.{split-at, take-suc, length-take-le, take-set-le, getD-set-same, drop-set-lt}
 use Rattle.buffer.specs.Field.{same, allZero, zeros}
 
 pub same-append : (a b : List ℕ) (x y : List ℕ) → length a ≡ length b → same (a ++ x) (b ++ y) ≡ same a b && same x y
@@ -54,7 +54,3 @@ pub zero-same : (s : List ℕ) → allZero s ≡ same s (zeros (length s))
 unfolding same allZero
 zero-same [] = refl
 zero-same (x ∷ s) = ap (λ (t : Bool). eqb x 0 && t) (zero-same s)
-
--- all from a place on, as a part that ends where the list ends
-pub rest : (n : ℕ) (s : List ℕ) → take (length s - n) (drop n s) ≡ drop n s
-rest n s = take-all (length s - n) (drop n s) (rw length-drop (omega arith))

@@ -5,3 +5,4 @@ pub mod Rows
 pub mod Compare
 pub mod Bytewise
 pub mod Accumulate
+pub mod Extended

@@ -49,7 +49,8 @@ pub fn is_zero(s: &[u8]) -> bool
 
 // Whether s is the intersection of the rows p and q.
 pub fn is_intersection(s: &[u8], p: &[u8], q: &[u8]) -> bool
-    requires { ⌜ (length (now s) ≡ length (now p)) × (length (now s) ≡ length (now q)) ⌝ }
+    requires { ⌜ length (now s) ≡ length (now p) ⌝ }
+    requires { ⌜ length (now s) ≡ length (now q) ⌝ }
     ensures { λ r. ⌜ r ≡ same (now (s .entry)) (intersection (now (p .entry)) (now (q .entry))) ⌝ }
 {
     let mut acc = 0u8;
@@ -63,7 +64,8 @@ pub fn is_intersection(s: &[u8], p: &[u8], q: &[u8]) -> bool
 
 // Whether s is the union of the rows p and q.
 fn is_union(s: &[u8], p: &[u8], q: &[u8]) -> bool
-    requires { ⌜ (length (now s) ≡ length (now p)) × (length (now s) ≡ length (now q)) ⌝ }
+    requires { ⌜ length (now s) ≡ length (now p) ⌝ }
+    requires { ⌜ length (now s) ≡ length (now q) ⌝ }
     ensures { λ r. ⌜ r ≡ same (now (s .entry)) (union (now (p .entry)) (now (q .entry))) ⌝ }
 {
     let mut acc = 0u8;
@@ -84,10 +86,25 @@ fn bit_of(v: usize) -> u8
 
 // Whether the row s is p with v as a member besides.
 pub fn is_extended(s: &[u8], p: &[u8], v: usize) -> bool
-    requires { ⌜ (length (now s) ≡ length (now p)) × (v / 8 < length (now p)) ⌝ }
+    requires { ⌜ length (now s) ≡ length (now p) ⌝ }
+    requires { ⌜ v / 8 < length (now p) ⌝ }
     ensures { λ r. ⌜ r ≡ same (now (s .entry)) (withMember (now (p .entry)) v) ⌝ }
 {
     let at = v / 8;
     let next = at + 1;
     is_same(&s[..at], &p[..at]) & (s[at] == (p[at] | bit_of(v))) & is_same(&s[next..], &p[next..])
+}
+
+// Whether the row s is the union of p and q with v as a member besides.
+pub fn is_extended_union(s: &[u8], p: &[u8], q: &[u8], v: usize) -> bool
+    requires { ⌜ length (now s) ≡ length (now p) ⌝ }
+    requires { ⌜ length (now s) ≡ length (now q) ⌝ }
+    requires { ⌜ v / 8 < length (now p) ⌝ }
+    ensures { λ r. ⌜ r ≡ same (now (s .entry)) (withMember (union (now (p .entry)) (now (q .entry))) v) ⌝ }
+{
+    let at = v / 8;
+    let next = at + 1;
+    is_union(&s[..at], &p[..at], &q[..at])
+        & (s[at] == (p[at] | q[at] | bit_of(v)))
+        & is_union(&s[next..], &p[next..], &q[next..])
 }
