@@ -5,7 +5,6 @@ use mathlib.Core.Path.{sym, _∙_}
 use native.Mathlib.Omega.{arith}
 use lib.Seq.{length-take-le}
 use Rattle.buffer.proofs.Extended.{extended}
-use borrow.Author.Needs.{needs}
 use Rattle.buffer.proofs.is_extended.Statement.{statement}
 use Rattle.buffer.proofs.is_extended.Tie as tie
 
@@ -55,8 +54,10 @@ is-same-requires-2 c κs = omega arith
 
 returns : tie.Need-returns
 returns c =
-    let a = c .before .before .before .before .before .before .before .before .before .before .before .args in
-    cc (extended (a .s .now) (a .p .now) (a .v) (omega arith) (omega arith))
+    let d = c .before .before .before in
+    let a = d .before .before .before .before .before .before .before .before .args in
+    rw (c .is-same2 .ensures, d .before .before .before .is-same .ensures, d .bit-of .ensures)
+    (extended (a .s .now) (a .p .now) (a .v) (omega arith) (omega arith))
 
 pub is-extended-spec : {M : Type 1} → statement M
 is-extended-spec =

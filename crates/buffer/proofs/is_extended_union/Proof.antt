@@ -5,7 +5,6 @@ use mathlib.Core.Path.{sym}
 use native.Mathlib.Omega.{arith}
 use lib.Seq.{length-take-le}
 use Rattle.buffer.proofs.Extended.{extended-union}
-use borrow.Author.Needs.{needs}
 use Rattle.buffer.proofs.is_extended_union.Statement.{statement}
 use Rattle.buffer.proofs.is_extended_union.Tie as tie
 
@@ -77,7 +76,8 @@ returns : tie.Need-returns
 returns c =
     let d = c .before .before .before .before .before in
     let a = d .before .before .before .before .before .before .before .before .before .before .args in
-    cc (extended-union (a .s .now) (a .p .now) (a .q .now) (a .v) (omega arith) (omega arith) (omega arith))
+    rw (c .is-union2 .ensures, d .before .before .before .is-union .ensures, c .before .before .before .before .bit-of .ensures)
+    (extended-union (a .s .now) (a .p .now) (a .q .now) (a .v) (omega arith) (omega arith) (omega arith))
 
 pub is-extended-union-spec : {M : Type 1} → statement M
 is-extended-union-spec =
