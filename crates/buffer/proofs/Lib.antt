@@ -6,3 +6,4 @@ pub mod Compare
 pub mod Bytewise
 pub mod Accumulate
 pub mod Extended
+pub mod Written

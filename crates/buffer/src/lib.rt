@@ -2,7 +2,7 @@
 ghost use mathlib.Core.Path.{_≡_};
 ghost use Prim.Native.Nat.{_+_, _/_, _%_, _^_, _<_};
 ghost use lib.ListN.{length};
-ghost use Rattle.buffer.specs.Field.{wordAt, same, allZero};
+ghost use Rattle.buffer.specs.Field.{wordAt, same, allZero, zeros};
 ghost use Rattle.buffer.specs.Row.{union, intersection, withMember};
 
 // A byte as a number of the machine's width.
@@ -107,4 +107,48 @@ pub fn is_extended_union(s: &[u8], p: &[u8], q: &[u8], v: usize) -> bool
     is_union(&s[..at], &p[..at], &q[..at])
         & (s[at] == (p[at] | q[at] | bit_of(v)))
         & is_union(&s[next..], &p[next..], &q[next..])
+}
+
+// Writes src over dst.
+pub fn copy(dst: &mut [u8], src: &[u8])
+    requires { ⌜ length (now dst) ≡ length (now src) ⌝ }
+    ensures { λ _. ⌜ now (dst .exit) ≡ now (src .entry) ⌝ }
+{
+    let mut i = 0;
+    while i < src.len() {
+        dst[i] = src[i];
+        i += 1;
+    }
+}
+
+// Writes zeros over dst.
+pub fn clear(dst: &mut [u8])
+    ensures { λ _. ⌜ now (dst .exit) ≡ zeros (length (now (dst .entry))) ⌝ }
+{
+    let mut i = 0;
+    while i < dst.len() {
+        dst[i] = 0;
+        i += 1;
+    }
+}
+
+// Puts the members of the row src into dst.
+pub fn add_union(dst: &mut [u8], src: &[u8])
+    requires { ⌜ length (now dst) ≡ length (now src) ⌝ }
+    ensures { λ _. ⌜ now (dst .exit) ≡ union (now (dst .entry)) (now (src .entry)) ⌝ }
+{
+    let mut i = 0;
+    while i < src.len() {
+        dst[i] = dst[i] | src[i];
+        i += 1;
+    }
+}
+
+// Puts v into the row dst.
+pub fn add_member(dst: &mut [u8], v: usize)
+    requires { ⌜ v / 8 < length (now dst) ⌝ }
+    ensures { λ _. ⌜ now (dst .exit) ≡ withMember (now (dst .entry)) v ⌝ }
+{
+    let at = v / 8;
+    dst[at] = dst[at] | bit_of(v);
 }
