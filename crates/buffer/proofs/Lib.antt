@@ -5,5 +5,5 @@ pub mod Rows
 pub mod Compare
 pub mod Bytewise
 pub mod Accumulate
-pub mod Extended
+pub mod Parts
 pub mod Written

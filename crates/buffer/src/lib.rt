@@ -2,8 +2,8 @@
 ghost use mathlib.Core.Path.{_≡_};
 ghost use Prim.Native.Nat.{_+_, _/_, _%_, _^_, _<_};
 ghost use lib.ListN.{length};
-ghost use Rattle.buffer.specs.Field.{wordAt, same, allZero, zeros};
-ghost use Rattle.buffer.specs.Row.{union, intersection, withMember};
+ghost use Rattle.buffer.specs.Field.{wordAt, putWord, same, allZero, zeros};
+ghost use Rattle.buffer.specs.Row.{member, union, intersection, withMember, noneFrom};
 
 // A byte as a number of the machine's width.
 fn wide(b: u8) -> usize
@@ -18,6 +18,15 @@ pub fn word_at(s: &[u8], at: usize) -> usize
     ensures { λ r. ⌜ (r ≡ wordAt (now (s .entry)) at) × (r < 65536) ⌝ }
 {
     wide(s[at]) * 256 + wide(s[at + 1])
+}
+
+// Writes a number's 16 bits at a place.
+pub fn put_word(s: &mut [u8], at: usize, x: usize)
+    requires { ⌜ at + 1 < length (now s) ⌝ }
+    ensures { λ _. ⌜ now (s .exit) ≡ putWord (now (s .entry)) at x ⌝ }
+{
+    s[at] = (x / 256 % 256) as u8;
+    s[at + 1] = (x % 256) as u8;
 }
 
 // Whether two slices of one length hold the same bytes. No early exit, so that it runs on many bytes at a time.
@@ -107,6 +116,26 @@ pub fn is_extended_union(s: &[u8], p: &[u8], q: &[u8], v: usize) -> bool
     is_union(&s[..at], &p[..at], &q[..at])
         & (s[at] == (p[at] | q[at] | bit_of(v)))
         & is_union(&s[next..], &p[next..], &q[next..])
+}
+
+// Whether v is a member of the row s.
+pub fn has_member(s: &[u8], v: usize) -> bool
+    requires { ⌜ v / 8 < length (now s) ⌝ }
+    ensures { λ r. ⌜ r ≡ member (now (s .entry)) v ⌝ }
+{
+    (s[v / 8] >> (v % 8)) % 2 == 1
+}
+
+// Whether the row s has no member from n on.
+pub fn none_from(s: &[u8], n: usize) -> bool
+    ensures { λ r. ⌜ r ≡ noneFrom (now (s .entry)) n ⌝ }
+{
+    let at = n / 8;
+    if s.len() <= at {
+        return true;
+    }
+    let next = at + 1;
+    (s[at] >> (n % 8) == 0) & is_zero(&s[next..])
 }
 
 // Writes src over dst.

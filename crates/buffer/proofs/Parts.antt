@@ -1,16 +1,17 @@
--- A row with one more member, compared by parts: the bytes before the member's, that byte, and the bytes after it.
+-- Tests of a row by parts: a row with one more member, compared before, at and after the member's byte; and no member from a number on.
 -- Assumes nothing.
 use mathlib.Core.Path.{_≡_}
-use mathlib.Core.Bool.{_&&_}
+use mathlib.Core.Bool.{true, _&&_}
 use mathlib.Core.List.{List}
-use Prim.Native.Nat.{ℕ, _+_, _-_, _/_, _%_, _^_, _<_}
+use Prim.Native.Nat.{ℕ, _+_, _-_, _/_, _%_, _^_, _≤_, _<_}
+use native.Mathlib.Nat.{zero-div}
 use native.Mathlib.Omega.{arith}
 use lib.Dec.{eqb}
 use lib.Bits.{bitOr}
-use lib.ListN.{length, getD, take, drop, length-drop}
+use lib.ListN.{length, getD, take, drop, length-drop, drop-of-length-le, List·getD-eq-default}
 use lib.Seq.{take-all}
-use Rattle.buffer.specs.Field.{same}
-use Rattle.buffer.specs.Row.{union, withMember}
+use Rattle.buffer.specs.Field.{same, allZero}
+use Rattle.buffer.specs.Row.{union, withMember, noneFrom}
 use Rattle.buffer.proofs.Bytewise.{bytewise-length, bytewise-at, bytewise-take, bytewise-drop}
 use Rattle.buffer.proofs.Compare.{same-set}
 
@@ -41,3 +42,12 @@ extended-union s p q v e f h =
     rw (rest-drop (union p q) (at + 1), rest-drop p (at + 1), rest-drop q (at + 1)) (bytewise-drop bitOr (at + 1) p q (omega arith)) in
     rw (← bytewise-take bitOr at p q, ← bytewise-at bitOr p q at (omega arith) (omega arith), ← back)
     (extended s (union p q) v (omega arith) (omega arith))
+
+-- no member from a number on: the byte that holds the number, and the bytes after it
+pub none-parts : (s : List ℕ) (n : ℕ) → eqb (getD s (n / 8) 0 / 2 ^ (n % 8)) 0 && allZero (rest s (n / 8 + 1)) ≡ noneFrom s n
+none-parts s n = rw (rest-drop s (n / 8 + 1))
+
+-- and none past the end
+pub none-past : (s : List ℕ) (n : ℕ) → length s ≤ n / 8 → noneFrom s n ≡ true
+unfolding allZero
+none-past s n h = rw (List·getD-eq-default s 0 h, zero-div, drop-of-length-le s {i = n / 8 + 1} (omega arith))
