@@ -1,0 +1,38 @@
+-- Two rows put together byte by byte: how long the result is, each of its bytes, and its parts.
+-- Assumes nothing.
+use mathlib.Core.Path.{_≡_, refl, ap, _∙_}
+use mathlib.Core.List.{List, [], _∷_}
+use Prim.Native.Nat.{ℕ, zero, suc, _<_}
+use native.Mathlib.Nat.{suc-inj, le-of-suc-le-suc, not-suc-le-zero}
+use native.Mathlib.Omega.{arith}
+use lib.ListN.{length, getD, take, drop}
+use Rattle.buffer.specs.Row.{bytewise}
+
+module _ (f : ℕ → ℕ → ℕ) where
+  pub bytewise-length : (s t : List ℕ) → length s ≡ length t → length (bytewise f s t) ≡ length s
+  unfolding bytewise
+  bytewise-length [] t e = refl
+  bytewise-length (x ∷ s) [] e = absurd (omega arith)
+  bytewise-length (x ∷ s) (y ∷ t) e = ap suc (bytewise-length s t (suc-inj e))
+
+  pub bytewise-at : (s t : List ℕ) (i : ℕ) → i < length s → i < length t
+      → getD (bytewise f s t) i 0 ≡ f (getD s i 0) (getD t i 0)
+  unfolding bytewise
+  bytewise-at [] t i h k = absurd (not-suc-le-zero h)
+  bytewise-at (x ∷ s) [] i h k = absurd (not-suc-le-zero k)
+  bytewise-at (x ∷ s) (y ∷ t) zero h k = refl
+  bytewise-at (x ∷ s) (y ∷ t) (suc i) h k = bytewise-at s t i (le-of-suc-le-suc h) (le-of-suc-le-suc k)
+
+  pub bytewise-take : (n : ℕ) (s t : List ℕ) → take n (bytewise f s t) ≡ bytewise f (take n s) (take n t)
+  unfolding bytewise
+  bytewise-take zero s t = refl
+  bytewise-take (suc n) [] t = refl
+  bytewise-take (suc n) (x ∷ s) [] = refl
+  bytewise-take (suc n) (x ∷ s) (y ∷ t) = ap (f x y ∷_) (bytewise-take n s t)
+
+  pub bytewise-drop : (n : ℕ) (s t : List ℕ) → length s ≡ length t → drop n (bytewise f s t) ≡ bytewise f (drop n s) (drop n t)
+  unfolding bytewise
+  bytewise-drop zero s t e = refl
+  bytewise-drop (suc n) [] t e = refl
+  bytewise-drop (suc n) (x ∷ s) [] e = absurd (omega arith)
+  bytewise-drop (suc n) (x ∷ s) (y ∷ t) e = bytewise-drop n s t (suc-inj e)
