@@ -7,8 +7,7 @@ run:
 
 # The verdict, from nothing. Its last line is 'N passed, 0 failed'.
 test:
-	rt fmt --check
-	rt ci
+	@scripts/test
 
 # Lay out every .rt and .antt file.
 fmt:
