@@ -1,6 +1,6 @@
 -- Two rows put together byte by byte: how long the result is, each of its bytes, and its parts.
 -- Assumes nothing.
-use mathlib.Core.Path.{_≡_, refl, ap, _∙_}
+use mathlib.Core.Path.{_≡_, refl, ap}
 use mathlib.Core.List.{List, [], _∷_}
 use Prim.Native.Nat.{ℕ, zero, suc, _<_}
 use native.Mathlib.Nat.{suc-inj, le-of-suc-le-suc, not-suc-le-zero}

@@ -12,7 +12,7 @@ use lib.ListN.{length, getD, take, drop, set, length-set}
 use lib.Seq.{split-at, take-suc, length-take-le, take-set-le, getD-set-same, drop-set-lt}
 use Rattle.buffer.specs.Field.{same, allZero, zeros}
 
-pub same-append : (a b : List ℕ) (x y : List ℕ) → length a ≡ length b → same (a ++ x) (b ++ y) ≡ same a b && same x y
+same-append : (a b : List ℕ) (x y : List ℕ) → length a ≡ length b → same (a ++ x) (b ++ y) ≡ same a b && same x y
 unfolding same
 same-append [] [] x y e = refl
 same-append [] (k ∷ b) x y e = absurd (omega arith)
@@ -25,7 +25,7 @@ module _ (s t : List ℕ) (i : ℕ) (left : i < length s) (right : i < length t)
   firsts = length-take-le i s (omega arith) ∙ sym (length-take-le i t (omega arith))
 
   -- the bytes before a place, the byte there, and those after it
-  pub same-split : same s t ≡ same (take i s) (take i t) && eqb (getD s i 0) (getD t i 0) && same (drop (i + 1) s) (drop (i + 1) t)
+  same-split : same s t ≡ same (take i s) (take i t) && eqb (getD s i 0) (getD t i 0) && same (drop (i + 1) s) (drop (i + 1) t)
   unfolding same
   same-split =
       rw add-one

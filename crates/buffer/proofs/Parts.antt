@@ -16,7 +16,7 @@ use Rattle.buffer.proofs.Bytewise.{bytewise-length, bytewise-at, bytewi
 use Rattle.buffer.proofs.Compare.{same-set}
 
 -- all from a place on, as a part that ends where the list ends
-abbrev pub rest : List ℕ → ℕ → List ℕ
+abbrev rest : List ℕ → ℕ → List ℕ
 rest s n = take (length s - n) (drop n s)
 
 rest-drop : (s : List ℕ) (n : ℕ) → rest s n ≡ drop n s
