@@ -1,2 +1,4 @@
 pub mod Length
 pub mod Cells
+mod Marks
+mod Strips
