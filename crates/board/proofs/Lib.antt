@@ -2,3 +2,4 @@ pub mod Length
 pub mod Cells
 mod Marks
 mod Strips
+mod Boards

@@ -1,11 +1,15 @@
 // A board: 32 strips of 12 bytes, and the rules that make the board of a new version.
 ghost use mathlib.Core.Path.{_≡_};
-ghost use Prim.Native.Nat.{_+_, _<_};
+ghost use Prim.Native.Nat.{_+_, _*_, _<_};
 ghost use lib.Dec.{eqb};
 ghost use lib.ListN.{length, set};
-ghost use Rattle.buffer.specs.Field.{wordAt, putWord};
+ghost use Rattle.buffer.specs.Field.{wordAt, putWord, part};
 ghost use Rattle.buffer.specs.Row.{bit};
-ghost use Rattle.board.specs.Board.{stripSize, flagAt, flagOn, alertsAt, mergeSetting, mergeMarks, mergeCount, mergeFlag, mergeStrip};
+ghost use Rattle.board.specs.Board.{stripSize, stripCount, boardSize, flagAt, flagOn, alertsAt, mergeSetting, mergeMarks, mergeCount, mergeFlag, mergeStrip, mergeBoard};
+
+const STRIP_SIZE: usize = 12;
+
+const STRIP_COUNT: usize = 32;
 
 // The cells of a strip, by their first bytes.
 const LEVEL: usize = 0;
@@ -162,4 +166,31 @@ fn merge_strip(s: &mut [u8], l: &[u8], a: &[u8], b: &[u8])
     merge_marks_at(s, l, a, b, MARKS);
     merge_count_at(s, l, a, b, CALLS);
     merge_alerts(s, l, a, b);
+}
+
+// A strip of a board.
+fn strip_of(board: &[u8], k: usize) -> &[u8]
+    requires { ⌜ (length (now board) ≡ boardSize) × (k < stripCount) ⌝ }
+    ensures { λ r. ⌜ (now r ≡ part (now (board .entry)) (stripSize * k) stripSize) × (length (now r) ≡ stripSize) ⌝ }
+{
+    let at = STRIP_SIZE * k;
+    let end = at + STRIP_SIZE;
+    &board[at..end]
+}
+
+// Writes the merge of three boards, strip by strip.
+pub fn merge_board(board: &mut [u8], l: &[u8], a: &[u8], b: &[u8])
+    requires { ⌜ (length (now board) ≡ boardSize) × (length (now l) ≡ boardSize) × (length (now a) ≡ boardSize) × (length (now b) ≡ boardSize) ⌝ }
+    ensures { λ _. ⌜ now (board .exit) ≡ mergeBoard (now (l .entry)) (now (a .entry)) (now (b .entry)) ⌝ }
+{
+    for k in 0..STRIP_COUNT {
+        let at = STRIP_SIZE * k;
+        let end = at + STRIP_SIZE;
+        merge_strip(
+            &mut board[at..end],
+            strip_of(l, k),
+            strip_of(a, k),
+            strip_of(b, k),
+        );
+    }
 }
