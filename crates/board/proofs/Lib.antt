@@ -3,3 +3,4 @@ pub mod Cells
 mod Marks
 mod Strips
 mod Boards
+mod Compare

@@ -3,7 +3,7 @@ ghost use mathlib.Core.Path.{_≡_};
 ghost use Prim.Native.Nat.{_+_, _*_, _<_};
 ghost use lib.Dec.{eqb};
 ghost use lib.ListN.{length, set};
-ghost use Rattle.buffer.specs.Field.{wordAt, putWord, part};
+ghost use Rattle.buffer.specs.Field.{wordAt, putWord, part, same};
 ghost use Rattle.buffer.specs.Row.{bit};
 ghost use Rattle.board.specs.Board.{stripSize, stripCount, boardSize, flagAt, flagOn, alertsAt, mergeSetting, mergeMarks, mergeCount, mergeFlag, mergeStrip, mergeBoard};
 
@@ -193,4 +193,44 @@ pub fn merge_board(board: &mut [u8], l: &[u8], a: &[u8], b: &[u8])
             strip_of(b, k),
         );
     }
+}
+
+// Two parts are the same to the byte. Every byte is looked at, so that the loop has one way only.
+fn is_same(s: &[u8], t: &[u8]) -> bool
+    requires { ⌜ length (now s) ≡ length (now t) ⌝ }
+    ensures { λ r. ⌜ r ≡ same (now (s .entry)) (now (t .entry)) ⌝ }
+{
+    let mut difference: u8 = 0;
+    for i in 0..s.len() {
+        difference = difference | (s[i] ^ t[i]);
+    }
+    difference == 0
+}
+
+// A strip is the merge of three strips.
+fn is_strip_merged(s: &[u8], l: &[u8], a: &[u8], b: &[u8]) -> bool
+    requires { ⌜ (length (now s) ≡ stripSize) × (length (now l) ≡ stripSize) × (length (now a) ≡ stripSize) × (length (now b) ≡ stripSize) ⌝ }
+    ensures { λ r. ⌜ r ≡ same (now (s .entry)) (mergeStrip (now (l .entry)) (now (a .entry)) (now (b .entry)) 0) ⌝ }
+{
+    let mut merged = [0u8; STRIP_SIZE];
+    merge_strip(&mut merged, l, a, b);
+    is_same(s, &merged)
+}
+
+// A board is the merge of three boards.
+pub fn is_merged(board: &[u8], l: &[u8], a: &[u8], b: &[u8]) -> bool
+    requires { ⌜ (length (now board) ≡ boardSize) × (length (now l) ≡ boardSize) × (length (now a) ≡ boardSize) × (length (now b) ≡ boardSize) ⌝ }
+    ensures { λ r. ⌜ r ≡ same (now (board .entry)) (mergeBoard (now (l .entry)) (now (a .entry)) (now (b .entry))) ⌝ }
+{
+    let mut merged = true;
+    for k in 0..STRIP_COUNT {
+        merged = merged
+            & is_strip_merged(
+                strip_of(board, k),
+                strip_of(l, k),
+                strip_of(a, k),
+                strip_of(b, k),
+            );
+    }
+    merged
 }
