@@ -4,3 +4,4 @@ mod Marks
 mod Strips
 mod Boards
 mod Compare
+mod Entries

@@ -1,11 +1,12 @@
 // A board: 32 strips of 12 bytes, and the rules that make the board of a new version.
 ghost use mathlib.Core.Path.{_≡_};
-ghost use Prim.Native.Nat.{_+_, _*_, _<_};
+ghost use Prim.Native.Nat.{_+_, _*_, _^_, _<_};
+ghost use lib.Bits.{bitOr};
 ghost use lib.Dec.{eqb};
 ghost use lib.ListN.{length, set};
 ghost use Rattle.buffer.specs.Field.{wordAt, putWord, part, same};
 ghost use Rattle.buffer.specs.Row.{bit};
-ghost use Rattle.board.specs.Board.{stripSize, stripCount, boardSize, flagAt, flagOn, alertsAt, mergeSetting, mergeMarks, mergeCount, mergeFlag, mergeStrip, mergeBoard};
+ghost use Rattle.board.specs.Board.{stripSize, stripCount, boardSize, marksAt, alertsAt, flagAt, flagOn, mergeSetting, mergeMarks, mergeCount, mergeFlag, mergeStrip, mergeBoard, without, enter};
 
 const STRIP_SIZE: usize = 12;
 
@@ -60,12 +61,27 @@ fn merge_setting(l: usize, a: usize, b: usize) -> usize
     if a == l { b } else { a }
 }
 
+// The number that has one mark alone.
+fn mark_bit(mark: usize) -> usize
+    requires { ⌜ mark < 16 ⌝ }
+    ensures { λ r. ⌜ r ≡ 2 ^ mark ⌝ }
+{
+    1usize << mark
+}
+
+// The marks of a that l does not have.
+fn marks_without(a: usize, l: usize) -> usize
+    ensures { λ r. ⌜ r ≡ without a l ⌝ }
+{
+    a - (a & l)
+}
+
 // The marks of a merge: those that both have, and those that either put.
 fn merge_marks(l: usize, a: usize, b: usize) -> usize
     requires { ⌜ (l < 65536) × (a < 65536) × (b < 65536) ⌝ }
     ensures { λ r. ⌜ (r ≡ mergeMarks l a b) × (r < 65536) ⌝ }
 {
-    (a & b) | (a - (a & l)) | (b - (b & l))
+    (a & b) | marks_without(a, l) | marks_without(b, l)
 }
 
 // A count of a merge: what both sides counted, the base once.
@@ -233,4 +249,51 @@ pub fn is_merged(board: &[u8], l: &[u8], a: &[u8], b: &[u8]) -> bool
             );
     }
     merged
+}
+
+// Adds 1 to a count of a strip.
+fn count_up(s: &mut [u8], at: usize)
+    requires { ⌜ at + 1 < length (now s) ⌝ }
+    ensures { λ _. ⌜ now (s .exit) ≡ putWord (now (s .entry)) at (wordAt (now (s .entry)) at + 1) ⌝ }
+{
+    let count = word_at(s, at);
+    put_word(s, at, count + 1);
+}
+
+// Puts a mark of a strip.
+fn put_mark(s: &mut [u8], mark: usize)
+    requires { ⌜ (length (now s) ≡ stripSize) × (mark < 16) ⌝ }
+    ensures { λ _. ⌜ now (s .exit) ≡ putWord (now (s .entry)) (marksAt 0) (bitOr (wordAt (now (s .entry)) (marksAt 0)) (2 ^ mark)) ⌝ }
+{
+    let marks = word_at(s, MARKS);
+    put_word(s, MARKS, marks | mark_bit(mark));
+}
+
+// Takes a mark of a strip.
+fn take_mark(s: &mut [u8], mark: usize)
+    requires { ⌜ (length (now s) ≡ stripSize) × (mark < 16) ⌝ }
+    ensures { λ _. ⌜ now (s .exit) ≡ putWord (now (s .entry)) (marksAt 0) (without (wordAt (now (s .entry)) (marksAt 0)) (2 ^ mark)) ⌝ }
+{
+    let marks = word_at(s, MARKS);
+    put_word(s, MARKS, marks_without(marks, mark_bit(mark)));
+}
+
+// Makes an entry on a strip.
+fn enter_strip(s: &mut [u8], code: usize, operand: usize)
+    requires { ⌜ (length (now s) ≡ stripSize) × (code ≡ 0x04 → operand < 16) × (code ≡ 0x05 → operand < 16) ⌝ }
+    ensures { λ _. ⌜ now (s .exit) ≡ enter code 0 operand (now (s .entry)) ⌝ }
+{
+    match code {
+        0x02 => put_word(s, LEVEL, operand),
+        0x03 => put_word(s, HEADING, operand),
+        0x04 => put_mark(s, operand),
+        0x05 => take_mark(s, operand),
+        0x06 => count_up(s, CALLS),
+        0x07 => {
+            count_up(s, ALERTS);
+            s[FLAG] = 1;
+        }
+        0x08 => s[FLAG] = 0,
+        _ => {}
+    }
 }
