@@ -1,2 +1,7 @@
 pub mod Length
 pub mod Cells
+mod Marks
+mod Strips
+mod Boards
+mod Compare
+mod Entries

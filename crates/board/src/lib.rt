@@ -1,4 +1,299 @@
 // A board: 32 strips of 12 bytes, and the rules that make the board of a new version.
+ghost use mathlib.Core.Path.{_≡_};
+ghost use Prim.Native.Nat.{_+_, _*_, _^_, _<_};
+ghost use lib.Bits.{bitOr};
+ghost use lib.Dec.{eqb};
+ghost use lib.ListN.{length, set};
+ghost use Rattle.buffer.specs.Field.{wordAt, putWord, part, same};
+ghost use Rattle.buffer.specs.Row.{bit};
+ghost use Rattle.board.specs.Board.{stripSize, stripCount, boardSize, marksAt, alertsAt, flagAt, flagOn, mergeSetting, mergeMarks, mergeCount, mergeFlag, mergeStrip, mergeBoard, without, enter};
+
+const STRIP_SIZE: usize = 12;
+
+const STRIP_COUNT: usize = 32;
+
+// The cells of a strip, by their first bytes.
+const LEVEL: usize = 0;
+
+const HEADING: usize = 2;
+
+const MARKS: usize = 4;
+
+const CALLS: usize = 6;
+
+const ALERTS: usize = 8;
+
+const FLAG: usize = 10;
+
+const REST: usize = 11;
 
 // The number of a strip of a board.
 pub struct Strip(pub usize);
+
+// A byte as a number.
+fn wide(x: u8) -> usize
+    ensures { λ r. ⌜ (r ≡ x) × (r < 256) ⌝ }
+{
+    x as usize
+}
+
+// The 16 bits that stand at a place.
+fn word_at(s: &[u8], at: usize) -> usize
+    requires { ⌜ at + 1 < length (now s) ⌝ }
+    ensures { λ r. ⌜ (r ≡ wordAt (now (s .entry)) at) × (r < 65536) ⌝ }
+{
+    wide(s[at]) * 256 + wide(s[at + 1])
+}
+
+// Writes a number's 16 bits at a place.
+fn put_word(s: &mut [u8], at: usize, x: usize)
+    requires { ⌜ at + 1 < length (now s) ⌝ }
+    ensures { λ _. ⌜ now (s .exit) ≡ putWord (now (s .entry)) at x ⌝ }
+{
+    s[at] = (x / 256 % 256) as u8;
+    s[at + 1] = (x % 256) as u8;
+}
+
+// A level or a heading of a merge: the giver's where the receiver kept the base's.
+fn merge_setting(l: usize, a: usize, b: usize) -> usize
+    ensures { λ r. ⌜ r ≡ mergeSetting l a b ⌝ }
+{
+    if a == l { b } else { a }
+}
+
+// The number that has one mark alone.
+fn mark_bit(mark: usize) -> usize
+    requires { ⌜ mark < 16 ⌝ }
+    ensures { λ r. ⌜ r ≡ 2 ^ mark ⌝ }
+{
+    1usize << mark
+}
+
+// The marks of a that l does not have.
+fn marks_without(a: usize, l: usize) -> usize
+    ensures { λ r. ⌜ r ≡ without a l ⌝ }
+{
+    a - (a & l)
+}
+
+// The marks of a merge: those that both have, and those that either put.
+fn merge_marks(l: usize, a: usize, b: usize) -> usize
+    requires { ⌜ (l < 65536) × (a < 65536) × (b < 65536) ⌝ }
+    ensures { λ r. ⌜ (r ≡ mergeMarks l a b) × (r < 65536) ⌝ }
+{
+    (a & b) | marks_without(a, l) | marks_without(b, l)
+}
+
+// A count of a merge: what both sides counted, the base once.
+fn merge_count(l: usize, a: usize, b: usize) -> usize
+    requires { ⌜ (a < 65536) × (b < 65536) ⌝ }
+    ensures { λ r. ⌜ r ≡ mergeCount l a b ⌝ }
+{
+    let sum = a + b;
+    if l <= sum { sum - l } else { 0 }
+}
+
+// The alert flag of a merge, of the flags of receiver and giver and of the three alert counts.
+fn merge_flag(a_on: bool, b_on: bool, l: usize, a: usize, b: usize) -> bool
+    ensures { λ r. ⌜ r ≡ mergeFlag «a_on» «b_on» l a b ⌝ }
+{
+    if a_on {
+        if b_on {
+            return true;
+        }
+        return l < a;
+    }
+    if b_on {
+        return l < b;
+    }
+    false
+}
+
+// A test as a byte.
+fn bit_of(on: bool) -> u8
+    ensures { λ r. ⌜ r ≡ bit on ⌝ }
+{
+    on as u8
+}
+
+// A flag's byte is 1.
+fn is_on(x: u8) -> bool
+    ensures { λ r. ⌜ r ≡ eqb x 1 ⌝ }
+{
+    x == 1
+}
+
+// Writes a merged level or heading into a strip.
+fn merge_setting_at(s: &mut [u8], l: &[u8], a: &[u8], b: &[u8], at: usize)
+    requires { ⌜ (at + 1 < length (now s)) × (at + 1 < length (now l)) × (at + 1 < length (now a)) × (at + 1 < length (now b)) ⌝ }
+    ensures { λ _. ⌜ now (s .exit) ≡ putWord (now (s .entry)) at (mergeSetting (wordAt (now (l .entry)) at) (wordAt (now (a .entry)) at) (wordAt (now (b .entry)) at)) ⌝ }
+{
+    put_word(
+        s,
+        at,
+        merge_setting(word_at(l, at), word_at(a, at), word_at(b, at)),
+    );
+}
+
+// Writes merged marks into a strip.
+fn merge_marks_at(s: &mut [u8], l: &[u8], a: &[u8], b: &[u8], at: usize)
+    requires { ⌜ (at + 1 < length (now s)) × (at + 1 < length (now l)) × (at + 1 < length (now a)) × (at + 1 < length (now b)) ⌝ }
+    ensures { λ _. ⌜ now (s .exit) ≡ putWord (now (s .entry)) at (mergeMarks (wordAt (now (l .entry)) at) (wordAt (now (a .entry)) at) (wordAt (now (b .entry)) at)) ⌝ }
+{
+    put_word(
+        s,
+        at,
+        merge_marks(word_at(l, at), word_at(a, at), word_at(b, at)),
+    );
+}
+
+// Writes a merged count into a strip.
+fn merge_count_at(s: &mut [u8], l: &[u8], a: &[u8], b: &[u8], at: usize)
+    requires { ⌜ (at + 1 < length (now s)) × (at + 1 < length (now l)) × (at + 1 < length (now a)) × (at + 1 < length (now b)) ⌝ }
+    ensures { λ _. ⌜ now (s .exit) ≡ putWord (now (s .entry)) at (mergeCount (wordAt (now (l .entry)) at) (wordAt (now (a .entry)) at) (wordAt (now (b .entry)) at)) ⌝ }
+{
+    put_word(
+        s,
+        at,
+        merge_count(word_at(l, at), word_at(a, at), word_at(b, at)),
+    );
+}
+
+// Writes the merged alert cells into a strip: the count, the flag and the zero behind it.
+fn merge_alerts(s: &mut [u8], l: &[u8], a: &[u8], b: &[u8])
+    requires { ⌜ (length (now s) ≡ stripSize) × (length (now l) ≡ stripSize) × (length (now a) ≡ stripSize) × (length (now b) ≡ stripSize) ⌝ }
+    ensures { λ _. ⌜ now (s .exit) ≡ set (set (putWord (now (s .entry)) (alertsAt 0) (mergeCount (wordAt (now (l .entry)) (alertsAt 0)) (wordAt (now (a .entry)) (alertsAt 0)) (wordAt (now (b .entry)) (alertsAt 0)))) (flagAt 0) (bit (mergeFlag (flagOn (now (a .entry)) 0) (flagOn (now (b .entry)) 0) (wordAt (now (l .entry)) (alertsAt 0)) (wordAt (now (a .entry)) (alertsAt 0)) (wordAt (now (b .entry)) (alertsAt 0))))) (flagAt 0 + 1) 0 ⌝ }
+{
+    let base = word_at(l, ALERTS);
+    let mine = word_at(a, ALERTS);
+    let given = word_at(b, ALERTS);
+    put_word(s, ALERTS, merge_count(base, mine, given));
+    s[FLAG] = bit_of(merge_flag(is_on(a[FLAG]), is_on(b[FLAG]), base, mine, given));
+    s[REST] = 0;
+}
+
+// Writes a merged strip from three strips.
+fn merge_strip(s: &mut [u8], l: &[u8], a: &[u8], b: &[u8])
+    requires { ⌜ (length (now s) ≡ stripSize) × (length (now l) ≡ stripSize) × (length (now a) ≡ stripSize) × (length (now b) ≡ stripSize) ⌝ }
+    ensures { λ _. ⌜ now (s .exit) ≡ mergeStrip (now (l .entry)) (now (a .entry)) (now (b .entry)) 0 ⌝ }
+{
+    merge_setting_at(s, l, a, b, LEVEL);
+    merge_setting_at(s, l, a, b, HEADING);
+    merge_marks_at(s, l, a, b, MARKS);
+    merge_count_at(s, l, a, b, CALLS);
+    merge_alerts(s, l, a, b);
+}
+
+// A strip of a board.
+fn strip_of(board: &[u8], k: usize) -> &[u8]
+    requires { ⌜ (length (now board) ≡ boardSize) × (k < stripCount) ⌝ }
+    ensures { λ r. ⌜ (now r ≡ part (now (board .entry)) (stripSize * k) stripSize) × (length (now r) ≡ stripSize) ⌝ }
+{
+    let at = STRIP_SIZE * k;
+    let end = at + STRIP_SIZE;
+    &board[at..end]
+}
+
+// Writes the merge of three boards, strip by strip.
+pub fn merge_board(board: &mut [u8], l: &[u8], a: &[u8], b: &[u8])
+    requires { ⌜ (length (now board) ≡ boardSize) × (length (now l) ≡ boardSize) × (length (now a) ≡ boardSize) × (length (now b) ≡ boardSize) ⌝ }
+    ensures { λ _. ⌜ now (board .exit) ≡ mergeBoard (now (l .entry)) (now (a .entry)) (now (b .entry)) ⌝ }
+{
+    for k in 0..STRIP_COUNT {
+        let at = STRIP_SIZE * k;
+        let end = at + STRIP_SIZE;
+        merge_strip(
+            &mut board[at..end],
+            strip_of(l, k),
+            strip_of(a, k),
+            strip_of(b, k),
+        );
+    }
+}
+
+// Two parts are the same to the byte. Every byte is looked at, so that the loop has one way only.
+fn is_same(s: &[u8], t: &[u8]) -> bool
+    requires { ⌜ length (now s) ≡ length (now t) ⌝ }
+    ensures { λ r. ⌜ r ≡ same (now (s .entry)) (now (t .entry)) ⌝ }
+{
+    let mut difference: u8 = 0;
+    for i in 0..s.len() {
+        difference = difference | (s[i] ^ t[i]);
+    }
+    difference == 0
+}
+
+// A strip is the merge of three strips.
+fn is_strip_merged(s: &[u8], l: &[u8], a: &[u8], b: &[u8]) -> bool
+    requires { ⌜ (length (now s) ≡ stripSize) × (length (now l) ≡ stripSize) × (length (now a) ≡ stripSize) × (length (now b) ≡ stripSize) ⌝ }
+    ensures { λ r. ⌜ r ≡ same (now (s .entry)) (mergeStrip (now (l .entry)) (now (a .entry)) (now (b .entry)) 0) ⌝ }
+{
+    let mut merged = [0u8; STRIP_SIZE];
+    merge_strip(&mut merged, l, a, b);
+    is_same(s, &merged)
+}
+
+// A board is the merge of three boards.
+pub fn is_merged(board: &[u8], l: &[u8], a: &[u8], b: &[u8]) -> bool
+    requires { ⌜ (length (now board) ≡ boardSize) × (length (now l) ≡ boardSize) × (length (now a) ≡ boardSize) × (length (now b) ≡ boardSize) ⌝ }
+    ensures { λ r. ⌜ r ≡ same (now (board .entry)) (mergeBoard (now (l .entry)) (now (a .entry)) (now (b .entry))) ⌝ }
+{
+    let mut merged = true;
+    for k in 0..STRIP_COUNT {
+        merged = merged
+            & is_strip_merged(
+                strip_of(board, k),
+                strip_of(l, k),
+                strip_of(a, k),
+                strip_of(b, k),
+            );
+    }
+    merged
+}
+
+// Adds 1 to a count of a strip.
+fn count_up(s: &mut [u8], at: usize)
+    requires { ⌜ at + 1 < length (now s) ⌝ }
+    ensures { λ _. ⌜ now (s .exit) ≡ putWord (now (s .entry)) at (wordAt (now (s .entry)) at + 1) ⌝ }
+{
+    let count = word_at(s, at);
+    put_word(s, at, count + 1);
+}
+
+// Puts a mark of a strip.
+fn put_mark(s: &mut [u8], mark: usize)
+    requires { ⌜ (length (now s) ≡ stripSize) × (mark < 16) ⌝ }
+    ensures { λ _. ⌜ now (s .exit) ≡ putWord (now (s .entry)) (marksAt 0) (bitOr (wordAt (now (s .entry)) (marksAt 0)) (2 ^ mark)) ⌝ }
+{
+    let marks = word_at(s, MARKS);
+    put_word(s, MARKS, marks | mark_bit(mark));
+}
+
+// Takes a mark of a strip.
+fn take_mark(s: &mut [u8], mark: usize)
+    requires { ⌜ (length (now s) ≡ stripSize) × (mark < 16) ⌝ }
+    ensures { λ _. ⌜ now (s .exit) ≡ putWord (now (s .entry)) (marksAt 0) (without (wordAt (now (s .entry)) (marksAt 0)) (2 ^ mark)) ⌝ }
+{
+    let marks = word_at(s, MARKS);
+    put_word(s, MARKS, marks_without(marks, mark_bit(mark)));
+}
+
+// Makes an entry on a strip.
+fn enter_strip(s: &mut [u8], code: usize, operand: usize)
+    requires { ⌜ (length (now s) ≡ stripSize) × (code ≡ 0x04 → operand < 16) × (code ≡ 0x05 → operand < 16) ⌝ }
+    ensures { λ _. ⌜ now (s .exit) ≡ enter code 0 operand (now (s .entry)) ⌝ }
+{
+    match code {
+        0x02 => put_word(s, LEVEL, operand),
+        0x03 => put_word(s, HEADING, operand),
+        0x04 => put_mark(s, operand),
+        0x05 => take_mark(s, operand),
+        0x06 => count_up(s, CALLS),
+        0x07 => {
+            count_up(s, ALERTS);
+            s[FLAG] = 1;
+        }
+        0x08 => s[FLAG] = 0,
+        _ => {}
+    }
+}

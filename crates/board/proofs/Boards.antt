@@ -1,0 +1,116 @@
+-- A board that is merged strip by strip: strip k of a merge is the merge of the three strips k, and a board whose first k strips are merged
+-- has one more after the next.
+-- Assumes nothing.
+use Prim.Native.Nat.{ℕ, _+_, _*_, _<_, _≤_}
+use mathlib.Core.Path.{_≡_, refl, sym, ap, ap₂, _∙_}
+use mathlib.Core.Bool.{Bool, true, _&&_}
+use mathlib.Core.List.{List, _++_}
+use native.Mathlib.Numerals.{add-one}
+use native.Mathlib.Omega.{arith}
+use lib.Dec.{eqb}
+use lib.ListN.{length, getD, take}
+use lib.Seq.{take-all, take-add, length-take-le}
+use Rattle.laws.proofs.Lists.{part-at, take-put}
+use Rattle.buffer.specs.Field.{wordAt, part, same}
+use Rattle.board.specs.Board.{stripSize, stripCount, boardSize, flagOn, mergeStrip, mergeStrips, mergeBoard}
+use Rattle.board.proofs.Length.{mergeStrip-length, mergeStrips-length}
+use Rattle.board.proofs.Compare.{same-append}
+
+-- strip k of a board
+abbrev pub strip : List ℕ → ℕ → List ℕ
+strip s k = part s (stripSize * k) stripSize
+
+-- a field of a strip is a field of the board
+strip-word : (s : List ℕ) (k o : ℕ) → o + 1 < stripSize → wordAt (strip s k) o ≡ wordAt s (stripSize * k + o)
+strip-word s k o h =
+    ap₂ (λ (x y : ℕ). x * 256 + y)
+    (part-at s (stripSize * k) stripSize o (omega arith))
+    (part-at s (stripSize * k) stripSize (o + 1) h ∙ ap (λ (n : ℕ). getD s n 0) (omega arith))
+
+strip-level : (s : List ℕ) (k : ℕ) → wordAt (strip s k) 0 ≡ wordAt s (stripSize * k)
+strip-level s k = strip-word s k 0 (omega arith) ∙ ap (wordAt s) (omega arith)
+
+strip-flag : (s : List ℕ) (k : ℕ) → flagOn (strip s k) 0 ≡ flagOn s k
+strip-flag s k = ap (λ (x : ℕ). eqb x 1) (part-at s (stripSize * k) stripSize 10 (omega arith))
+
+pub strip-merged : (l a b : List ℕ) (k : ℕ) → mergeStrip (strip l k) (strip a k) (strip b k) 0 ≡ mergeStrip l a b k
+unfolding mergeStrip
+strip-merged l a b k =
+    cc (
+      strip-level l k,
+      strip-level a k,
+      strip-level b k,
+      strip-word l k 2 (omega arith),
+      strip-word a k 2 (omega arith),
+      strip-word b k 2 (omega arith),
+      strip-word l k 4 (omega arith),
+      strip-word a k 4 (omega arith),
+      strip-word b k 4 (omega arith),
+      strip-word l k 6 (omega arith),
+      strip-word a k 6 (omega arith),
+      strip-word b k 6 (omega arith),
+      strip-word l k 8 (omega arith),
+      strip-word a k 8 (omega arith),
+      strip-word b k 8 (omega arith),
+      strip-flag a k,
+      strip-flag b k,
+    )
+
+-- the first k strips of a board are merged
+pub record Merging (l a b board : List ℕ) (k : ℕ) : Type 0 where
+  pub within : k ≤ stripCount
+  pub long : length board ≡ boardSize
+  pub done : take (stripSize * k) board ≡ mergeStrips l a b k
+
+pub merging-start : (l a b board : List ℕ) → length board ≡ boardSize → Merging l a b board 0
+unfolding mergeStrips
+merging-start l a b board h = record { within = omega arith; long = h; done = refl }
+
+-- strip k is written, and what lies behind it is whatever it is
+pub merging-step : {l a b board x y z new : List ℕ} {k : ℕ} (rest : List ℕ) → Merging l a b board k → k < stripCount
+    → x ≡ strip l k → y ≡ strip a k → z ≡ strip b k → new ≡ mergeStrip x y z 0
+    → length (take (stripSize * k) board ++ (new ++ rest)) ≡ boardSize → Merging l a b (take (stripSize * k) board ++ (new ++ rest)) (k + 1)
+unfolding mergeStrips
+merging-step {l} {a} {b} {board} {new = new} {k = k} rest m h ex ey ez e long =
+    let merged : new ≡ mergeStrip l a b k = cc (strip-merged l a b k) in
+    record {
+      within = omega arith;
+      long = long;
+      done =
+          take-put board new rest (stripSize * k) (stripSize * (k + 1)) (omega (arith, m .long)) (rw merged (omega (arith, mergeStrip-length l a b k)))
+          ∙ rw (merged, m .done, add-one);
+    }
+
+pub merging-finish : {l a b board : List ℕ} {k : ℕ} → Merging l a b board k → stripCount ≤ k → board ≡ mergeBoard l a b
+merging-finish {l} {a} {b} {board} {k} m h =
+    let e : k ≡ stripCount = omega (arith, m .within) in
+    rw (e, take-all boardSize board (omega (arith, m .long))) at (m .done)
+
+-- whether the first k strips of a board are those of the merge
+pub record Comparing (l a b board : List ℕ) (told : Bool) (k : ℕ) : Type 0 where
+  pub within : k ≤ stripCount
+  pub right : told ≡ same (take (stripSize * k) board) (mergeStrips l a b k)
+
+pub comparing-start : (l a b board : List ℕ) → Comparing l a b board true 0
+unfolding mergeStrips same
+comparing-start l a b board = record { within = omega arith; right = refl }
+
+pub comparing-step : {l a b board w x y z : List ℕ} {told next : Bool} {k : ℕ} → Comparing l a b board told k → k < stripCount → length board ≡ boardSize
+    → w ≡ strip board k → x ≡ strip l k → y ≡ strip a k → z ≡ strip b k → next ≡ same w (mergeStrip x y z 0) → Comparing l a b board (told && next) (k + 1)
+unfolding mergeStrips
+comparing-step {l} {a} {b} {board} {told = told} {next = next} {k = k} m h long ew ex ey ez e =
+    let at : stripSize * (k + 1) ≡ stripSize * k + stripSize = omega arith in
+    let here : next ≡ same (strip board k) (mergeStrip l a b k) = cc (strip-merged l a b k) in
+    let lengths = length-take-le (stripSize * k) board (omega arith) ∙ sym (mergeStrips-length l a b k) in
+    record {
+      within = omega arith;
+      right =
+          rw (at, take-add (stripSize * k) stripSize board, add-one, same-append (take (stripSize * k) board) (mergeStrips l a b k) (strip board k) (mergeStrip l a b k) lengths)
+          (ap₂ _&&_ (m .right) here);
+    }
+
+pub comparing-finish : {l a b board : List ℕ} {told : Bool} {k : ℕ} → Comparing l a b board told k → length board ≡ boardSize → stripCount ≤ k
+    → told ≡ same board (mergeBoard l a b)
+comparing-finish {l} {a} {b} {board} {told} {k} m long h =
+    let e : k ≡ stripCount = omega (arith, m .within) in
+    rw (e, take-all boardSize board (omega arith)) at (m .right)

@@ -1,0 +1,34 @@
+-- A strip that was written cell by cell is the merged strip.
+-- Assumes nothing.
+use Prim.Native.Nat.{ℕ, _+_}
+use mathlib.Core.Path.{_≡_, ap, _∙_}
+use mathlib.Core.List.{List, [], _∷_, _++_}
+use native.Mathlib.Omega.{arith}
+use lib.ListN.{length, set, drop-of-length-le}
+use lib.Seq.{sets-eq}
+use Rattle.buffer.specs.Field.{word, wordAt, putWord}
+use Rattle.buffer.specs.Row.{bit}
+use Rattle.board.specs.Board.{stripSize, levelAt, headingAt, marksAt, callsAt, alertsAt, flagAt, flagOn, mergeSetting, mergeMarks, mergeCount, mergeFlag, mergeStrip}
+
+-- the 12 bytes, whatever stood there before
+cells-written : (s : List ℕ) (u v w x y z : ℕ) → length s ≡ stripSize
+    → set (set (putWord (putWord (putWord (putWord (putWord s 0 u) 2 v) 4 w) 6 x) 8 y) 10 z) 11 0
+    ≡ word u ++ word v ++ word w ++ word x ++ word y ++ (z ∷ 0 ∷ [])
+cells-written s u v w x y z h =
+    let cells : List ℕ = word u ++ word v ++ word w ++ word x ++ word y ++ (z ∷ 0 ∷ []) in
+    sets-eq cells s 0 (omega arith) ∙ ap (λ (rest : List ℕ). cells ++ rest) (drop-of-length-le s {i = 12} (omega arith))
+
+module _ (l a b : List ℕ) where
+  -- a cell's rule, at the cell of the three strips
+  abbrev merged : (ℕ → ℕ → ℕ → ℕ) → ℕ → ℕ
+  merged rule at = rule (wordAt l at) (wordAt a at) (wordAt b at)
+
+  pub strip-built : (s : List ℕ) {s₁ s₂ s₃ s₄ s₅ : List ℕ} → length s ≡ stripSize
+      → s₁ ≡ putWord s (levelAt 0) (merged mergeSetting (levelAt 0))
+      → s₂ ≡ putWord s₁ (headingAt 0) (merged mergeSetting (headingAt 0))
+      → s₃ ≡ putWord s₂ (marksAt 0) (merged mergeMarks (marksAt 0))
+      → s₄ ≡ putWord s₃ (callsAt 0) (merged mergeCount (callsAt 0))
+      → s₅ ≡ set (set (putWord s₄ (alertsAt 0) (merged mergeCount (alertsAt 0))) (flagAt 0) (bit (mergeFlag (flagOn a 0) (flagOn b 0) (wordAt l (alertsAt 0)) (wordAt a (alertsAt 0)) (wordAt b (alertsAt 0))))) (flagAt 0 + 1) 0
+      → s₅ ≡ mergeStrip l a b 0
+  unfolding mergeStrip
+  strip-built s h e₁ e₂ e₃ e₄ e₅ = rw (e₅, e₄, e₃, e₂, e₁) (cells-written s _ _ _ _ _ _ h)

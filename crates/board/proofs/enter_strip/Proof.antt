@@ -1,0 +1,119 @@
+-- `board::enter_strip` meets its contract.
+-- Assumes nothing.
+use mathlib.Core.Path.{sym}
+use native.Mathlib.Omega.{arith}
+use borrow.Author.Needs.{needs}
+use Rattle.board.specs.Board.{enter}
+use Rattle.board.proofs.Entries.{enter-none}
+use Rattle.board.proofs.enter_strip.Statement.{statement}
+use Rattle.board.proofs.enter_strip.Tie as tie
+
+put-word-requires : tie.Need-put-word-requires
+put-word-requires c κs = search needs
+
+put-word-requires-2 : tie.Need-put-word-requires-2
+put-word-requires-2 c κs = search needs
+
+put-mark-requires : tie.Need-put-mark-requires
+put-mark-requires c κs =
+    let small = c .before .before .before .pre .1 (c .before .match .keys3) in
+    omega arith
+
+take-mark-requires : tie.Need-take-mark-requires
+take-mark-requires c κs =
+    let small = c .before .before .before .pre .2 (c .before .match .keys4) in
+    omega arith
+
+count-up-requires : tie.Need-count-up-requires
+count-up-requires c κs = search needs
+
+count-up-requires-2 : tie.Need-count-up-requires-2
+count-up-requires-2 c κs = search needs
+
+slice-write-s : tie.Need-slice-write-s
+slice-write-s c = search needs
+
+slice-write-s-2 : tie.Need-slice-write-s-2
+slice-write-s-2 c = search needs
+
+same-length : tie.Need-same-length
+same-length c = search needs
+
+returns : tie.Need-returns
+unfolding enter
+returns c = rw (c .before .before .before .before .match .keys1) (c .before .before .put-word .ensures)
+
+same-length-2 : tie.Need-same-length-2
+same-length-2 c = search needs
+
+returns-2 : tie.Need-returns-2
+unfolding enter
+returns-2 c = rw (c .before .before .before .before .match .keys2) (c .before .before .put-word2 .ensures)
+
+same-length-3 : tie.Need-same-length-3
+same-length-3 c = search needs
+
+returns-3 : tie.Need-returns-3
+unfolding enter
+returns-3 c = rw (c .before .before .before .before .match .keys3) (c .before .before .put-mark .ensures)
+
+same-length-4 : tie.Need-same-length-4
+same-length-4 c = search needs
+
+returns-4 : tie.Need-returns-4
+unfolding enter
+returns-4 c = rw (c .before .before .before .before .match .keys4) (c .before .before .take-mark .ensures)
+
+same-length-5 : tie.Need-same-length-5
+same-length-5 c = search needs
+
+returns-5 : tie.Need-returns-5
+unfolding enter
+returns-5 c = rw (c .before .before .before .before .match .keys5) (c .before .before .count-up .ensures)
+
+same-length-6 : tie.Need-same-length-6
+same-length-6 c = search needs
+
+returns-6 : tie.Need-returns-6
+unfolding enter
+returns-6 c = rw (c .before .before .before .before .match .keys6, c .before .before .count-up2 .ensures)
+
+same-length-7 : tie.Need-same-length-7
+same-length-7 c = search needs
+
+returns-7 : tie.Need-returns-7
+unfolding enter
+returns-7 c = rw (c .match .keys7)
+
+returns-8 : tie.Need-returns-8
+returns-8 c =
+    let rest = c .match .rest in
+    sym (enter-none _ _ _ _ (rest .0 .0 .0 .0 .0 .0 .1) (rest .0 .0 .0 .0 .0 .1) (rest .0 .0 .0 .0 .1) (rest .0 .0 .0 .1) (rest .0 .0 .1) (rest .0 .1) (rest .1))
+
+pub enter-strip-spec : {M : Type 1} → statement M
+enter-strip-spec =
+    tie.close
+    (tie.spec
+    put-word-requires
+    put-word-requires-2
+    put-mark-requires
+    take-mark-requires
+    count-up-requires
+    count-up-requires-2
+    slice-write-s
+    slice-write-s-2
+    same-length
+    returns
+    same-length-2
+    returns-2
+    same-length-3
+    returns-3
+    same-length-4
+    returns-4
+    same-length-5
+    returns-5
+    same-length-6
+    returns-6
+    same-length-7
+    returns-7
+    returns-8)

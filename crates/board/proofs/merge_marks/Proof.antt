@@ -1,0 +1,24 @@
+-- `board::merge_marks` meets its contract: marks of 16 bits stay within 16 bits.
+-- Assumes nothing.
+use native.Mathlib.Omega.{arith}
+use borrow.Author.Needs.{needs}
+use Rattle.board.proofs.Marks.{marks-small}
+use Rattle.board.proofs.merge_marks.Statement.{statement}
+use Rattle.board.proofs.merge_marks.Tie as tie
+
+marks-without-requires : tie.Need-marks-without-requires
+marks-without-requires c κs = search needs
+
+marks-without-requires-2 : tie.Need-marks-without-requires-2
+marks-without-requires-2 c κs = search needs
+
+returns : tie.Need-returns
+returns c =
+    let args = c .before .before .args in
+    let small = marks-small (args .l) (args .a) (args .b) (omega arith) (omega arith) in (
+      cc,
+      rw (c .marks-without2 .ensures, c .before .marks-without .ensures) small,
+    )
+
+pub merge-marks-spec : {M : Type 1} → statement M
+merge-marks-spec = tie.close (tie.spec marks-without-requires marks-without-requires-2 returns)

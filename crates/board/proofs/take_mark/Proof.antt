@@ -1,0 +1,34 @@
+-- `board::take_mark` meets its contract.
+-- Assumes nothing.
+use borrow.Author.Needs.{needs}
+use Rattle.board.proofs.take_mark.Statement.{statement}
+use Rattle.board.proofs.take_mark.Tie as tie
+
+word-at-requires : tie.Need-word-at-requires
+word-at-requires c κs = search needs
+
+mark-bit-requires : tie.Need-mark-bit-requires
+mark-bit-requires c κs = search needs
+
+marks-without-requires : tie.Need-marks-without-requires
+marks-without-requires c κs = search needs
+
+put-word-requires : tie.Need-put-word-requires
+put-word-requires c κs = search needs
+
+same-length : tie.Need-same-length
+same-length c = search needs
+
+returns : tie.Need-returns
+returns c = cc
+
+pub take-mark-spec : {M : Type 1} → statement M
+take-mark-spec =
+    tie.close
+    (tie.spec
+    word-at-requires
+    mark-bit-requires
+    marks-without-requires
+    put-word-requires
+    same-length
+    returns)

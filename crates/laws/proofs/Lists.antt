@@ -1,0 +1,17 @@
+-- Parts of a list: what stands in one, and what a list that grows by parts begins with.
+-- Assumes nothing.
+use Prim.Native.Nat.{ℕ, _+_, _<_, _≤_}
+use mathlib.Core.Path.{_≡_, _∙_}
+use mathlib.Core.List.{List, _++_, append-assoc}
+use native.Mathlib.Omega.{arith}
+use lib.ListN.{length, getD, take, drop, length-append}
+use lib.Seq.{getD-take, getD-drop, length-take-le, take-at}
+
+-- an element of the n elements from a place on
+pub part-at : (s : List ℕ) (at n i : ℕ) → i < n → getD (take n (drop at s)) i 0 ≡ getD s (at + i) 0
+part-at s at n i h = getD-take n (drop at s) i 0 h ∙ getD-drop at s i 0
+
+-- a list begins with its first elements and the part that was put behind them
+pub take-put : (s ys rest : List ℕ) (at n : ℕ) → at ≤ length s → at + length ys ≡ n → take n (take at s ++ (ys ++ rest)) ≡ take at s ++ ys
+take-put s ys rest at n h e =
+    rw (← append-assoc (take at s) ys rest) (take-at (take at s ++ ys) rest n (rw (length-append, length-take-le at s) e))
