@@ -2,3 +2,5 @@ pub mod Fields
 pub mod Writes
 pub mod Stands
 pub mod Rows
+pub mod Parts
+pub mod Sets
