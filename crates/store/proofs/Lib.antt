@@ -3,3 +3,7 @@ pub mod Blocks
 pub mod Ranges
 pub mod Reading
 pub mod RoundTrip
+pub mod Lineage
+pub mod Shown
+pub mod Notes
+pub mod Versions
