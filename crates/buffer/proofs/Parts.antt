@@ -90,5 +90,12 @@ stands-zero {s} at n h =
     let m : k < n = omega (arith, length-take n (drop at s)) in
     part-at s at n k m ∙ h .read k (rw zeros-length m) ∙ getD-replicate n k 0 0 m)
 
+-- zeros as the part itself
+pub zero-part : (s : List ℕ) (at n : ℕ) → at + n ≤ length s → allZero (part s at n) ≡ true → part s at n ≡ zeros n
+zero-part s at n l h = stands-part n (zero-stands at n h) (zeros-length n) l
+
+pub part-zero : (s : List ℕ) (at n : ℕ) → part s at n ≡ zeros n → allZero (part s at n) ≡ true
+part-zero s at n e = stands-zero at n (part-stands n e (zeros-length n))
+
 pub same-of : (xs ys : List ℕ) → xs ≡ ys → same xs ys ≡ true
 same-of xs ys e = rw e (same-refl ys)

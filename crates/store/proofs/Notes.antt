@@ -1,13 +1,13 @@
 -- The bytes of a node that is read off a store: they are the node's own exactly when those that it does not use are zero and, of a merge,
 -- the base that stands there is its base.
 -- Assumes nothing.
-use mathlib.Core.Path.{_≡_, refl, sym, _∙_, ap}
+use mathlib.Core.Path.{_≡_, refl}
 use mathlib.Core.Bool.{true}
 use mathlib.Core.List.{List, [], _∷_, _++_}
 use mathlib.Core.Option.{some}
-use Prim.Native.Nat.{ℕ, _+_, _-_, _≤_, _<_}
+use Prim.Native.Nat.{ℕ, _+_, _-_, _≤_}
 use native.Mathlib.Omega.{arith}
-use lib.ListN.{length, getD}
+use lib.ListN.{getD}
 use Rattle.buffer.specs.Field.{byte, word, wordAt, zeros, part, allZero}
 use Rattle.buffer.proofs.Stands.{Stands, stands-left, stands-right, stands-field}
 use Rattle.buffer.proofs.Parts.{Bytes, stands-one, stands-join, word-stands, zero-stands, stands-zero}

@@ -4,29 +4,27 @@
 use mathlib.Core.Path.{_≡_, refl, sym, _∙_, ap, ap₂, subst}
 use mathlib.Core.Bool.{Bool, true, false, cond, not, _&&_}
 use mathlib.Core.List.{List, [], _∷_}
-use mathlib.Core.Option.{Option, some, Option·getD}
-use Prim.Native.Nat.{ℕ, zero, suc, _+_, _-_, _≤_, _<_}
+use mathlib.Core.Option.{Option, Option·getD}
+use Prim.Native.Nat.{ℕ, zero, suc, _≤_, _<_}
 use native.Mathlib.Decide.{ℕ-discrete}
 use native.Mathlib.Omega.{arith}
 use lib.Dec.{eqb, ltb}
 use lib.ListN.{length, getD}
-use borrow.Author.Tests.{eqb-true, eqb-false, eq-eqb, ne-eqb, ltb-true, lt-ltb}
+use borrow.Author.Tests.{eqb-true, ne-eqb, ltb-true, lt-ltb}
 use Rattle.laws.proofs.Logic.{and-l, and-r, and-i, not-e, not-i}
 use Rattle.buffer.specs.Field.{wordAt, zeros, part, same, allZero}
-use Rattle.buffer.specs.Row.{row, member, withMember, union, intersection}
+use Rattle.buffer.specs.Row.{rowFrom, member, withMember, union, intersection}
 use Rattle.buffer.proofs.Fields.{same-true}
 use Rattle.buffer.proofs.Stands.{Stands}
-use Rattle.buffer.proofs.Parts.{Bytes, same-of, zero-stands, stands-zero}
+use Rattle.buffer.proofs.Parts.{Bytes, same-of, zero-stands, stands-zero, zero-part, part-zero}
 use Rattle.board.specs.Board.{boardSize, enter, mergeBoard}
-use Rattle.graph.specs.Graph.{Graph, Node, entry, merge, versionCount, ancestor, nodeOf, baseOf, meet, everyVersion, parentsLower, servesAsBase, mergeHasBase}
+use Rattle.graph.specs.Graph.{Graph, Node, entry, merge, versionCount, ancestor, nodeOf, baseOf, everyVersion, parentsLower, mergeHasBase}
 use Rattle.graph.proofs.Ancestor.{every-new, every-old, ancestor-below}
-use Rattle.graph.proofs.Parent.{parent-lower, sole, receiver, giver}
-use Rattle.graph.proofs.Meet.{Meet, meet-is, meet-found}
+use Rattle.graph.proofs.Meet.{Meet, meet-found}
 use Rattle.graph.proofs.Growth.{merge-base}
-use Rattle.command.specs.Code.{isEntryCode, isStrip, isOperand}
 use Rattle.room.specs.Sound.{maxCapacity, entryInRange}
 use Rattle.room.specs.Boards.{boardMade, boardOf}
-use Rattle.store.specs.Layout.{nodeSize, rowSize, blockAt, nodeCodeAt, nodeStripAt, nodeOperandAt, nodeParentAt, nodeGiverAt, nodeBaseAt, nodeBytes, nodeIn, versionsIn}
+use Rattle.store.specs.Layout.{nodeSize, rowSize, blockAt, boardAt, nodeCodeAt, nodeStripAt, nodeOperandAt, nodeParentAt, nodeGiverAt, nodeBaseAt, nodeBytes, nodeIn, versionsIn}
 use Rattle.store.specs.Check.{rowPart, boardPart, entriesPart, rootRight, entryRight, mergeRight, versionRight, versionsRight}
 use Rattle.store.proofs.Lineage.{entry-lineage, merge-lineage, meet-lineage, lineage-meet}
 use Rattle.store.proofs.Shown.{Shown, shown, made, shown-old, shown-new}
@@ -210,3 +208,82 @@ module _ (s : List ℕ) (g : Graph) (small : versionCount g < maxCapacity) (h : 
       (same-of _ _ (k .told .line ∙ sym (merge-line first second))))
       (same-of _ _ (k .told .board ∙ sym (merge-board first second m))))
       (not-i _ (k .told .listed))
+
+  version-next : Bytes s → versionRight s v ≡ true → Next s g (nodeIn s v)
+  unfolding versionRight nodeIn
+  version-next b t = go (eqb code 9) refl t
+    where
+      go : (n : Bool) → eqb code 9 ≡ n → cond n (mergeRight s v p q l) (entryRight s v p code strip operand) ≡ true
+          → Next s g (cond n (merge p q) (entry p code strip operand))
+      go true e k = merge-next b (eqb-true code 9 e) k
+      go false e k = entry-next b k
+
+  next-version : Next s g (nodeIn s v) → versionRight s v ≡ true
+  unfolding versionRight nodeIn
+  next-version = go (eqb code 9)
+    where
+      go : (n : Bool) → Next s g (cond n (merge p q) (entry p code strip operand))
+          → cond n (mergeRight s v p q l) (entryRight s v p code strip operand) ≡ true
+      go true k = next-merge k
+      go false k = next-entry k
+
+-- version 0 alone
+root-line : withMember (zeros rowSize) 0 ≡ shown [] 0 .line
+unfolding ancestor rowFrom
+root-line = refl
+
+module _ (s : List ℕ) where
+  root-held : blockAt 1 ≤ length s → rootRight s ≡ true → Held s []
+  unfolding rootRight everyVersion nodeBytes nodeOf boardOf
+  root-held long t =
+      let note = allZero (part s (blockAt 0) nodeSize) in
+      let line = same (rowPart s 0) (withMember (zeros rowSize) 0) in
+      let board = allZero (boardPart s 0) in
+      let three = and-l (note && line && board) _ t in
+      let two = and-l (note && line) board three in
+      record {
+        lower = refl;
+        based = refl;
+        ranged = refl;
+        told = λ v l.
+            let first : 0 ≡ v = omega arith in
+            subst (λ (k : ℕ). Told s k (shown [] k)) first
+            (record {
+              note = zero-stands (blockAt 0) nodeSize (and-l note line two);
+              line = same-true (rowPart s 0) (withMember (zeros rowSize) 0) (and-r note line two) ∙ root-line;
+              board = zero-part s (boardAt 0) boardSize long (and-r (note && line) board three);
+              listed = not-e (member (entriesPart s) 0) (and-r (note && line && board) _ t);
+            });
+      }
+
+  held-root : Held s [] → rootRight s ≡ true
+  unfolding rootRight nodeBytes nodeOf boardOf
+  held-root h =
+      let k = h .told 0 (omega arith) in
+      and-i _ _ (and-i _ _ (and-i _ _
+      (stands-zero (blockAt 0) nodeSize (k .note))
+      (same-of _ _ (k .line ∙ sym root-line)))
+      (part-zero s (boardAt 0) boardSize (k .board)))
+      (not-i _ (k .listed))
+
+pub versions-length : (s : List ℕ) (n : ℕ) → length (versionsIn s n) ≡ n
+unfolding versionsIn
+versions-length s zero = refl
+versions-length s (suc n) = ap suc (versions-length s n)
+
+pub versions-held : (s : List ℕ) (n : ℕ) → Bytes s → blockAt 1 ≤ length s → n < maxCapacity → versionsRight s n ≡ true → Held s (versionsIn s n)
+unfolding versionsRight versionsIn
+versions-held s zero b long l t = root-held s long t
+versions-held s (suc n) b long l t =
+    let h = versions-held s n b long (omega arith) (and-l (versionsRight s n) (versionRight s (suc n)) t) in
+    let e = versions-length s n in
+    let k = version-next s (versionsIn s n) (omega arith) h b (rw e (and-r (versionsRight s n) (versionRight s (suc n)) t)) in
+    held-next h (rw e at k)
+
+pub held-versions : (s : List ℕ) (n : ℕ) → n < maxCapacity → Held s (versionsIn s n) → versionsRight s n ≡ true
+unfolding versionsRight versionsIn
+held-versions s zero l h = held-root s h
+held-versions s (suc n) l h =
+    let e = versions-length s n in
+    let k = next-version s (versionsIn s n) (omega arith) (held-before h) (rw e (held-newest h)) in
+    and-i (versionsRight s n) (versionRight s (suc n)) (held-versions s n (omega arith) (held-before h)) (rw e at k)
