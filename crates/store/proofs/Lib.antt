@@ -7,3 +7,4 @@ pub mod Lineage
 pub mod Shown
 pub mod Notes
 pub mod Versions
+pub mod Commons
