@@ -8,3 +8,4 @@ pub mod Shown
 pub mod Notes
 pub mod Versions
 pub mod Commons
+pub mod Behind
