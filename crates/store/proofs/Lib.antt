@@ -9,3 +9,4 @@ pub mod Notes
 pub mod Versions
 pub mod Commons
 pub mod Behind
+pub mod Joined
