@@ -161,7 +161,7 @@ module _ (s : List ℕ) (r : Room) (heads : (c : ℕ) → c < consoleCount → h
         ]
 
     -- a head is a version
-    field-named : (c : ℕ) → c < consoleCount → Field r c c (commonIn s c c) → commonIn s c c ≤ n
+    pub field-named : (c : ℕ) → c < consoleCount → Field r c c (commonIn s c c) → commonIn s c c ≤ n
     field-named c cl f =
         elim (decide (eqb (commonIn s c c) 0)) [
           | inl a ↦ omega (arith, eqb-true (commonIn s c c) 0 a)

@@ -10,3 +10,7 @@ pub mod Versions
 pub mod Commons
 pub mod Behind
 pub mod Joined
+pub mod Checks
+pub mod Passes
+pub mod Holds
+pub mod Checked
