@@ -22,7 +22,7 @@ use Rattle.room.specs.Room.{Room, headOf, present, head}
 use Rattle.room.specs.Sound.{maxCapacity, behindHead}
 use Rattle.store.specs.Layout.{rowSize, headFrom}
 use Rattle.store.specs.Check.{commonIn, behindHeads}
-use Rattle.store.proofs.Versions.{Held}
+use Rattle.store.proofs.Told.{Held}
 use Rattle.store.proofs.Commons.{head-is, there, not-zero}
 
 or-false : (a b : Bool) → b ≡ false → a || b ≡ a

@@ -27,7 +27,7 @@ use Rattle.room.specs.Sound.{maxCapacity}
 use Rattle.room.proofs.Steps.{common-meet}
 use Rattle.store.specs.Layout.{fieldWhere, commonField, headFrom}
 use Rattle.store.specs.Check.{rowPart, commonIn, pairRight, consoleRight}
-use Rattle.store.proofs.Versions.{Held, meet-rows, rows-meet}
+use Rattle.store.proofs.Told.{Held, meet-rows, rows-meet}
 
 -- z is the field of consoles c and d: 0 where one is absent, else 1 more than their meet
 pub record Field (r : Room) (c d z : ℕ) : Type 0 where

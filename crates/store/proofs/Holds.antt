@@ -7,7 +7,7 @@ use Prim.Native.Nat.{ℕ, _+_, _-_, _*_, _≤_, _<_}
 use native.Mathlib.Omega.{arith}
 use lib.ListN.{length}
 use borrow.Author.Tests.{eqb-false, leb-true, lt-ltb}
-use Rattle.laws.proofs.Logic.{and-l, and-r, and-i, refuted}
+use Rattle.laws.proofs.Logic.{and-l, and-r, and-i}
 use Rattle.buffer.specs.Row.{row, member}
 use Rattle.buffer.proofs.Rows.{rowFrom-length, member-row}
 use Rattle.buffer.proofs.Sets.{none-row}
@@ -16,7 +16,6 @@ use Rattle.buffer.proofs.Parts.{stands-part, stands-zero}
 use Rattle.board.specs.Board.{boardSize}
 use Rattle.graph.specs.Graph.{Graph, versionCount, isEntry, ancestor}
 use Rattle.graph.proofs.Below.{some-of}
-use Rattle.graph.proofs.Ancestor.{isEntry-named}
 use Rattle.command.specs.Code.{consoleCount}
 use Rattle.room.specs.Room.{Room}
 use Rattle.room.specs.Sound.{maxCapacity, behindHead}
@@ -28,7 +27,9 @@ use Rattle.store.proofs.Ranges.{Ranges, ranges}
 use Rattle.store.proofs.Blocks.{stands-entries, stands-record, stands-row, stands-board}
 use Rattle.store.proofs.Reading.{count-read, common-read}
 use Rattle.store.proofs.RoundTrip.{holds-sound, holds-front}
-use Rattle.store.proofs.Versions.{Held, held-versions}
+use Rattle.store.proofs.Shown.{no-entry}
+use Rattle.store.proofs.Told.{Held}
+use Rattle.store.proofs.Versions.{held-versions}
 use Rattle.store.proofs.Commons.{Field, field-of, not-zero, field-named, fields-consoles}
 use Rattle.store.proofs.Behind.{behind-row, behind-all}
 use Rattle.store.proofs.Joined.{stands-gap, stands-rest, stands-free}
@@ -99,7 +100,7 @@ module _ (s : List ℕ) (t : holdsStore s ≡ true) where
         gap = stands-zero (countAt + 2) (entriesAt - (countAt + 2)) (stands-gap r front);
         rest = stands-zero commonsEnd (headerSize - commonsEnd) (stands-rest r front);
         versions = held-versions s (length g) small (rw own-versions held);
-        none = rw entries (none-row (isEntry g) rowSize (versionCount g) (λ v l. refuted (isEntry g v) (λ e. omega (arith, isEntry-named g v e))));
+        none = rw entries (none-row (isEntry g) rowSize (versionCount g) (no-entry g));
         free = stands-zero (blockAt (versionCount g)) (blockSize * (r .capacity - versionCount g)) (stands-free r front);
         consoles = fields-consoles s r (own-heads s) small held fields;
         first = lt-ltb 0 (commonIn s 0 0) (let x = eqb-false (commonIn s 0 0) 0 (not-zero s r (own-heads s) 0 (omega arith) (sound .first)) in omega arith);

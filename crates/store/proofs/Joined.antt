@@ -61,7 +61,7 @@ join-block g v a b c =
     (simp (length-append, nodeBytes-length, rowFrom-length) (omega arith))
 
 -- the parts of an encoding, each in its place
-pub record Parts (s : List ℕ) (r : Room) : Type 0 where
+pub record Placed (s : List ℕ) (r : Room) : Type 0 where
   pub capacity : Stands s capacityAt (word (r .capacity))
   pub count : Stands s countAt (word (versionCount (r .versions)))
   pub gap : Stands s (countAt + 2) (zeros (entriesAt - (countAt + 2)))
@@ -94,7 +94,7 @@ module _ {s : List ℕ} (r : Room) where
       (λ c i. join-fields r (0 + c) 0 16
       (λ d j. rw (zero-add c, zero-add d) (subst (λ (k : ℕ). Stands s k (word (commonField r c d))) (omega arith) (h c d i j))))
 
-  join-header : Parts s r → Stands s 0 (header r)
+  join-header : Placed s r → Stands s 0 (header r)
   unfolding header
   join-header p =
       stands-join (start r ++ entries r ++ table r) (zeros (headerSize - commonsEnd))
@@ -106,7 +106,7 @@ module _ {s : List ℕ} (r : Room) where
       (join-commons (p .commons)) (simp rowFrom-length))
       (p .rest) (simp (length-append, rowFrom-length, commonTable-length))
 
-  pub join-encode : Parts s r → Stands s 0 (encode r)
+  pub join-encode : Placed s r → Stands s 0 (encode r)
   unfolding encode
   join-encode p =
       stands-join (used r) (zeros (blockSize * (r .capacity - versionCount (r .versions))))

@@ -6,6 +6,7 @@ pub mod RoundTrip
 pub mod Lineage
 pub mod Shown
 pub mod Notes
+pub mod Told
 pub mod Versions
 pub mod Commons
 pub mod Behind

@@ -9,7 +9,7 @@ use native.Mathlib.Decide.{decLt}
 use native.Mathlib.Omega.{arith}
 use lib.ListN.{length, take}
 use borrow.Author.Tests.{eqb-false, ne-eqb, le-leb, ltb-true}
-use Rattle.laws.proofs.Logic.{and-l, and-r, and-i, refuted}
+use Rattle.laws.proofs.Logic.{and-l, and-r, and-i}
 use Rattle.buffer.specs.Field.{word}
 use Rattle.buffer.specs.Row.{row}
 use Rattle.buffer.proofs.Fields.{part-length}
@@ -20,7 +20,6 @@ use Rattle.buffer.proofs.Parts.{Bytes, part-bytes, stands-part, part-stands, wo
 use Rattle.board.specs.Board.{boardSize}
 use Rattle.graph.specs.Graph.{Graph, versionCount, isEntry, isSome, ancestor}
 use Rattle.graph.proofs.Below.{some-at}
-use Rattle.graph.proofs.Ancestor.{isEntry-named}
 use Rattle.command.specs.Code.{consoleCount}
 use Rattle.command.proofs.Limits.{within-true}
 use Rattle.room.specs.Room.{Room, headOf, present}
@@ -30,10 +29,12 @@ use Rattle.room.proofs.Lengths.{boardOf-length}
 use Rattle.store.specs.Layout.{headerSize, rowSize, blockSize, storeSize, capacityAt, countAt, entriesAt, commonsEnd, commonAt, blockAt, encode, roomIn, holdsStore}
 use Rattle.store.specs.Check.{entriesPart, commonIn, storeRight}
 use Rattle.store.proofs.RoundTrip.{encode-length}
-use Rattle.store.proofs.Versions.{Held, versions-held}
+use Rattle.store.proofs.Shown.{no-entry}
+use Rattle.store.proofs.Told.{Held}
+use Rattle.store.proofs.Versions.{versions-held}
 use Rattle.store.proofs.Commons.{Field, field-is, head-is, there, not-zero, field-named, consoles-fields}
 use Rattle.store.proofs.Behind.{behind-row, row-behind}
-use Rattle.store.proofs.Joined.{Parts, join-block, join-encode}
+use Rattle.store.proofs.Joined.{Placed, join-block, join-encode}
 use Rattle.store.proofs.Checks.{Checks, right-checks, own-versions, own-sixteen, own-heads}
 
 module _ (s : List ℕ) (b : Bytes s) where
@@ -93,12 +94,10 @@ module _ (s : List ℕ) (b : Bytes s) where
         (λ v _.
         elim (decLt v (versionCount g)) [
           | yes l ↦ held .told v l .listed
-          | no l ↦
-              none-false (entriesPart s) (versionCount g) v (k .none) (omega arith)
-              ∙ sym (refuted (isEntry g v) (λ t. omega (arith, isEntry-named g v t)))
+          | no l ↦ none-false (entriesPart s) (versionCount g) v (k .none) (omega arith) ∙ sym (no-entry g v (omega arith))
         ])
 
-    parts : Parts s r
+    parts : Placed s r
     parts =
         record {
           capacity = unfold roomIn in word-stands capacityAt b;

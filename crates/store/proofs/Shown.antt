@@ -2,19 +2,19 @@
 -- the older ones.
 -- Assumes nothing.
 use mathlib.Core.Path.{_≡_, refl, sym, _∙_, ap}
-use mathlib.Core.Bool.{Bool, true, _||_}
+use mathlib.Core.Bool.{Bool, true, false, _||_}
 use mathlib.Core.List.{List, [], _∷_}
 use mathlib.Core.Option.{Option, none, some}
-use Prim.Native.Nat.{ℕ, _<_}
+use Prim.Native.Nat.{ℕ, _≤_, _<_}
 use native.Mathlib.Decide.{ℕ-discrete}
 use native.Mathlib.Omega.{arith}
 use lib.Dec.{eqb}
 use borrow.Author.Tests.{eq-eqb, ne-eqb}
-use Rattle.laws.proofs.Logic.{cond-true, cond-false}
+use Rattle.laws.proofs.Logic.{refuted, cond-true, cond-false}
 use Rattle.buffer.specs.Row.{row}
 use Rattle.buffer.proofs.Sets.{row-ext}
 use Rattle.graph.specs.Graph.{Graph, Node, entry, merge, versionCount, someParent, ancestor, nodeOf, entryNode, isEntry, baseOf, everyVersion, parentsLower}
-use Rattle.graph.proofs.Ancestor.{every-new, every-old, ancestor-new, ancestor-old, nodeOf-new, nodeOf-old, nodeOf-named, isEntry-new, isEntry-old}
+use Rattle.graph.proofs.Ancestor.{every-new, every-old, ancestor-new, ancestor-old, nodeOf-new, nodeOf-old, nodeOf-named, isEntry-new, isEntry-old, isEntry-named}
 use Rattle.graph.proofs.Parent.{Parent, parent-lower, receiver, giver}
 use Rattle.graph.proofs.Meet.{meet-old}
 use Rattle.room.specs.Boards.{boardMade, boardOf}
@@ -90,3 +90,7 @@ shown-new n g h = λ i. record {
   board = board-new n g i;
   listed = isEntry-new n g i;
 }
+
+-- no number from the number of versions on is an entry
+pub no-entry : (g : Graph) (v : ℕ) → versionCount g ≤ v → isEntry g v ≡ false
+no-entry g v l = refuted (isEntry g v) (λ t. omega (arith, isEntry-named g v t))
