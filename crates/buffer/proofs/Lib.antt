@@ -1,9 +1,11 @@
 pub mod Fields
 pub mod Writes
 pub mod Stands
-pub mod Rows
-pub mod Compare
-pub mod Bytewise
-pub mod Accumulate
 pub mod Parts
+pub mod Bytewise
+pub mod Compare
+pub mod Accumulate
+pub mod RowParts
+pub mod Rows
+pub mod Sets
 pub mod Written

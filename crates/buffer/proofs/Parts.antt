@@ -1,53 +1,101 @@
--- Tests of a row by parts: a row with one more member, compared before, at and after the member's byte; and no member from a number on.
+-- Parts of a list of bytes: a list stands at a place exactly when it is the part there, lists that stand one behind the other stand
+-- joined, and a part is all zeros exactly when a run of zeros stands there.
 -- Assumes nothing.
-use mathlib.Core.Path.{_≡_}
-use mathlib.Core.Bool.{true, _&&_}
-use mathlib.Core.List.{List}
-use Prim.Native.Nat.{ℕ, _+_, _-_, _/_, _%_, _^_, _≤_, _<_}
-use native.Mathlib.Nat.{zero-div}
+use mathlib.Core.Path.{_≡_, refl, sym, ap, _∙_}
+use mathlib.Core.Bool.{true}
+use mathlib.Core.List.{List, [], _∷_, _++_}
+use Prim.Native.Nat.{ℕ, zero, suc, _+_, _-_, _/_, _≤_, _<_}
+use native.Mathlib.Decide.{decLt}
 use native.Mathlib.Omega.{arith}
 use lib.Dec.{eqb}
-use lib.Bits.{bitOr}
-use lib.ListN.{length, getD, take, drop, length-drop, drop-of-length-le, List·getD-eq-default}
-use lib.Seq.{take-all}
-use Rattle.buffer.specs.Field.{same, allZero}
-use Rattle.buffer.specs.Row.{union, withMember, noneFrom}
-use Rattle.buffer.proofs.Bytewise.{bytewise-length, bytewise-at, bytewise-take, bytewise-drop}
-use Rattle.buffer.proofs.Compare.{same-set}
+use lib.ListN.{length, getD, drop, length-append, length-take, getD-replicate, List·getD-append, List·getD-eq-default}
+use lib.Seq.{getD-append-add, getD-take, getD-drop, ext-getD}
+use borrow.Author.Tests.{eqb-true, eq-eqb}
+use Rattle.laws.proofs.Logic.{and-l, and-r, and-i}
+use Rattle.buffer.specs.Field.{byte, word, wordAt, zeros, part, same, allZero}
+use Rattle.buffer.proofs.Fields.{zeros-length, part-length, same-refl}
+use Rattle.buffer.proofs.Stands.{Stands}
 
--- all from a place on, as a part that ends where the list ends
-abbrev rest : List ℕ → ℕ → List ℕ
-rest s n = take (length s - n) (drop n s)
+-- every element is a byte
+abbrev pub Bytes : List ℕ → Type 0
+Bytes s = (k : ℕ) → getD s k 0 < 256
 
-rest-drop : (s : List ℕ) (n : ℕ) → rest s n ≡ drop n s
-rest-drop s n = take-all (length s - n) (drop n s) (rw length-drop (omega arith))
+pub part-at : (s : List ℕ) (at n i : ℕ) → i < n → getD (part s at n) i 0 ≡ getD s (at + i) 0
+part-at s at n i h = getD-take n (drop at s) i 0 h ∙ getD-drop at s i 0
 
-pub extended : (s p : List ℕ) (v : ℕ) → length s ≡ length p → v / 8 < length p
-    → same (take (v / 8) s) (take (v / 8) p)
-    && eqb (getD s (v / 8) 0) (bitOr (getD p (v / 8) 0) (2 ^ (v % 8)))
-    && same (rest s (v / 8 + 1)) (rest p (v / 8 + 1))
-    ≡ same s (withMember p v)
-extended s p v e h =
-    rw (rest-drop s (v / 8 + 1), rest-drop p (v / 8 + 1), same-set s p (v / 8) (bitOr (getD p (v / 8) 0) (2 ^ (v % 8))) e h)
+pub part-bytes : (s : List ℕ) (at n : ℕ) → Bytes s → Bytes (part s at n)
+part-bytes s at n b k =
+    elim (decLt k n) [
+      | yes l ↦ rw (part-at s at n k l) (b (at + k))
+      | no l ↦ rw (List·getD-eq-default (part s at n) 0 {n = k} (rw length-take (omega arith))) (omega arith)
+    ]
 
-pub extended-union : (s p q : List ℕ) (v : ℕ) → length s ≡ length p → length s ≡ length q → v / 8 < length p
-    → same (take (v / 8) s) (union (take (v / 8) p) (take (v / 8) q))
-    && eqb (getD s (v / 8) 0) (bitOr (bitOr (getD p (v / 8) 0) (getD q (v / 8) 0)) (2 ^ (v % 8)))
-    && same (rest s (v / 8 + 1)) (union (rest p (v / 8 + 1)) (rest q (v / 8 + 1)))
-    ≡ same s (withMember (union p q) v)
-extended-union s p q v e f h =
-    let at = v / 8 in
-    let l = bytewise-length bitOr p q (omega arith) in
-    let back : rest (union p q) (at + 1) ≡ union (rest p (at + 1)) (rest q (at + 1)) =
-    rw (rest-drop (union p q) (at + 1), rest-drop p (at + 1), rest-drop q (at + 1)) (bytewise-drop bitOr (at + 1) p q (omega arith)) in
-    rw (← bytewise-take bitOr at p q, ← bytewise-at bitOr p q at (omega arith) (omega arith), ← back)
-    (extended s (union p q) v (omega arith) (omega arith))
+-- a list that stands at a place is the part there
+pub stands-part : {s : List ℕ} {at : ℕ} {xs : List ℕ} (n : ℕ) → Stands s at xs → length xs ≡ n → at + n ≤ length s → part s at n ≡ xs
+stands-part {s} {at} {xs} n h e l =
+    let m = part-length s at n l in
+    ext-getD 0 (part s at n) xs (m ∙ sym e) (λ i p. part-at s at n i (omega arith) ∙ h .read i (omega arith))
 
--- no member from a number on: the byte that holds the number, and the bytes after it
-pub none-parts : (s : List ℕ) (n : ℕ) → eqb (getD s (n / 8) 0 / 2 ^ (n % 8)) 0 && allZero (rest s (n / 8 + 1)) ≡ noneFrom s n
-none-parts s n = rw (rest-drop s (n / 8 + 1))
+pub part-stands : {s : List ℕ} {at : ℕ} {xs : List ℕ} (n : ℕ) → part s at n ≡ xs → length xs ≡ n → Stands s at xs
+part-stands {s} {at} n h e =
+    record { read = λ i p. sym (part-at s at n i (omega arith)) ∙ ap (λ (t : List ℕ). getD t i 0) h }
 
--- and none past the end
-pub none-past : (s : List ℕ) (n : ℕ) → length s ≤ n / 8 → noneFrom s n ≡ true
+-- lists that stand one behind the other
+pub stands-join : {s : List ℕ} {at to : ℕ} (xs ys : List ℕ) → Stands s at xs → Stands s to ys → at + length xs ≡ to → Stands s at (xs ++ ys)
+stands-join {s} {at} {to} xs ys h k e =
+    record {
+      read = λ i p.
+          elim (decLt i (length xs)) [
+            | yes l ↦ h .read i l ∙ sym (List·getD-append xs ys 0 i l)
+            | no l ↦
+                let q : i < length xs + length ys = rw length-append at p in
+                ap (λ (j : ℕ). getD s j 0) (omega arith)
+                ∙ k .read (i - length xs) (omega arith)
+                ∙ sym (getD-append-add xs ys (i - length xs) 0)
+                ∙ ap (λ (j : ℕ). getD (xs ++ ys) j 0) (omega arith)
+          ];
+    }
+
+-- one byte, and the two bytes of a field
+pub stands-one : {s : List ℕ} {at x : ℕ} → getD s at 0 ≡ x → Stands s at (x ∷ [])
+stands-one {s} {at} {x} e =
+    record { read = λ i p. let z : i ≡ 0 = omega arith in rw z (ap (λ (k : ℕ). getD s k 0) (omega arith) ∙ e) }
+
+pub word-stands : {s : List ℕ} (at : ℕ) → Bytes s → Stands s at (word (wordAt s at))
+word-stands {s} at b =
+    let hi = b at in
+    let lo = b (at + 1) in
+    stands-join (byte (wordAt s at / 256) ∷ []) (byte (wordAt s at) ∷ []) (stands-one (omega arith)) (stands-one {at = at + 1} (omega arith)) refl
+
+-- zeros
+pub zero-at : (xs : List ℕ) → allZero xs ≡ true → (k : ℕ) → getD xs k 0 ≡ 0
 unfolding allZero
-none-past s n h = rw (List·getD-eq-default s 0 h, zero-div, drop-of-length-le s {i = n / 8 + 1} (omega arith))
+zero-at [] h k = refl
+zero-at (x ∷ xs) h zero = eqb-true x 0 (and-l (eqb x 0) (allZero xs) h)
+zero-at (x ∷ xs) h (suc k) = zero-at xs (and-r (eqb x 0) (allZero xs) h) k
+
+pub zero-of : (xs : List ℕ) → ((k : ℕ) → k < length xs → getD xs k 0 ≡ 0) → allZero xs ≡ true
+unfolding allZero
+zero-of [] h = refl
+zero-of (x ∷ xs) h = and-i (eqb x 0) (allZero xs) (eq-eqb x 0 (h 0 (omega arith))) (zero-of xs (λ k l. h (suc k) (omega arith)))
+
+pub zero-stands : {s : List ℕ} (at n : ℕ) → allZero (part s at n) ≡ true → Stands s at (zeros n)
+zero-stands {s} at n h =
+    record { read = λ i p. let l : i < n = rw zeros-length at p in sym (part-at s at n i l) ∙ zero-at (part s at n) h i ∙ sym (getD-replicate n i 0 0 l) }
+
+pub stands-zero : {s : List ℕ} (at n : ℕ) → Stands s at (zeros n) → allZero (part s at n) ≡ true
+stands-zero {s} at n h =
+    zero-of (part s at n)
+    (λ k l.
+    let m : k < n = omega (arith, length-take n (drop at s)) in
+    part-at s at n k m ∙ h .read k (rw zeros-length m) ∙ getD-replicate n k 0 0 m)
+
+-- zeros as the part itself
+pub zero-part : (s : List ℕ) (at n : ℕ) → at + n ≤ length s → allZero (part s at n) ≡ true → part s at n ≡ zeros n
+zero-part s at n l h = stands-part n (zero-stands at n h) (zeros-length n) l
+
+pub part-zero : (s : List ℕ) (at n : ℕ) → part s at n ≡ zeros n → allZero (part s at n) ≡ true
+part-zero s at n e = stands-zero at n (part-stands n e (zeros-length n))
+
+pub same-of : (xs ys : List ℕ) → xs ≡ ys → same xs ys ≡ true
+same-of xs ys e = rw e (same-refl ys)

@@ -29,7 +29,7 @@ bit-test true = refl
 bit-test false = refl
 
 -- the eight numbers below 8, one by one
-eight : (P : ℕ → Type 0) → P 0 → P 1 → P 2 → P 3 → P 4 → P 5 → P 6 → P 7 → (j : ℕ) → j < 8 → P j
+pub eight : (P : ℕ → Type 0) → P 0 → P 1 → P 2 → P 3 → P 4 → P 5 → P 6 → P 7 → (j : ℕ) → j < 8 → P j
 eight P a b c d e f g h zero l = a
 eight P a b c d e f g h (suc zero) l = b
 eight P a b c d e f g h (suc (suc zero)) l = c

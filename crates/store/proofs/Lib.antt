@@ -3,3 +3,15 @@ pub mod Blocks
 pub mod Ranges
 pub mod Reading
 pub mod RoundTrip
+pub mod Lineage
+pub mod Shown
+pub mod Notes
+pub mod Told
+pub mod Versions
+pub mod Commons
+pub mod Behind
+pub mod Joined
+pub mod Checks
+pub mod Passes
+pub mod Holds
+pub mod Checked

@@ -4,7 +4,7 @@ use Prim.Native.Nat.{_/_}
 use mathlib.Core.Path.{sym, _∙_}
 use native.Mathlib.Omega.{arith}
 use lib.Seq.{length-take-le}
-use Rattle.buffer.proofs.Parts.{extended}
+use Rattle.buffer.proofs.RowParts.{extended}
 use Rattle.buffer.proofs.is_extended.Statement.{statement}
 use Rattle.buffer.proofs.is_extended.Tie as tie
 

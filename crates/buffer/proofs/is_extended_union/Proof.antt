@@ -4,7 +4,7 @@ use Prim.Native.Nat.{_/_}
 use mathlib.Core.Path.{sym}
 use native.Mathlib.Omega.{arith}
 use lib.Seq.{length-take-le}
-use Rattle.buffer.proofs.Parts.{extended-union}
+use Rattle.buffer.proofs.RowParts.{extended-union}
 use Rattle.buffer.proofs.is_extended_union.Statement.{statement}
 use Rattle.buffer.proofs.is_extended_union.Tie as tie
 

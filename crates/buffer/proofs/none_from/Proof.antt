@@ -2,7 +2,7 @@
 -- Assumes nothing.
 use mathlib.Core.Path.{sym}
 use native.Mathlib.Omega.{arith}
-use Rattle.buffer.proofs.Parts.{none-parts, none-past}
+use Rattle.buffer.proofs.RowParts.{none-parts, none-past}
 use Rattle.buffer.proofs.none_from.Statement.{statement}
 use Rattle.buffer.proofs.none_from.Tie as tie
 

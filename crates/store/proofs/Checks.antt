@@ -1,0 +1,105 @@
+-- What the test of lent bytes asks, one by one, in terms of the room that is read off them.
+-- Assumes nothing.
+use mathlib.Core.Path.{_≡_, refl, sym, _∙_, ap, subst}
+use mathlib.Core.Bool.{true}
+use mathlib.Core.List.{List}
+use Prim.Native.Nat.{ℕ, pred, _+_, _-_, _*_, _≤_, _<_}
+use native.Mathlib.Nat.{zero-add}
+use native.Mathlib.Omega.{arith}
+use lib.Dec.{ltb}
+use lib.ListN.{length}
+use borrow.Author.Tests.{leb-true, le-leb}
+use Rattle.laws.proofs.Logic.{and-l, and-r, and-i}
+use Rattle.buffer.specs.Field.{wordAt, part, allZero}
+use Rattle.buffer.specs.Row.{row, noneFrom}
+use Rattle.buffer.proofs.Fields.{same-true}
+use Rattle.buffer.proofs.Parts.{same-of}
+use Rattle.graph.specs.Below.{everyBelow}
+use Rattle.graph.specs.Graph.{versionCount}
+use Rattle.command.specs.Code.{consoleCount}
+use Rattle.room.specs.Room.{headOf}
+use Rattle.room.specs.Sound.{isCapacity}
+use Rattle.store.specs.Layout.{headerSize, rowSize, blockSize, storeSize, capacityAt, countAt, entriesAt, commonsEnd, blockAt, versionsIn, headFrom, roomIn}
+use Rattle.store.specs.Check.{entriesPart, versionsRight, commonIn, consoleRight, behindHeads, contentsRight, storeRight}
+use Rattle.store.proofs.Reading.{headsIn-length, headsIn-one}
+use Rattle.store.proofs.Versions.{versions-length}
+
+-- of a store of this capacity with n versions
+pub record Checks (s : List ℕ) (capacity n : ℕ) : Type 0 where
+  pub known : isCapacity capacity ≡ true
+  pub long : storeSize capacity ≤ length s
+  pub count : wordAt s countAt ≡ n
+  pub some : 1 ≤ n
+  pub fits : n ≤ capacity
+  pub gap : allZero (part s (countAt + 2) (entriesAt - (countAt + 2))) ≡ true
+  pub rest : allZero (part s commonsEnd (headerSize - commonsEnd)) ≡ true
+  pub versions : versionsRight s (pred n) ≡ true
+  pub none : noneFrom (entriesPart s) n ≡ true
+  pub free : allZero (part s (blockAt n) (blockSize * (capacity - n))) ≡ true
+  pub consoles : everyBelow consoleCount (consoleRight s n) ≡ true
+  pub first : ltb 0 (commonIn s 0 0) ≡ true
+  pub behind : behindHeads s consoleCount ≡ row (λ v. ltb v n) rowSize
+
+module _ (s : List ℕ) where
+  fields-checks : storeRight s ≡ true → Checks s (wordAt s capacityAt) (wordAt s countAt)
+  unfolding storeRight contentsRight
+  fields-checks h =
+      record {
+        known = search (and-l, and-r) depth 12;
+        long = leb-true _ _ (search (and-l, and-r) depth 12);
+        count = refl;
+        some = leb-true _ _ (search (and-l, and-r) depth 12);
+        fits = leb-true _ _ (search (and-l, and-r) depth 12);
+        gap = search (and-l, and-r) depth 12;
+        rest = search (and-l, and-r) depth 12;
+        versions = search (and-l, and-r) depth 12;
+        none = search (and-l, and-r) depth 12;
+        free = search (and-l, and-r) depth 12;
+        consoles = search (and-l, and-r) depth 12;
+        first = search (and-l, and-r) depth 12;
+        behind = same-true _ _ (search (and-l, and-r) depth 12);
+      }
+
+  checks-fields : Checks s (wordAt s capacityAt) (wordAt s countAt) → storeRight s ≡ true
+  unfolding storeRight contentsRight
+  checks-fields k =
+      and-i _ _ (and-i _ _ (and-i _ _
+      (le-leb headerSize (length s) (omega (arith, k .long)))
+      (k .known))
+      (le-leb (storeSize (wordAt s capacityAt)) (length s) (k .long)))
+      (and-i _ _ (and-i _ _ (and-i _ _ (and-i _ _ (and-i _ _ (and-i _ _ (and-i _ _ (and-i _ _ (and-i _ _
+      (le-leb 1 (wordAt s countAt) (k .some))
+      (le-leb (wordAt s countAt) (wordAt s capacityAt) (k .fits)))
+      (k .gap))
+      (k .rest))
+      (k .versions))
+      (k .none))
+      (k .free))
+      (k .consoles))
+      (k .first))
+      (same-of _ _ (k .behind)))
+
+  -- the test, of the room's own capacity and number of versions
+  pub right-checks : storeRight s ≡ true → Checks s (roomIn s .capacity) (versionCount (roomIn s .versions))
+  unfolding roomIn
+  right-checks h =
+      let k = fields-checks h in
+      let e = versions-length s (pred (wordAt s countAt)) in
+      subst (Checks s (wordAt s capacityAt)) (omega (arith, k .some)) k
+
+  pub checks-right : Checks s (roomIn s .capacity) (versionCount (roomIn s .versions)) → storeRight s ≡ true
+  unfolding roomIn
+  checks-right k = checks-fields (subst (Checks s (wordAt s capacityAt)) (sym (k .count)) k)
+
+  -- what the room read off the bytes has to do with them
+  pub own-versions : versionsIn s (length (roomIn s .versions)) ≡ roomIn s .versions
+  unfolding roomIn
+  own-versions = ap (versionsIn s) (versions-length s (pred (wordAt s countAt)))
+
+  pub own-sixteen : length (roomIn s .heads) ≡ consoleCount
+  unfolding roomIn
+  own-sixteen = headsIn-length s 0 consoleCount
+
+  pub own-heads : (c : ℕ) → c < consoleCount → headOf (roomIn s) c ≡ headFrom (commonIn s c c)
+  unfolding roomIn
+  own-heads c l = headsIn-one s 0 consoleCount c l ∙ rw zero-add

@@ -1,0 +1,138 @@
+-- The encoding of a room stands at the front of bytes where each of its parts stands in its place; and where it stands, its unused parts are
+-- zero.
+-- Assumes nothing.
+use mathlib.Core.Path.{refl, subst, subst₂}
+use mathlib.Core.List.{List, [], _++_}
+use Prim.Native.Nat.{ℕ, zero, suc, _+_, _-_, _*_, _<_}
+use native.Mathlib.Nat.{zero-add}
+use native.Mathlib.Omega.{arith}
+use lib.ListN.{length-append}
+use Rattle.buffer.specs.Field.{word, zeros}
+use Rattle.buffer.specs.Row.{row}
+use Rattle.buffer.proofs.Rows.{rowFrom-length}
+use Rattle.buffer.proofs.Stands.{Stands, stands-left, stands-right}
+use Rattle.buffer.proofs.Parts.{stands-join}
+use Rattle.graph.specs.Graph.{Graph, versionCount, isEntry, nodeOf}
+use Rattle.command.specs.Code.{consoleCount}
+use Rattle.room.specs.Room.{Room}
+use Rattle.room.specs.Boards.{boardOf}
+use Rattle.store.specs.Layout.{headerSize, rowSize, blockSize, capacityAt, countAt, entriesAt, commonsAt, commonsEnd, commonAt, blockAt, rowAt, boardAt, commonField, commonFields, commonTable, header, nodeBytes, block, blocks, encode}
+use Rattle.store.proofs.Blocks.{commonFields-length, commonTable-length, header-length, nodeBytes-length, blocks-length, stands-header}
+use Rattle.store.proofs.Lineage.{lineage}
+
+stands-none : {s : List ℕ} {at : ℕ} → Stands s at []
+stands-none = record { read = λ i p. absurd (omega arith) }
+
+-- a row of the table, the table, the blocks
+join-fields : {s : List ℕ} {at : ℕ} (r : Room) (c d n : ℕ) → ((k : ℕ) → k < n → Stands s (at + 2 * k) (word (commonField r c (d + k))))
+    → Stands s at (commonFields r c d n)
+unfolding commonFields
+join-fields r c d zero h = stands-none
+join-fields {s} {at} r c d (suc n) h =
+    stands-join {to = at + 2} (word (commonField r c d)) (commonFields r c (suc d) n)
+    (subst₂ (λ (i j : ℕ). Stands s i (word (commonField r c j))) (omega arith) (omega arith) (h 0 (omega arith)))
+    (join-fields r c (suc d) n
+    (λ k l. subst₂ (λ (i j : ℕ). Stands s i (word (commonField r c j))) (omega arith) (omega arith) (h (suc k) (omega arith))))
+    refl
+
+join-table : {s : List ℕ} {at : ℕ} (r : Room) (c n : ℕ) → ((k : ℕ) → k < n → Stands s (at + 32 * k) (commonFields r (c + k) 0 16))
+    → Stands s at (commonTable r c n)
+unfolding commonTable
+join-table r c zero h = stands-none
+join-table {s} {at} r c (suc n) h =
+    stands-join {to = at + 32} (commonFields r c 0 16) (commonTable r (suc c) n)
+    (subst₂ (λ (i j : ℕ). Stands s i (commonFields r j 0 16)) (omega arith) (omega arith) (h 0 (omega arith)))
+    (join-table r (suc c) n
+    (λ k l. subst₂ (λ (i j : ℕ). Stands s i (commonFields r j 0 16)) (omega arith) (omega arith) (h (suc k) (omega arith))))
+    (rw commonFields-length)
+
+join-blocks : {s : List ℕ} (g : Graph) (n : ℕ) → ((v : ℕ) → v < n → Stands s (blockAt v) (block g v)) → Stands s headerSize (blocks g n)
+unfolding blocks
+join-blocks g zero h = stands-none
+join-blocks g (suc n) h =
+    stands-join (blocks g n) (block g n) (join-blocks g n (λ v l. h v (omega arith))) (h n (omega arith)) (rw blocks-length)
+
+pub join-block : {s : List ℕ} (g : Graph) (v : ℕ) → Stands s (blockAt v) (nodeBytes g (nodeOf g v)) → Stands s (rowAt v) (lineage g v)
+    → Stands s (boardAt v) (boardOf g v) → Stands s (blockAt v) (block g v)
+unfolding block
+join-block g v a b c =
+    stands-join (nodeBytes g (nodeOf g v) ++ lineage g v) (boardOf g v)
+    (stands-join (nodeBytes g (nodeOf g v)) (lineage g v) a b (rw nodeBytes-length)) c
+    (simp (length-append, nodeBytes-length, rowFrom-length) (omega arith))
+
+-- the parts of an encoding, each in its place
+pub record Placed (s : List ℕ) (r : Room) : Type 0 where
+  pub capacity : Stands s capacityAt (word (r .capacity))
+  pub count : Stands s countAt (word (versionCount (r .versions)))
+  pub gap : Stands s (countAt + 2) (zeros (entriesAt - (countAt + 2)))
+  pub entries : Stands s entriesAt (row (isEntry (r .versions)) rowSize)
+  pub commons : (c d : ℕ) → c < consoleCount → d < consoleCount → Stands s (commonAt c d) (word (commonField r c d))
+  pub rest : Stands s commonsEnd (zeros (headerSize - commonsEnd))
+  pub versions : (v : ℕ) → v < versionCount (r .versions) → Stands s (blockAt v) (block (r .versions) v)
+  pub free : Stands s (blockAt (versionCount (r .versions))) (zeros (blockSize * (r .capacity - versionCount (r .versions))))
+
+abbrev gap : List ℕ
+gap = zeros (entriesAt - (countAt + 2))
+
+abbrev start : Room → List ℕ
+start r = word (r .capacity) ++ word (versionCount (r .versions)) ++ gap
+
+abbrev entries : Room → List ℕ
+entries r = row (isEntry (r .versions)) rowSize
+
+abbrev table : Room → List ℕ
+table r = commonTable r 0 consoleCount
+
+abbrev used : Room → List ℕ
+used r = header r ++ blocks (r .versions) (versionCount (r .versions))
+
+module _ {s : List ℕ} (r : Room) where
+  join-commons : ((c d : ℕ) → c < consoleCount → d < consoleCount → Stands s (commonAt c d) (word (commonField r c d)))
+      → Stands s commonsAt (table r)
+  join-commons h =
+      join-table r 0 16
+      (λ c i. join-fields r (0 + c) 0 16
+      (λ d j. rw (zero-add c, zero-add d) (subst (λ (k : ℕ). Stands s k (word (commonField r c d))) (omega arith) (h c d i j))))
+
+  join-header : Placed s r → Stands s 0 (header r)
+  unfolding header
+  join-header p =
+      stands-join (start r ++ entries r ++ table r) (zeros (headerSize - commonsEnd))
+      (stands-join (start r ++ entries r) (table r)
+      (stands-join (start r) (entries r)
+      (stands-join (word (r .capacity)) (word (versionCount (r .versions)) ++ gap) (p .capacity)
+      (stands-join (word (versionCount (r .versions))) gap (p .count) (p .gap) refl) refl)
+      (p .entries) refl)
+      (join-commons (p .commons)) (simp rowFrom-length))
+      (p .rest) (simp (length-append, rowFrom-length, commonTable-length))
+
+  pub join-encode : Placed s r → Stands s 0 (encode r)
+  unfolding encode
+  join-encode p =
+      stands-join (used r) (zeros (blockSize * (r .capacity - versionCount (r .versions))))
+      (stands-join (header r) (blocks (r .versions) (versionCount (r .versions))) (join-header p) (join-blocks (r .versions) (versionCount (r .versions)) (p .versions)) (rw header-length))
+      (p .free)
+      (simp (length-append, header-length, blocks-length) (omega arith))
+
+  -- the unused parts
+  module _ (h : Stands s 0 (encode r)) where
+    pub stands-rest : Stands s commonsEnd (zeros (headerSize - commonsEnd))
+    unfolding header
+    stands-rest =
+        stands-right (start r ++ entries r ++ table r) (zeros (headerSize - commonsEnd)) (stands-header r h)
+        (simp (length-append, rowFrom-length, commonTable-length))
+
+    pub stands-gap : Stands s (countAt + 2) (zeros (entriesAt - (countAt + 2)))
+    unfolding header
+    stands-gap =
+        stands-right (word (r .capacity) ++ word (versionCount (r .versions))) gap
+        (stands-left (start r) (entries r)
+        (stands-left (start r ++ entries r) (table r)
+        (stands-left (start r ++ entries r ++ table r) (zeros (headerSize - commonsEnd)) (stands-header r h))))
+        refl
+
+    pub stands-free : Stands s (blockAt (versionCount (r .versions))) (zeros (blockSize * (r .capacity - versionCount (r .versions))))
+    unfolding encode
+    stands-free =
+        stands-right (used r) (zeros (blockSize * (r .capacity - versionCount (r .versions)))) h
+        (simp (length-append, header-length, blocks-length) (omega arith))

@@ -1,0 +1,92 @@
+-- The node that is read off a block: its bytes stand there exactly when those that it does not use are zero and, of a merge, the base that
+-- stands there is its base.
+-- Assumes nothing.
+use mathlib.Core.Path.{_≡_, refl}
+use mathlib.Core.Bool.{true}
+use mathlib.Core.List.{List, [], _∷_, _++_}
+use mathlib.Core.Option.{some}
+use Prim.Native.Nat.{ℕ, _+_, _-_, _≤_}
+use native.Mathlib.Omega.{arith}
+use lib.ListN.{getD}
+use Rattle.buffer.specs.Field.{byte, word, wordAt, zeros, part, allZero}
+use Rattle.buffer.proofs.Stands.{Stands, stands-left, stands-right, stands-field}
+use Rattle.buffer.proofs.Parts.{Bytes, stands-one, stands-join, word-stands, zero-stands, stands-zero}
+use Rattle.graph.specs.Graph.{Graph, Node, entry, merge, versionCount, baseOf}
+use Rattle.room.specs.Sound.{maxCapacity}
+use Rattle.store.specs.Layout.{nodeSize, blockAt, nodeCodeAt, nodeStripAt, nodeOperandAt, nodeParentAt, nodeGiverAt, nodeBaseAt, nodeBytes}
+use Rattle.store.proofs.Diagonal.{meetNumber-below}
+
+module _ (s : List ℕ) (v : ℕ) where
+  -- the fields of the node
+  abbrev pub codeIn : ℕ
+  codeIn = getD s (nodeCodeAt v) 0
+
+  abbrev pub stripIn : ℕ
+  stripIn = getD s (nodeStripAt v) 0
+
+  abbrev pub operandIn : ℕ
+  operandIn = wordAt s (nodeOperandAt v)
+
+  abbrev pub parentIn : ℕ
+  parentIn = wordAt s (nodeParentAt v)
+
+  abbrev pub giverIn : ℕ
+  giverIn = wordAt s (nodeGiverAt v)
+
+  abbrev pub baseIn : ℕ
+  baseIn = wordAt s (nodeBaseAt v)
+
+  -- the node, where it is an entry, and where it is a merge
+  abbrev pub entryIn : Node
+  entryIn = entry parentIn codeIn stripIn operandIn
+
+  abbrev pub mergeIn : Node
+  mergeIn = merge parentIn giverIn
+
+  module _ (g : Graph) where
+    pub zero-entry : Bytes s → allZero (part s (nodeGiverAt v) (nodeSize - 6)) ≡ true → Stands s (blockAt v) (nodeBytes g (some entryIn))
+    unfolding nodeBytes
+    zero-entry b h =
+        let c = b (nodeCodeAt v) in
+        let k = b (nodeStripAt v) in
+        stands-join (byte codeIn ∷ []) (byte stripIn ∷ word operandIn ++ word parentIn ++ zeros 26) (stands-one (omega arith))
+        (stands-join (byte stripIn ∷ []) (word operandIn ++ word parentIn ++ zeros 26) (stands-one (omega arith))
+        (stands-join (word operandIn) (word parentIn ++ zeros 26) (word-stands (nodeOperandAt v) b)
+        (stands-join (word parentIn) (zeros 26) (word-stands (nodeParentAt v) b) (zero-stands (nodeGiverAt v) 26 h)
+        (omega arith)) (omega arith)) (omega arith)) refl
+
+    pub entry-zero : Stands s (blockAt v) (nodeBytes g (some entryIn)) → allZero (part s (nodeGiverAt v) (nodeSize - 6)) ≡ true
+    unfolding nodeBytes
+    entry-zero h =
+        stands-zero (nodeGiverAt v) 26 (stands-right (byte codeIn ∷ byte stripIn ∷ word operandIn ++ word parentIn) (zeros 26) h refl)
+
+    pub zero-merge : Bytes s → codeIn ≡ 9 → baseIn ≡ baseOf g parentIn giverIn → allZero (part s (nodeStripAt v) 3) ≡ true
+        → allZero (part s (nodeBaseAt v + 2) (nodeSize - 10)) ≡ true → Stands s (blockAt v) (nodeBytes g (some mergeIn))
+    unfolding nodeBytes
+    zero-merge b nine base h k =
+        rw (← base)
+        (stands-join (9 ∷ []) (zeros 3 ++ word parentIn ++ word giverIn ++ word baseIn ++ zeros 22) (stands-one nine)
+        (stands-join (zeros 3) (word parentIn ++ word giverIn ++ word baseIn ++ zeros 22) (zero-stands (nodeStripAt v) 3 h)
+        (stands-join (word parentIn) (word giverIn ++ word baseIn ++ zeros 22) (word-stands (nodeParentAt v) b)
+        (stands-join (word giverIn) (word baseIn ++ zeros 22) (word-stands (nodeGiverAt v) b)
+        (stands-join (word baseIn) (zeros 22) (word-stands (nodeBaseAt v) b) (zero-stands (nodeBaseAt v + 2) 22 k)
+        (omega arith)) (omega arith)) (omega arith)) (omega arith)) refl)
+
+    module _ (h : Stands s (blockAt v) (nodeBytes g (some mergeIn))) where
+      abbrev fields : List ℕ
+      fields = word parentIn ++ word giverIn ++ word (baseOf g parentIn giverIn)
+
+      pub merge-zero : allZero (part s (nodeStripAt v) 3) ≡ true
+      unfolding nodeBytes
+      merge-zero =
+          stands-zero (nodeStripAt v) 3
+          (stands-left (zeros 3) (fields ++ zeros 22) (stands-right (9 ∷ []) (zeros 3 ++ (fields ++ zeros 22)) h refl))
+
+      pub merge-rest : allZero (part s (nodeBaseAt v + 2) (nodeSize - 10)) ≡ true
+      unfolding nodeBytes
+      merge-rest = stands-zero (nodeBaseAt v + 2) 22 (stands-right (9 ∷ zeros 3 ++ fields) (zeros 22) h (omega arith))
+
+      pub merge-base-read : versionCount g ≤ maxCapacity → baseIn ≡ baseOf g parentIn giverIn
+      unfolding nodeBytes
+      merge-base-read small =
+          stands-field h 8 (baseOf g parentIn giverIn) (omega arith) refl refl (omega (arith, meetNumber-below g parentIn giverIn))

@@ -1,0 +1,96 @@
+-- What a store shows of a version: its node, its row, its board and whether it is an entry. A new version changes nothing of what is shown of
+-- the older ones.
+-- Assumes nothing.
+use mathlib.Core.Path.{_≡_, refl, sym, _∙_, ap}
+use mathlib.Core.Bool.{Bool, true, false, _||_}
+use mathlib.Core.List.{List, [], _∷_}
+use mathlib.Core.Option.{Option, none, some}
+use Prim.Native.Nat.{ℕ, _≤_, _<_}
+use native.Mathlib.Decide.{ℕ-discrete}
+use native.Mathlib.Omega.{arith}
+use lib.Dec.{eqb}
+use borrow.Author.Tests.{eq-eqb, ne-eqb}
+use Rattle.laws.proofs.Logic.{refuted, cond-true, cond-false}
+use Rattle.buffer.specs.Row.{row}
+use Rattle.buffer.proofs.Sets.{row-ext}
+use Rattle.graph.specs.Graph.{Graph, Node, entry, merge, versionCount, someParent, ancestor, nodeOf, entryNode, isEntry, baseOf, everyVersion, parentsLower}
+use Rattle.graph.proofs.Ancestor.{every-new, every-old, ancestor-new, ancestor-old, nodeOf-new, nodeOf-old, nodeOf-named, isEntry-new, isEntry-old, isEntry-named}
+use Rattle.graph.proofs.Parent.{Parent, parent-lower, receiver, giver}
+use Rattle.graph.proofs.Meet.{meet-old}
+use Rattle.room.specs.Boards.{boardMade, boardOf}
+use Rattle.store.specs.Layout.{rowSize, nodeBytes}
+use Rattle.store.proofs.Lineage.{lineage}
+
+pub record Shown : Type 0 where
+  pub note : List ℕ
+  pub line : List ℕ
+  pub board : List ℕ
+  pub listed : Bool
+
+abbrev pub shown : Graph → ℕ → Shown
+shown g v = record { note = nodeBytes g (nodeOf g v); line = lineage g v; board = boardOf g v; listed = isEntry g v }
+
+-- of a version that is made on top of a graph
+abbrev pub made : Graph → Node → Shown
+made g n =
+    record {
+      note = nodeBytes g (some n);
+      line = row (λ u. eqb u (versionCount g) || someParent (ancestor g u) n) rowSize;
+      board = boardMade (boardOf g) (baseOf g) n;
+      listed = entryNode (some n);
+    }
+
+board-new : (n : Node) (g : Graph) → boardOf (n ∷ g) (versionCount g) ≡ boardMade (boardOf g) (baseOf g) n
+unfolding boardOf
+board-new n g = cond-true _ _ _ (eq-eqb (versionCount g) (versionCount g) refl)
+
+board-old : (n : Node) (g : Graph) (v : ℕ) → v < versionCount g → boardOf (n ∷ g) v ≡ boardOf g v
+unfolding boardOf
+board-old n g v l = cond-false _ _ _ (ne-eqb v (versionCount g) (omega arith))
+
+-- parents that are versions have the base that they had
+note-kept : (n m : Node) (g : Graph) → ((p : ℕ) → Parent m p → p < versionCount g) → nodeBytes (n ∷ g) (some m) ≡ nodeBytes g (some m)
+unfolding nodeBytes
+note-kept n (entry p code strip operand) g h = refl
+note-kept n (merge p q) g h = rw (meet-old n g p q (h p receiver) (h q giver))
+
+node-lower : (g : Graph) (v : ℕ) (m : Node) → everyVersion parentsLower g ≡ true → nodeOf g v ≡ some m → (p : ℕ) → Parent m p → p < versionCount g
+node-lower [] v m h e p r = absurd (omega (arith, nodeOf-named [] v m e))
+node-lower (n ∷ g) v m h e p r =
+    elim (ℕ-discrete v (versionCount g)) [
+      | yes d ↦
+          let same : n ≡ m = cc (nodeOf-new n g) in
+          omega (arith, parent-lower g (rw same at (every-new parentsLower n g h)) r)
+      | no d ↦
+          let named = nodeOf-named (n ∷ g) v m e in
+          omega (arith, node-lower g v m (every-old parentsLower n g h) (sym (nodeOf-old n g v (omega arith)) ∙ e) p r)
+    ]
+
+note-old : (n : Node) (g : Graph) (v : ℕ) → everyVersion parentsLower g ≡ true → v < versionCount g
+    → nodeBytes (n ∷ g) (nodeOf (n ∷ g) v) ≡ nodeBytes g (nodeOf g v)
+unfolding nodeBytes
+note-old n g v h l = ap (nodeBytes (n ∷ g)) (nodeOf-old n g v l) ∙ go (nodeOf g v) refl
+  where
+    go : (o : Option Node) → nodeOf g v ≡ o → nodeBytes (n ∷ g) o ≡ nodeBytes g o
+    go none e = refl
+    go (some m) e = note-kept n m g (node-lower g v m h e)
+
+pub shown-old : (n : Node) (g : Graph) (v : ℕ) → everyVersion parentsLower g ≡ true → v < versionCount g → shown (n ∷ g) v ≡ shown g v
+shown-old n g v h l = λ i. record {
+  note = note-old n g v h l i;
+  line = row-ext (λ u. ancestor (n ∷ g) u v) (λ u. ancestor g u v) rowSize (λ u. ancestor-old n g u v l) i;
+  board = board-old n g v l i;
+  listed = isEntry-old n g v l i;
+}
+
+pub shown-new : (n : Node) (g : Graph) → parentsLower g n ≡ true → shown (n ∷ g) (versionCount g) ≡ made g n
+shown-new n g h = λ i. record {
+  note = (ap (nodeBytes (n ∷ g)) (nodeOf-new n g) ∙ note-kept n n g (λ p r. parent-lower g h r)) i;
+  line = row-ext (λ u. ancestor (n ∷ g) u (versionCount g)) (λ u. eqb u (versionCount g) || someParent (ancestor g u) n) rowSize (ancestor-new n g) i;
+  board = board-new n g i;
+  listed = isEntry-new n g i;
+}
+
+-- no number from the number of versions on is an entry
+pub no-entry : (g : Graph) (v : ℕ) → versionCount g ≤ v → isEntry g v ≡ false
+no-entry g v l = refuted (isEntry g v) (λ t. omega (arith, isEntry-named g v t))
