@@ -15,7 +15,7 @@ use lib.Seq.{take-suc, take-all, length-take-le}
 use Rattle.laws.proofs.Logic.{and-l, and-r, and-i, bool-ext}
 use Rattle.buffer.specs.Field.{same}
 
-and-assoc : (a b c : Bool) → a && (b && c) ≡ (a && b) && c
+pub and-assoc : (a b c : Bool) → a && (b && c) ≡ (a && b) && c
 and-assoc true b c = refl
 and-assoc false b c = refl
 

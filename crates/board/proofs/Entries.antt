@@ -1,19 +1,24 @@
 -- An entry writes within its strip: a board after an entry is the board with its strip as the entry makes it.
 -- Assumes nothing.
-use Prim.Native.Nat.{ℕ, suc, _+_, _*_, _/_, _^_, _<_, _≤_}
+use Prim.Native.Nat.{ℕ, suc, _+_, _-_, _*_, _/_, _^_, _<_, _≤_}
 use mathlib.Core.Path.{_≡_, refl, sym, ap, ap₂, _∙_}
-use mathlib.Core.Bool.{Bool, true, false, cond}
+use mathlib.Core.Bool.{Bool, true, false, cond, _&&_}
 use mathlib.Core.List.{List, [], _∷_, _++_}
 use native.Mathlib.Nat.{zero-add, suc-add}
 use native.Mathlib.Omega.{arith}
 use borrow.Author.Tests.{ne-eqb}
 use lib.Bits.{bitOr}
 use lib.Dec.{eqb}
-use lib.ListN.{length, set, length-set}
-use lib.Seq.{set-append-left}
-use Rattle.buffer.specs.Field.{byte, wordAt, putWord}
-use Rattle.buffer.proofs.Fields.{wordAt-left, wordAt-right}
-use Rattle.board.specs.Board.{stripSize, levelAt, headingAt, marksAt, callsAt, alertsAt, flagAt, without, enter}
+use lib.ListN.{length, set, take, drop, length-set}
+use lib.Seq.{drop-drop, length-take-le, set-append-left}
+use Rattle.laws.proofs.Lists.{three-parts, rest-all}
+use Rattle.buffer.specs.Field.{byte, wordAt, putWord, same}
+use Rattle.buffer.proofs.Fields.{wordAt-left, wordAt-right, part-length}
+use Rattle.buffer.proofs.Writes.{put-length}
+use Rattle.board.specs.Board.{stripSize, stripCount, boardSize, levelAt, headingAt, marksAt, callsAt, alertsAt, flagAt, without, enter}
+use Rattle.board.proofs.Length.{enter-length}
+use Rattle.board.proofs.Compare.{and-assoc, same-append}
+use Rattle.board.proofs.Boards.{strip}
 
 -- a code that is no entry's changes nothing
 pub enter-none : (code k x : ℕ) (s : List ℕ) → (code ≡ 2 → ⊥) → (code ≡ 3 → ⊥) → (code ≡ 4 → ⊥) → (code ≡ 5 → ⊥) → (code ≡ 6 → ⊥)
@@ -51,3 +56,62 @@ module _ (p r : List ℕ) (k : ℕ) (before : length p ≡ stripSize * k) where
   choice-placed : (t : Bool) {x y : List ℕ} (u v : List ℕ) → x ≡ placed u → y ≡ placed v → cond t x y ≡ placed (cond t u v)
   choice-placed true u v a b = a
   choice-placed false u v a b = b
+
+  module _ (q : List ℕ) (long : length q ≡ stripSize) where
+    -- a field that is written with what is made of it
+    cell-placed : (f : ℕ → ℕ) (o at : ℕ) → at ≡ stripSize * k + o → o + 1 < stripSize
+        → putWord (placed q) at (f (wordAt (placed q) at)) ≡ placed (putWord q o (f (wordAt q o)))
+    cell-placed f o at e h =
+        ap (λ (w : ℕ). putWord (placed q) at (f w)) (word-placed q long o at e h) ∙ put-placed q o at (f (wordAt q o)) long e h
+
+    enter-placed : (code x : ℕ) → enter code k x (placed q) ≡ placed (enter code 0 x q)
+    unfolding enter
+    enter-placed code x =
+        choice-placed (eqb code 0x02) _ _ (put-placed q 0 (levelAt k) x long (omega arith) (omega arith))
+        (choice-placed (eqb code 0x03) _ _ (put-placed q 2 (headingAt k) x long (omega arith) (omega arith))
+        (choice-placed (eqb code 0x04) _ _ (cell-placed (λ w. bitOr w (2 ^ x)) 4 (marksAt k) (omega arith) (omega arith))
+        (choice-placed (eqb code 0x05) _ _ (cell-placed (λ w. without w (2 ^ x)) 4 (marksAt k) (omega arith) (omega arith))
+        (choice-placed (eqb code 0x06) _ _ (cell-placed (λ w. w + 1) 6 (callsAt k) (omega arith) (omega arith))
+        (choice-placed (eqb code 0x07) _ _
+        (ap (λ (t : List ℕ). set t (flagAt k) 1) (cell-placed (λ w. w + 1) 8 (alertsAt k) (omega arith) (omega arith))
+        ∙ set-placed (putWord q 8 (wordAt q 8 + 1)) (put-length q 8 (wordAt q 8 + 1) ∙ long) 10 (flagAt k) 1 (omega arith) (omega arith))
+        (choice-placed (eqb code 0x08) _ _ (set-placed q long 10 (flagAt k) 0 (omega arith) (omega arith)) refl))))))
+
+-- the board with its strip k as the entry makes it
+pub entered : (code k x : ℕ) (s : List ℕ) → stripSize * k + stripSize ≤ length s
+    → enter code k x s ≡ take (stripSize * k) s ++ (enter code 0 x (strip s k) ++ drop (stripSize * k + stripSize) s)
+entered code k x s h =
+    ap (enter code k x) (sym (three-parts s (stripSize * k) stripSize))
+    ∙ enter-placed (take (stripSize * k) s) (drop (stripSize * k + stripSize) s) k (length-take-le (stripSize * k) s (omega arith))
+    (strip s k) (part-length s (stripSize * k) stripSize h) code x
+
+-- the same, where the strip was lent as the n bytes from its place on, and came back
+pub entered-back : (code k x n : ℕ) (s : List ℕ) {new : List ℕ} → n ≡ stripSize → stripSize * k + stripSize ≤ length s
+    → new ≡ enter code 0 x (take n (drop (stripSize * k) s)) → take (stripSize * k) s ++ (new ++ drop n (drop (stripSize * k) s)) ≡ enter code k x s
+entered-back code k x n s count h e = rw (e, count, drop-drop stripSize (stripSize * k) s) (sym (entered code k x s h))
+
+-- a board compares with its parent's after an entry as its three parts do
+pub same-entered : (code k x : ℕ) (board parent : List ℕ) {w v : List ℕ} {before here behind : Bool} → length board ≡ boardSize → length parent ≡ boardSize
+    → k < stripCount → before ≡ same (take (stripSize * k) board) (take (stripSize * k) parent)
+    → w ≡ strip board k → v ≡ strip parent k → here ≡ same w (enter code 0 x v)
+    → behind ≡ same (take (length board - (stripSize * k + stripSize)) (drop (stripSize * k + stripSize) board)) (take (length parent - (stripSize * k + stripSize)) (drop (stripSize * k + stripSize) parent))
+    → (before && here) && behind ≡ same board (enter code k x parent)
+same-entered code k x board parent {before = before} {here = here} {behind = behind} hb hp inside e₁ ew ev e₂ e₃ =
+    let at = stripSize * k in
+    let end = stripSize * k + stripSize in
+    let b₁ = take at board in
+    let p₁ = take at parent in
+    let p₂ = enter code 0 x (strip parent k) in
+    let b₃ = drop end board in
+    let p₃ = drop end parent in
+    let front : length b₁ ≡ length p₁ = length-take-le at board (omega arith) ∙ sym (length-take-le at parent (omega arith)) in
+    let middle : length (strip board k) ≡ length p₂ =
+    part-length board at stripSize (omega arith) ∙ sym (enter-length code 0 x (strip parent k) ∙ part-length parent at stripSize (omega arith)) in
+    let parts : same board (enter code k x parent) ≡ (same b₁ p₁ && same (strip board k) p₂) && same b₃ p₃ =
+    ap₂ same (sym (three-parts board at stripSize)) (entered code k x parent (omega arith))
+    ∙ same-append b₁ p₁ (strip board k ++ b₃) (p₂ ++ p₃) front
+    ∙ ap (λ (t : Bool). same b₁ p₁ && t) (same-append (strip board k) p₂ b₃ p₃ middle)
+    ∙ and-assoc (same b₁ p₁) (same (strip board k) p₂) (same b₃ p₃) in
+    let told : here ≡ same (strip board k) p₂ = cc in
+    let rest : behind ≡ same b₃ p₃ = rw (rest-all board end, rest-all parent end) at e₃ in
+    rw (e₁, told, rest) (sym parts)

@@ -4,4 +4,5 @@ mod Marks
 mod Strips
 mod Boards
 mod Compare
+mod Copies
 mod Entries

@@ -297,3 +297,48 @@ fn enter_strip(s: &mut [u8], code: usize, operand: usize)
         _ => {}
     }
 }
+
+// Makes an entry on a board.
+pub fn enter_board(board: &mut [u8], code: usize, strip: Strip, operand: usize)
+    requires { ⌜ (length (now board) ≡ boardSize) × (strip .0 < stripCount) × (code ≡ 0x04 → operand < 16) × (code ≡ 0x05 → operand < 16) ⌝ }
+    ensures { λ _. ⌜ now (board .exit) ≡ enter code (strip .0) operand (now (board .entry)) ⌝ }
+{
+    let at = STRIP_SIZE * strip.0;
+    let end = at + STRIP_SIZE;
+    enter_strip(&mut board[at..end], code, operand);
+}
+
+// Copies a part into another of its length.
+fn copy(to: &mut [u8], from: &[u8])
+    requires { ⌜ length (now to) ≡ length (now from) ⌝ }
+    ensures { λ _. ⌜ now (to .exit) ≡ now (from .entry) ⌝ }
+{
+    for i in 0..from.len() {
+        to[i] = from[i];
+    }
+}
+
+// A strip is another after an entry.
+fn is_strip_entered(s: &[u8], parent: &[u8], code: usize, operand: usize) -> bool
+    requires { ⌜ (length (now s) ≡ stripSize) × (length (now parent) ≡ stripSize) × (code ≡ 0x04 → operand < 16) × (code ≡ 0x05 → operand < 16) ⌝ }
+    ensures { λ r. ⌜ r ≡ same (now (s .entry)) (enter code 0 operand (now (parent .entry))) ⌝ }
+{
+    let mut entered = [0u8; STRIP_SIZE];
+    copy(&mut entered, parent);
+    enter_strip(&mut entered, code, operand);
+    is_same(s, &entered)
+}
+
+// A board is its parent's after an entry.
+pub fn is_entered(board: &[u8], parent: &[u8], code: usize, strip: Strip, operand: usize) -> bool
+    requires { ⌜ (length (now board) ≡ boardSize) × (length (now parent) ≡ boardSize) × (strip .0 < stripCount) × (code ≡ 0x04 → operand < 16) × (code ≡ 0x05 → operand < 16) ⌝ }
+    ensures { λ r. ⌜ r ≡ same (now (board .entry)) (enter code (strip .0) operand (now (parent .entry))) ⌝ }
+{
+    let k = strip.0;
+    let at = STRIP_SIZE * k;
+    let end = at + STRIP_SIZE;
+    let before = is_same(&board[..at], &parent[..at]);
+    let here = is_strip_entered(strip_of(board, k), strip_of(parent, k), code, operand);
+    let behind = is_same(&board[end..], &parent[end..]);
+    before & here & behind
+}

@@ -1,11 +1,11 @@
 -- Parts of a list: what stands in one, and what a list that grows by parts begins with.
 -- Assumes nothing.
-use Prim.Native.Nat.{ℕ, _+_, _<_, _≤_}
+use Prim.Native.Nat.{ℕ, _+_, _-_, _<_, _≤_}
 use mathlib.Core.Path.{_≡_, _∙_}
 use mathlib.Core.List.{List, _++_, append-assoc}
 use native.Mathlib.Omega.{arith}
-use lib.ListN.{length, getD, take, drop, length-append}
-use lib.Seq.{getD-take, getD-drop, length-take-le, take-at}
+use lib.ListN.{length, getD, take, drop, length-append, take-append-drop, length-drop}
+use lib.Seq.{getD-take, getD-drop, length-take-le, take-at, take-all, drop-drop}
 
 -- an element of the n elements from a place on
 pub part-at : (s : List ℕ) (at n i : ℕ) → i < n → getD (take n (drop at s)) i 0 ≡ getD s (at + i) 0
@@ -15,3 +15,11 @@ part-at s at n i h = getD-take n (drop at s) i 0 h ∙ getD-drop at s i 0
 pub take-put : (s ys rest : List ℕ) (at n : ℕ) → at ≤ length s → at + length ys ≡ n → take n (take at s ++ (ys ++ rest)) ≡ take at s ++ ys
 take-put s ys rest at n h e =
     rw (← append-assoc (take at s) ys rest) (take-at (take at s ++ ys) rest n (rw (length-append, length-take-le at s) e))
+
+-- a list is what lies before a part, the part, and what lies behind it
+pub three-parts : (s : List ℕ) (at n : ℕ) → take at s ++ (take n (drop at s) ++ drop (at + n) s) ≡ s
+three-parts s at n = rw (← drop-drop n at s, take-append-drop n (drop at s), take-append-drop at s)
+
+-- what lies from a place on, cut at the list's end
+pub rest-all : (s : List ℕ) (at : ℕ) → take (length s - at) (drop at s) ≡ drop at s
+rest-all s at = take-all (length s - at) (drop at s) (rw length-drop (omega arith))

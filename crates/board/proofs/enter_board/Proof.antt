@@ -1,0 +1,51 @@
+-- `board::enter_board` meets its contract.
+-- Assumes nothing.
+use Prim.Native.Nat.{_+_, _-_, _*_}
+use native.Mathlib.Omega.{arith}
+use denote.Ref.{now}
+use borrow.Author.Needs.{needs}
+use Rattle.board.specs.Board.{stripSize}
+use Rattle.board.proofs.Entries.{entered-back}
+use Rattle.board.proofs.enter_board.Statement.{statement}
+use Rattle.board.proofs.enter_board.Tie as tie
+
+mul-at : tie.Need-mul-at
+mul-at c = search needs
+
+add-end : tie.Need-add-end
+add-end c = search needs
+
+sub-enter-strip : tie.Need-sub-enter-strip
+sub-enter-strip c = search needs
+
+part-enter-strip-start : tie.Need-part-enter-strip-start
+part-enter-strip-start c = search needs
+
+part-enter-strip-end : tie.Need-part-enter-strip-end
+part-enter-strip-end c = search needs
+
+enter-strip-requires : tie.Need-enter-strip-requires
+enter-strip-requires c κs = search needs
+
+same-length : tie.Need-same-length
+same-length c = search needs
+
+returns : tie.Need-returns
+returns c =
+    let start = c .before .before .before .before .before .before in
+    let k = start .args .strip .0 in
+    entered-back (start .args .code) k (start .args .operand) (stripSize * k + stripSize - stripSize * k) (now (start .args .board))
+    (omega arith) (omega arith) (c .before .before .enter-strip .ensures)
+
+pub enter-board-spec : {M : Type 1} → statement M
+enter-board-spec =
+    tie.close
+    (tie.spec
+    mul-at
+    add-end
+    sub-enter-strip
+    part-enter-strip-start
+    part-enter-strip-end
+    enter-strip-requires
+    same-length
+    returns)
