@@ -10,25 +10,25 @@ use Rattle.board.proofs.enter_board.Statement.{statement}
 use Rattle.board.proofs.enter_board.Tie as tie
 
 mul-at : tie.Need-mul-at
-mul-at c = search needs
+mul-at c = omega arith
 
 add-end : tie.Need-add-end
-add-end c = search needs
+add-end c = omega arith
 
 sub-enter-strip : tie.Need-sub-enter-strip
-sub-enter-strip c = search needs
+sub-enter-strip c = omega arith
 
 part-enter-strip-start : tie.Need-part-enter-strip-start
-part-enter-strip-start c = search needs
+part-enter-strip-start c = omega arith
 
 part-enter-strip-end : tie.Need-part-enter-strip-end
-part-enter-strip-end c = search needs
+part-enter-strip-end c = omega arith
 
 enter-strip-requires : tie.Need-enter-strip-requires
 enter-strip-requires c κs = search needs
 
 same-length : tie.Need-same-length
-same-length c = search needs
+same-length c = omega arith
 
 returns : tie.Need-returns
 returns c =

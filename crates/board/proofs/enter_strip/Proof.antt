@@ -9,10 +9,10 @@ use Rattle.board.proofs.enter_strip.Statement.{statement}
 use Rattle.board.proofs.enter_strip.Tie as tie
 
 put-word-requires : tie.Need-put-word-requires
-put-word-requires c κs = search needs
+put-word-requires c κs = omega arith
 
 put-word-requires-2 : tie.Need-put-word-requires-2
-put-word-requires-2 c κs = search needs
+put-word-requires-2 c κs = omega arith
 
 put-mark-requires : tie.Need-put-mark-requires
 put-mark-requires c κs =
@@ -25,47 +25,47 @@ take-mark-requires c κs =
     omega arith
 
 count-up-requires : tie.Need-count-up-requires
-count-up-requires c κs = search needs
+count-up-requires c κs = omega arith
 
 count-up-requires-2 : tie.Need-count-up-requires-2
-count-up-requires-2 c κs = search needs
+count-up-requires-2 c κs = omega arith
 
 slice-write-s : tie.Need-slice-write-s
-slice-write-s c = search needs
+slice-write-s c = omega arith
 
 slice-write-s-2 : tie.Need-slice-write-s-2
-slice-write-s-2 c = search needs
+slice-write-s-2 c = omega arith
 
 same-length : tie.Need-same-length
-same-length c = search needs
+same-length c = omega arith
 
 returns : tie.Need-returns
 unfolding enter
 returns c = rw (c .before .before .before .before .match .keys1) (c .before .before .put-word .ensures)
 
 same-length-2 : tie.Need-same-length-2
-same-length-2 c = search needs
+same-length-2 c = omega arith
 
 returns-2 : tie.Need-returns-2
 unfolding enter
 returns-2 c = rw (c .before .before .before .before .match .keys2) (c .before .before .put-word2 .ensures)
 
 same-length-3 : tie.Need-same-length-3
-same-length-3 c = search needs
+same-length-3 c = omega arith
 
 returns-3 : tie.Need-returns-3
 unfolding enter
 returns-3 c = rw (c .before .before .before .before .match .keys3) (c .before .before .put-mark .ensures)
 
 same-length-4 : tie.Need-same-length-4
-same-length-4 c = search needs
+same-length-4 c = omega arith
 
 returns-4 : tie.Need-returns-4
 unfolding enter
 returns-4 c = rw (c .before .before .before .before .match .keys4) (c .before .before .take-mark .ensures)
 
 same-length-5 : tie.Need-same-length-5
-same-length-5 c = search needs
+same-length-5 c = omega arith
 
 returns-5 : tie.Need-returns-5
 unfolding enter

@@ -12,10 +12,10 @@ use Rattle.board.proofs.is_entered.Statement.{statement}
 use Rattle.board.proofs.is_entered.Tie as tie
 
 mul-at : tie.Need-mul-at
-mul-at c = search needs
+mul-at c = omega arith
 
 add-end : tie.Need-add-end
-add-end c = search needs
+add-end c = omega arith
 
 slice-aggregate-is-same : tie.Need-slice-aggregate-is-same
 slice-aggregate-is-same c = sym (length-take-le _ _ (omega arith))
@@ -30,34 +30,34 @@ is-same-requires c κs =
     length-take-le at (now (start .args .board)) (omega arith) ∙ sym (length-take-le at (now (start .args .parent)) (omega arith))
 
 strip-of-requires : tie.Need-strip-of-requires
-strip-of-requires c κs = search needs
+strip-of-requires c κs = omega arith
 
 strip-of-requires-2 : tie.Need-strip-of-requires-2
-strip-of-requires-2 c κs = search needs
+strip-of-requires-2 c κs = omega arith
 
 is-strip-entered-requires : tie.Need-is-strip-entered-requires
 is-strip-entered-requires c κs = search needs
 
 sub-is-same : tie.Need-sub-is-same
-sub-is-same c = search needs
+sub-is-same c = omega arith
 
 part-is-same-start : tie.Need-part-is-same-start
-part-is-same-start c = search needs
+part-is-same-start c = omega arith
 
 part-is-same-end : tie.Need-part-is-same-end
-part-is-same-end c = search needs
+part-is-same-end c = omega arith
 
 sub-is-same-2 : tie.Need-sub-is-same-2
-sub-is-same-2 c = search needs
+sub-is-same-2 c = omega arith
 
 part-is-same-start-2 : tie.Need-part-is-same-start-2
-part-is-same-start-2 c = search needs
+part-is-same-start-2 c = omega arith
 
 part-is-same-end-2 : tie.Need-part-is-same-end-2
-part-is-same-end-2 c = search needs
+part-is-same-end-2 c = omega arith
 
 is-same-requires-2 : tie.Need-is-same-requires-2
-is-same-requires-2 c κs = search needs
+is-same-requires-2 c κs = omega arith
 
 returns : tie.Need-returns
 returns c =

@@ -1,26 +1,27 @@
 -- `board::is_strip_entered` meets its contract.
 -- Assumes nothing.
+use native.Mathlib.Omega.{arith}
 use borrow.Author.Needs.{needs}
 use Rattle.board.proofs.is_strip_entered.Statement.{statement}
 use Rattle.board.proofs.is_strip_entered.Tie as tie
 
 slice-aggregate-copy : tie.Need-slice-aggregate-copy
-slice-aggregate-copy c = search needs
+slice-aggregate-copy c = omega arith
 
 copy-requires : tie.Need-copy-requires
-copy-requires c κs = search needs
+copy-requires c κs = omega arith
 
 slice-aggregate-enter-strip : tie.Need-slice-aggregate-enter-strip
-slice-aggregate-enter-strip c = search needs
+slice-aggregate-enter-strip c = omega arith
 
 enter-strip-requires : tie.Need-enter-strip-requires
 enter-strip-requires c κs = search needs
 
 slice-aggregate-is-same : tie.Need-slice-aggregate-is-same
-slice-aggregate-is-same c = search needs
+slice-aggregate-is-same c = omega arith
 
 is-same-requires : tie.Need-is-same-requires
-is-same-requires c κs = search needs
+is-same-requires c κs = omega arith
 
 returns : tie.Need-returns
 returns c = cc

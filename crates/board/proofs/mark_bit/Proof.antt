@@ -2,12 +2,11 @@
 -- Assumes nothing.
 use native.Mathlib.Omega.{arith}
 use lib.Pow.{shl-exact}
-use borrow.Author.Needs.{needs}
 use Rattle.board.proofs.mark_bit.Statement.{statement}
 use Rattle.board.proofs.mark_bit.Tie as tie
 
 shl-result : tie.Need-shl-result
-shl-result c = search needs
+shl-result c = omega arith
 
 returns : tie.Need-returns
 returns c = omega (arith, shl-exact {a = 1} 1 (c .args .mark) 64 (omega arith) (omega arith))

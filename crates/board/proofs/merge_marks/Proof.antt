@@ -1,16 +1,15 @@
 -- `board::merge_marks` meets its contract: marks of 16 bits stay within 16 bits.
 -- Assumes nothing.
 use native.Mathlib.Omega.{arith}
-use borrow.Author.Needs.{needs}
 use Rattle.board.proofs.Marks.{marks-small}
 use Rattle.board.proofs.merge_marks.Statement.{statement}
 use Rattle.board.proofs.merge_marks.Tie as tie
 
 marks-without-requires : tie.Need-marks-without-requires
-marks-without-requires c κs = search needs
+marks-without-requires c κs = omega arith
 
 marks-without-requires-2 : tie.Need-marks-without-requires-2
-marks-without-requires-2 c κs = search needs
+marks-without-requires-2 c κs = omega arith
 
 returns : tie.Need-returns
 returns c =

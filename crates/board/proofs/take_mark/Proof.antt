@@ -1,23 +1,23 @@
 -- `board::take_mark` meets its contract.
 -- Assumes nothing.
-use borrow.Author.Needs.{needs}
+use native.Mathlib.Omega.{arith}
 use Rattle.board.proofs.take_mark.Statement.{statement}
 use Rattle.board.proofs.take_mark.Tie as tie
 
 word-at-requires : tie.Need-word-at-requires
-word-at-requires c κs = search needs
+word-at-requires c κs = omega arith
 
 mark-bit-requires : tie.Need-mark-bit-requires
-mark-bit-requires c κs = search needs
+mark-bit-requires c κs = omega arith
 
 marks-without-requires : tie.Need-marks-without-requires
-marks-without-requires c κs = search needs
+marks-without-requires c κs = omega arith
 
 put-word-requires : tie.Need-put-word-requires
-put-word-requires c κs = search needs
+put-word-requires c κs = omega arith
 
 same-length : tie.Need-same-length
-same-length c = search needs
+same-length c = omega arith
 
 returns : tie.Need-returns
 returns c = cc
