@@ -120,17 +120,14 @@ row-told f n s b e h =
     ∙ sym (rowFrom-byte f 0 n k (omega arith)))
 
 -- one member more
-eqb-first : (b j : ℕ) → eqb b (b + j) ≡ eqb 0 j
-eqb-first b j =
-    bool-ext (eqb b (b + j)) (eqb 0 j)
-    (λ h. let e = eqb-true b (b + j) h in eq-eqb 0 j (omega arith))
-    (λ h. let e = eqb-true 0 j h in eq-eqb b (b + j) (omega arith))
-
 eqb-plus : (b i j : ℕ) → eqb (b + i) (b + j) ≡ eqb i j
 eqb-plus b i j =
     bool-ext (eqb (b + i) (b + j)) (eqb i j)
     (λ h. let e = eqb-true (b + i) (b + j) h in eq-eqb i j (omega arith))
     (λ h. let e = eqb-true i j h in eq-eqb (b + i) (b + j) (omega arith))
+
+eqb-first : (b j : ℕ) → eqb b (b + j) ≡ eqb 0 j
+eqb-first b j = ap (λ (k : ℕ). eqb k (b + j)) (omega arith) ∙ eqb-plus b 0 j
 
 one-bit : (b j : ℕ) → j < 8 → 2 ^ j ≡ rowByte (λ u. eqb u (b + j)) b
 one-bit b =
@@ -179,8 +176,10 @@ row-with f n v h =
 -- no member from a number on
 pub none-false : (s : List ℕ) (n v : ℕ) → noneFrom s n ≡ true → n ≤ v → member s v ≡ false
 none-false s n v h l =
-    let first = eqb-true _ _ (and-l (eqb (getD s (n / 8) 0 / 2 ^ (n % 8)) 0) (allZero (drop (n / 8 + 1) s)) h) in
-    let later = zero-at (drop (n / 8 + 1) s) (and-r (eqb (getD s (n / 8) 0 / 2 ^ (n % 8)) 0) (allZero (drop (n / 8 + 1) s)) h) in
+    let low = eqb (getD s (n / 8) 0 / 2 ^ (n % 8)) 0 in
+    let rest = allZero (drop (n / 8 + 1) s) in
+    let first = eqb-true _ _ (and-l low rest h) in
+    let later = zero-at (drop (n / 8 + 1) s) (and-r low rest h) in
     let none : getD s (v / 8) 0 / 2 ^ (v % 8) ≡ 0 =
     elim (ℕ-discrete (v / 8) (n / 8)) [
       | yes e ↦

@@ -34,6 +34,7 @@ pub record Field (r : Room) (c d z : ℕ) : Type 0 where
   pub away : (present r c ≡ true → present r d ≡ true → ⊥) → z ≡ 0
   pub both : present r c ≡ true → present r d ≡ true → (0 < z) × Meet (r .versions) (head r c) (head r d) (pred z)
 
+-- that is what the encoding has there
 pub field-is : {r : Room} {c d z : ℕ} → Field r c d z → z ≡ commonField r c d
 field-is {r} {c} {d} {z} f = go (present r c && present r d) refl
   where
@@ -54,6 +55,7 @@ field-of r c d h =
 field-sym : {r : Room} {c d z : ℕ} → Field r c d z → Field r d c z
 field-sym f = record { away = λ a. f .away (λ p q. a q p); both = λ p q. let k = f .both q p in (k .0, meet-sym (k .1)) }
 
+-- the two fields of two consoles are one
 pair-same : (s : List ℕ) (n c d : ℕ) → pairRight s n c d ≡ true → commonIn s d c ≡ commonIn s c d
 unfolding pairRight
 pair-same s n c d t = eqb-true _ _ (and-l (eqb (commonIn s d c) (commonIn s c d)) _ t)
