@@ -1,20 +1,20 @@
 -- What stands in each cell of a merged board, and of a board after an entry.
 -- Assumes nothing.
-use Prim.Native.Nat.{ℕ, zero, suc, _+_, _-_, _*_, _/_, _%_, _<_, _≤_}
+use Prim.Native.Nat.{ℕ, zero, suc, _+_, _-_, _*_, _<_}
 use mathlib.Core.Path.{_≡_, refl, sym, _∙_, ap}
-use mathlib.Core.List.{List, [], _∷_, _++_}
+use mathlib.Core.List.{List, _++_}
 use mathlib.Core.Bool.{Bool, true, false, cond, _&&_}
 use native.Mathlib.Omega.{arith}
 use native.Mathlib.Decide.{decLt}
 use borrow.Author.Tests.{eqb-false}
 use lib.Dec.{eqb}
-use lib.ListN.{length, getD, set, length-append, length-set, List·getD-append}
+use lib.ListN.{length, getD, set, List·getD-append}
 use lib.Seq.{getD-append-add, getD-set-other}
 use Rattle.laws.proofs.Logic.{and-rest}
-use Rattle.buffer.specs.Field.{word, wordAt, putWord}
+use Rattle.buffer.specs.Field.{wordAt, putWord}
 use Rattle.buffer.proofs.Fields.{bytes-word}
 use Rattle.buffer.proofs.Writes.{put-same, put-apart}
-use Rattle.board.specs.Board.{stripSize, stripCount, boardSize, mergeStrip, mergeStrips, mergeBoard, mergeCount, mergeSetting, mergeMarks, levelAt, headingAt, marksAt, callsAt, alertsAt, flagAt, without, enter}
+use Rattle.board.specs.Board.{stripSize, stripCount, mergeStrip, mergeStrips, mergeBoard, levelAt, headingAt, marksAt, callsAt, alertsAt, flagAt, enter}
 use Rattle.board.proofs.Length.{mergeStrips-length}
 
 -- a byte of a merged board is a byte of the merged strip

@@ -4,5 +4,4 @@ mod Marks
 mod Strips
 mod Boards
 mod Compare
-mod Copies
 mod Entries

@@ -1,6 +1,6 @@
 -- "32 strips of 12 bytes, 384 in all." The cells of a strip, what an entry writes, and how three boards are merged.
 use Prim.Native.Nat.{ℕ, zero, suc, _+_, _-_, _*_, _^_}
-use mathlib.Core.Bool.{Bool, true, false, cond, _&&_, _||_}
+use mathlib.Core.Bool.{Bool, true, false, cond}
 use mathlib.Core.List.{List, [], _∷_, _++_}
 use lib.Bits.{bitAnd, bitOr}
 use lib.Dec.{eqb, ltb}

@@ -1,4 +1,9 @@
 // A board: 32 strips of 12 bytes, and the rules that make the board of a new version.
+use buffer::copy;
+use buffer::is_same;
+use buffer::put_word;
+use buffer::wide;
+use buffer::word_at;
 ghost use mathlib.Core.Path.{_≡_};
 ghost use Prim.Native.Nat.{_+_, _*_, _^_, _<_};
 ghost use lib.Bits.{bitOr};
@@ -29,30 +34,6 @@ const REST: usize = 11;
 
 // The number of a strip of a board.
 pub struct Strip(pub usize);
-
-// A byte as a number.
-fn wide(x: u8) -> usize
-    ensures { λ r. ⌜ (r ≡ x) × (r < 256) ⌝ }
-{
-    x as usize
-}
-
-// The 16 bits that stand at a place.
-fn word_at(s: &[u8], at: usize) -> usize
-    requires { ⌜ at + 1 < length (now s) ⌝ }
-    ensures { λ r. ⌜ (r ≡ wordAt (now (s .entry)) at) × (r < 65536) ⌝ }
-{
-    wide(s[at]) * 256 + wide(s[at + 1])
-}
-
-// Writes a number's 16 bits at a place.
-fn put_word(s: &mut [u8], at: usize, x: usize)
-    requires { ⌜ at + 1 < length (now s) ⌝ }
-    ensures { λ _. ⌜ now (s .exit) ≡ putWord (now (s .entry)) at x ⌝ }
-{
-    s[at] = (x / 256 % 256) as u8;
-    s[at + 1] = (x % 256) as u8;
-}
 
 // A level or a heading of a merge: the giver's where the receiver kept the base's.
 fn merge_setting(l: usize, a: usize, b: usize) -> usize
@@ -211,18 +192,6 @@ pub fn merge_board(board: &mut [u8], l: &[u8], a: &[u8], b: &[u8])
     }
 }
 
-// Two parts are the same to the byte. Every byte is looked at, so that the loop has one way only.
-fn is_same(s: &[u8], t: &[u8]) -> bool
-    requires { ⌜ length (now s) ≡ length (now t) ⌝ }
-    ensures { λ r. ⌜ r ≡ same (now (s .entry)) (now (t .entry)) ⌝ }
-{
-    let mut difference: u8 = 0;
-    for i in 0..s.len() {
-        difference = difference | (s[i] ^ t[i]);
-    }
-    difference == 0
-}
-
 // A strip is the merge of three strips.
 fn is_strip_merged(s: &[u8], l: &[u8], a: &[u8], b: &[u8]) -> bool
     requires { ⌜ (length (now s) ≡ stripSize) × (length (now l) ≡ stripSize) × (length (now a) ≡ stripSize) × (length (now b) ≡ stripSize) ⌝ }
@@ -306,16 +275,6 @@ pub fn enter_board(board: &mut [u8], code: usize, strip: Strip, operand: usize)
     let at = STRIP_SIZE * strip.0;
     let end = at + STRIP_SIZE;
     enter_strip(&mut board[at..end], code, operand);
-}
-
-// Copies a part into another of its length.
-fn copy(to: &mut [u8], from: &[u8])
-    requires { ⌜ length (now to) ≡ length (now from) ⌝ }
-    ensures { λ _. ⌜ now (to .exit) ≡ now (from .entry) ⌝ }
-{
-    for i in 0..from.len() {
-        to[i] = from[i];
-    }
 }
 
 // A strip is another after an entry.

@@ -6,7 +6,7 @@ ghost use Rattle.buffer.specs.Field.{wordAt, putWord, same, allZero, zer
 ghost use Rattle.buffer.specs.Row.{member, union, intersection, withMember, noneFrom};
 
 // A byte as a number of the machine's width.
-fn wide(b: u8) -> usize
+pub fn wide(b: u8) -> usize
     ensures { λ r. ⌜ (r ≡ b) × (r < 256) ⌝ }
 {
     b as usize

@@ -7,7 +7,6 @@ use Rattle.buffer.specs.Row.{bit}
 use Rattle.store.specs.Layout.{storeSize, encode, roomIn, holdsStore}
 use Rattle.room.specs.Room.{Room, fresh}
 use Rattle.tape.specs.Tape.{tapeOf}
-use Rattle.unit.specs.declared.Reply.{Reply}
 use Rattle.unit.specs.Calls.{Outcome, openOutcome, commandOutcome, pauseOutcome, resumeOutcome, boardOutcome, heardReply, commonReply}
 use Rattle.cases.specs.Run.{Case, _gives_, fork, level, call, merge, made, dirty, replyList}
 

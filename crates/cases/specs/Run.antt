@@ -1,13 +1,12 @@
 -- How the cases are put: commands by name, rooms that commands make, and a row of the table.
-use Prim.Native.Nat.{ℕ, zero, suc, _+_, _/_, _%_}
-use mathlib.Core.Bool.{Bool, true, false, cond}
-use mathlib.Core.List.{List, [], _∷_, _++_}
+use Prim.Native.Nat.{ℕ, suc, _/_, _%_}
+use mathlib.Core.Bool.{cond}
+use mathlib.Core.List.{List, [], _∷_}
 use mathlib.Core.Option.{Option, none, some}
 use lib.Dec.{eqb}
-use lib.ListN.{length, getD, replicate, drop, take, set}
+use lib.ListN.{getD, replicate}
 use Rattle.buffer.specs.Field.{wordAt}
 use Rattle.board.specs.Board.{levelAt, headingAt, marksAt, callsAt, alertsAt, flagAt}
-use Rattle.command.specs.declared.Command.{Command}
 use Rattle.command.specs.declared.Decoded.{Decoded}
 use Rattle.command.specs.declared.Decoded.the-variants.{Whole, Refused}
 use Rattle.command.specs.Decode.{decode}
@@ -15,9 +14,7 @@ use Rattle.graph.specs.Graph.{versionCount}
 use Rattle.room.specs.Room.{Room, headOf, head}
 use Rattle.room.specs.Boards.{boardOf}
 use Rattle.room.specs.Step.{stepRefusal, step}
-use Rattle.store.specs.Layout.{storeSize, roomIn}
 use Rattle.unit.specs.declared.Reply.{Reply}
-use Rattle.unit.specs.Calls.{Outcome, openOutcome, commandOutcome}
 
 -- A row: what the definitions give, and what the paper says.
 pub record Case : Type 0 where

@@ -1,10 +1,9 @@
 -- The cases that the paper marks *, in its order.
 use Prim.Native.Nat.{ℕ, zero, suc, _+_}
-use mathlib.Core.Bool.{Bool, true, false, cond}
+use mathlib.Core.Bool.{cond}
 use mathlib.Core.List.{List, [], _∷_, _++_}
 use lib.Dec.{eqb}
-use lib.ListN.{getD}
-use Rattle.buffer.specs.Field.{word, wordAt}
+use Rattle.buffer.specs.Field.{word}
 use Rattle.board.specs.Board.{mergeStrip}
 use Rattle.command.specs.Decode.{decode}
 use Rattle.room.specs.Room.{Room, fresh}

@@ -1,9 +1,8 @@
 -- Each refusal of a tape (7 to 10), with a neighbour one step away that is accepted.
 use Prim.Native.Nat.{ℕ, _/_, _%_}
 use mathlib.Core.List.{List, [], _∷_, _++_}
-use Rattle.room.specs.Room.{Room, fresh}
 use Rattle.tape.specs.Tape.{contentOf, contentRefusal, tapeOf}
-use Rattle.cases.specs.Run.{Case, _gives_, made}
+use Rattle.cases.specs.Run.{Case, _gives_}
 use Rattle.cases.specs.Starred.{tape, crossed, stuck}
 
 abbrev pub start : ℕ → List ℕ

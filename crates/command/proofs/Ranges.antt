@@ -1,24 +1,19 @@
 -- A command that is decoded whole names consoles, strips and operands in range, and two different consoles where it names two.
 -- Assumes nothing.
-use Prim.Native.Nat.{ℕ, zero, suc, _<_}
-use mathlib.Core.Path.{_≡_, refl, sym, _∙_, ap, subst}
+use Prim.Native.Nat.{ℕ, _<_}
+use mathlib.Core.Path.{_≡_, refl, sym, subst}
 use mathlib.Core.Bool.{Bool, true, false, cond, not, _&&_, _||_}
-use mathlib.Core.List.{List, [], _∷_}
+use mathlib.Core.List.{List}
 use native.Mathlib.Omega.{arith}
-use borrow.Author.Tests.{eqb-true, eqb-false, not-false, ltb-true}
-use lib.Dec.{eqb, ltb, lit<}
-use lib.ListN.{length}
-use Rattle.laws.proofs.Logic.{clash, decide, and-rest, or-none-l, or-none-r, not-i, and-i}
-use Rattle.board.specs.declared.Strip.{Strip}
-use Rattle.command.specs.declared.Console.{Console}
+use borrow.Author.Tests.{eqb-true, eqb-false, ltb-true}
+use lib.Dec.{eqb, lit<}
+use Rattle.laws.proofs.Logic.{and-rest, or-none-l, or-none-r, not-i, and-i}
 use Rattle.command.specs.declared.Operands.{Operands}
 use Rattle.command.specs.declared.Command.{Command}
 use Rattle.command.specs.declared.Command.the-variants.{Fork, Entry, Merge, FastForward}
-use Rattle.command.specs.declared.Decoded.{Decoded}
 use Rattle.command.specs.declared.Decoded.the-variants.{Whole, Refused}
-use Rattle.command.specs.Refusal.{_when_, firstRefusal}
-use Rattle.command.specs.Code.{consoleCount, shapeOf, lengthOf, isEntryCode, isConsole, isStrip, isOperand}
-use Rattle.command.specs.Decode.{codeIn, operandsIn, isCommandCode, commandRefusal, commandOf, decode}
+use Rattle.command.specs.Code.{consoleCount, isEntryCode, isConsole, isStrip, isOperand}
+use Rattle.command.specs.Decode.{codeIn, operandsIn, commandRefusal, commandOf, decode}
 use Rattle.command.proofs.Refusals.{none-applies}
 
 -- two different consoles

@@ -1,8 +1,8 @@
 -- "One code byte, then operands; the code alone decides the length." Codes of commands and of tape records, the widths of what follows
 -- each, and which numbers may stand there.
 use Prim.Native.Nat.{ℕ, _+_}
-use mathlib.Core.Bool.{Bool, true, false, cond, _&&_, _||_}
-use mathlib.Core.List.{List, [], _∷_}
+use mathlib.Core.Bool.{Bool, cond, _&&_}
+use mathlib.Core.List.{List}
 use lib.Dec.{eqb, leb, ltb}
 use lib.ListN.{getD}
 use Rattle.buffer.specs.Field.{wordAt}

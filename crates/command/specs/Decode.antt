@@ -1,12 +1,10 @@
 -- "A command is decoded whole, or the call ends with its refusal." What a byte string decodes to, with the refusals 1 to 6.
-use Prim.Native.Nat.{ℕ, _+_, suc}
-use mathlib.Core.Bool.{Bool, true, false, cond, not, _&&_, _||_}
+use Prim.Native.Nat.{ℕ}
+use mathlib.Core.Bool.{Bool, cond, not, _&&_, _||_}
 use mathlib.Core.List.{List, [], _∷_}
 use lib.Dec.{eqb}
 use lib.ListN.{length, getD}
 use Rattle.buffer.specs.Field.{word}
-use Rattle.board.specs.declared.Strip.{Strip}
-use Rattle.command.specs.declared.Console.{Console}
 use Rattle.command.specs.declared.Operands.{Operands}
 use Rattle.command.specs.declared.Command.{Command}
 use Rattle.command.specs.declared.Command.the-variants.{Fork, Entry, Merge, FastForward}

@@ -1,6 +1,6 @@
 -- "Versions are numbered from 0. Version 0 has an empty board and no parent. Every later version is an entry (one parent, one strip
 -- change) or a merge (receiver's parent, giver's parent, base)." The version graph, ancestors, and the meet of two versions.
-use Prim.Native.Nat.{ℕ, zero, suc}
+use Prim.Native.Nat.{ℕ, suc}
 use mathlib.Core.Bool.{Bool, true, false, cond, not, _&&_, _||_}
 use mathlib.Core.List.{List, [], _∷_}
 use mathlib.Core.Option.{Option, none, some, Option·getD}

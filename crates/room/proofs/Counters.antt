@@ -1,9 +1,9 @@
 -- The counting law: on every board of a well-formed graph the calls of a strip are the call entries of that strip among the version's
 -- ancestors, and the alert count is the alert entries; so a + b − l never goes below 0 nor above 16 bits.
 -- Assumes nothing.
-use Prim.Native.Nat.{ℕ, zero, suc, _+_, _-_, _*_, _≤_, _<_}
+use Prim.Native.Nat.{ℕ, _+_, _≤_, _<_}
 use mathlib.Core.Path.{_≡_, refl, sym, _∙_, ap}
-use mathlib.Core.Bool.{Bool, true, false, cond, _&&_}
+use mathlib.Core.Bool.{Bool, false, cond, _&&_}
 use mathlib.Core.List.{List, [], _∷_}
 use mathlib.Core.Logic.{inl, inr}
 use mathlib.Core.Option.{Option, none, some, Option·getD}
@@ -11,7 +11,7 @@ use native.Mathlib.Omega.{arith}
 use native.Mathlib.Decide.{ℕ-discrete}
 use borrow.Author.Tests.{eqb-true, eq-eqb, ne-eqb}
 use lib.Dec.{eqb}
-use lib.ListN.{length, getD, replicate, getD-replicate}
+use lib.ListN.{length, getD-replicate}
 use Rattle.laws.proofs.Logic.{decide, and-l, and-r, cond-true, cond-false}
 use Rattle.buffer.specs.Field.{wordAt}
 use Rattle.board.specs.Board.{stripCount, boardSize, emptyBoard, callsAt, alertsAt, mergeCount, mergeBoard, enter}
@@ -21,7 +21,7 @@ use Rattle.graph.specs.Below.{countBelow}
 use Rattle.graph.proofs.Below.{count-ext}
 use Rattle.graph.proofs.Ancestor.{every-new, ancestor-below, nodeOf-new, nodeOf-old, nodeOf-named}
 use Rattle.graph.proofs.Parent.{parent-lower, sole, receiver, giver}
-use Rattle.graph.proofs.Meet.{Meet, meet-found}
+use Rattle.graph.proofs.Meet.{meet-found}
 use Rattle.graph.proofs.Growth.{WellFormed, wellFormed-old, merge-base}
 use Rattle.graph.proofs.Counting.{held, held-old, held-entry, held-merge, held-bound}
 use Rattle.room.specs.Boards.{boardMade, boardOf}

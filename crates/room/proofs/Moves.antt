@@ -1,16 +1,16 @@
 -- When a console moves to another's head, and when it moves to a new version, a sound room stays sound.
 -- Assumes nothing.
-use Prim.Native.Nat.{ℕ, zero, suc, _≤_, _<_}
-use mathlib.Core.Path.{_≡_, refl, sym, _∙_, ap, subst₂}
-use mathlib.Core.Bool.{Bool, true, false}
-use mathlib.Core.List.{List, _∷_}
+use Prim.Native.Nat.{ℕ, suc, _<_}
+use mathlib.Core.Path.{_≡_, sym, _∙_, ap, subst₂}
+use mathlib.Core.Bool.{true}
+use mathlib.Core.List.{_∷_}
 use mathlib.Core.Option.{Option, none, some, Option·getD}
 use native.Mathlib.Omega.{arith}
 use native.Mathlib.Decide.{ℕ-discrete, decLt}
-use lib.ListN.{length, getD, length-set}
+use lib.ListN.{length, length-set}
 use lib.Seq.{getD-set-same, getD-set-other}
-use Rattle.laws.proofs.Logic.{clash, and-i}
-use Rattle.graph.specs.Graph.{Graph, Node, versionCount, ancestor, isSome, everyVersion, parentsLower, mergeHasBase}
+use Rattle.laws.proofs.Logic.{and-i}
+use Rattle.graph.specs.Graph.{Node, versionCount, ancestor, isSome, everyVersion, parentsLower, mergeHasBase}
 use Rattle.graph.proofs.Parent.{Parent}
 use Rattle.graph.proofs.Ancestor.{ancestor-old, ancestor-same, ancestor-above, ancestor-trans, ancestor-named}
 use Rattle.graph.proofs.Meet.{Meet, meet-sym, meet-self, Meet-new}
@@ -18,7 +18,7 @@ use Rattle.command.specs.Code.{consoleCount}
 use Rattle.room.specs.Room.{Room, headOf, present, head}
 use Rattle.room.specs.Sound.{entryInRange}
 use Rattle.room.specs.Step.{moved, grown}
-use Rattle.room.proofs.Sound.{Sound, present-console, present-head}
+use Rattle.room.proofs.Sound.{Sound, present-console}
 
 module _ (r : Room) (c : ℕ) (h : Option ℕ) where
   pub head-set : c < length (r .heads) → headOf (moved r c h) c ≡ h

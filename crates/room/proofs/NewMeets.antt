@@ -1,16 +1,16 @@
 -- The meets of a new version with an older one: at an entry the parent's, at a merge the later of the parents', and there is one exactly
 -- when one of the parents' meets is behind the other.
 -- Assumes nothing.
-use Prim.Native.Nat.{ℕ, zero, suc, _≤_, _<_}
-use mathlib.Core.Path.{_≡_, refl, sym, _∙_, ap}
-use mathlib.Core.Bool.{Bool, true, false}
-use mathlib.Core.List.{List, _∷_}
+use Prim.Native.Nat.{ℕ, _<_}
+use mathlib.Core.Path.{_≡_, sym, _∙_}
+use mathlib.Core.Bool.{true}
+use mathlib.Core.List.{_∷_}
 use mathlib.Core.Logic.{_⊎_, inl, inr}
 use native.Mathlib.Omega.{arith}
 use Rattle.graph.specs.Graph.{Graph, Node, entry, merge, versionCount, ancestor}
 use Rattle.graph.proofs.Parent.{Parent, sole, receiver, giver}
-use Rattle.graph.proofs.Ancestor.{Ways, same, above, before, ways, ancestor-old, ancestor-above, ancestor-le, ancestor-named, ancestor-trans}
-use Rattle.graph.proofs.Meet.{Meet, meet-sym, meet-behind}
+use Rattle.graph.proofs.Ancestor.{same, above, before, ways, ancestor-old, ancestor-above, ancestor-le, ancestor-trans}
+use Rattle.graph.proofs.Meet.{Meet}
 
 -- a common ancestor of the new version and an older one is one of a parent and that one
 through : (n : Node) (g : Graph) (h w : ℕ) → h < versionCount g → ancestor (n ∷ g) w (versionCount g) ≡ true → ancestor (n ∷ g) w h ≡ true

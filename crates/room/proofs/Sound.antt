@@ -1,22 +1,20 @@
 -- The clauses of soundness as facts: what a sound room gives, and what makes a room sound.
 -- Assumes nothing.
-use Prim.Native.Nat.{ℕ, zero, suc, _≤_, _<_}
-use mathlib.Core.Path.{_≡_, refl, sym, _∙_, ap}
-use mathlib.Core.Bool.{Bool, true, false, not, _&&_, _||_}
+use Prim.Native.Nat.{ℕ, _≤_, _<_}
+use mathlib.Core.Path.{_≡_, refl, ap}
+use mathlib.Core.Bool.{true}
 use mathlib.Core.Option.{Option, none, some, Option·getD}
 use native.Mathlib.Omega.{arith}
 use native.Mathlib.Decide.{decLt}
 use borrow.Author.Tests.{eqb-true, eq-eqb, ltb-true, lt-ltb, leb-true, le-leb}
-use lib.Dec.{eqb, leb, ltb}
-use lib.ListN.{length, getD, List·getD-eq-default}
+use lib.ListN.{length, List·getD-eq-default}
 use Rattle.laws.proofs.Logic.{clash, and-l, and-r, and-i, implies-i2, implies-e2}
-use Rattle.graph.specs.Below.{everyBelow, someBelow}
 use Rattle.graph.specs.Graph.{Graph, versionCount, ancestor, meet, isSome, everyVersion, parentsLower, mergeHasBase}
 use Rattle.graph.proofs.Below.{at, of, some-at, some-of}
 use Rattle.graph.proofs.Meet.{Meet, meet-is, meet-found}
 use Rattle.command.specs.Code.{consoleCount}
 use Rattle.room.specs.Room.{Room, headOf, present, head}
-use Rattle.room.specs.Sound.{isCapacity, entryInRange, namesVersion, headsNameVersions, twoMeet, headsMeet, behindHead, allBehindHeads, soundRoom}
+use Rattle.room.specs.Sound.{isCapacity, entryInRange, namesVersion, headsNameVersions, twoMeet, headsMeet, allBehindHeads, soundRoom}
 
 pub record Sound (r : Room) : Type 0 where
   pub lower : everyVersion parentsLower (r .versions) ≡ true

@@ -1,33 +1,32 @@
 -- Opening gives a sound room, each accepted command takes a sound room to a sound room, and refusal 17 is given exactly where the merge
 -- would leave two consoles without a single lowest common ancestor.
 -- Assumes nothing.
-use Prim.Native.Nat.{ℕ, zero, suc, _≤_, _<_}
+use Prim.Native.Nat.{ℕ, _<_}
 use mathlib.Core.Path.{_≡_, refl, sym, _∙_, ap, subst, subst₂}
-use mathlib.Core.Bool.{Bool, true, false, cond, not, _&&_, _||_}
-use mathlib.Core.List.{List, [], _∷_}
-use mathlib.Core.Logic.{_⊎_, inl, inr}
-use mathlib.Core.Option.{Option, none, some, Option·getD}
-use native.Mathlib.Omega.{arith}
+use mathlib.Core.Bool.{true, false, not, _&&_}
+use mathlib.Core.List.{_∷_}
+use mathlib.Core.Logic.{inl, inr}
+use mathlib.Core.Option.{Option, Option·getD}
 use native.Mathlib.Decide.{ℕ-discrete}
 use borrow.Author.Tests.{leb-false, lt-ltb, ne-eqb, eqb-false, not-false}
 use lib.Dec.{lit<, eqb}
 use Rattle.board.specs.declared.Strip.{Strip}
 use Rattle.laws.proofs.Logic.{clash, decide, refuted, and-l, and-r, and-i, and-rest, implies-i2, implies-e2, or-none-l, or-none-r, not-e, not-i}
-use Rattle.graph.specs.Graph.{Graph, Node, entry, merge, versionCount, ancestor, meet, isSome, isMeet, everyVersion, parentsLower, mergeHasBase}
+use Rattle.graph.specs.Graph.{Node, entry, merge, versionCount, ancestor, meet, isSome, isMeet, everyVersion, parentsLower, mergeHasBase}
 use Rattle.graph.specs.Below.{everyBelow, someBelow, highestBelow}
 use Rattle.graph.proofs.Below.{at, of, some-at, some-of}
-use Rattle.graph.proofs.Parent.{Parent, sole, receiver, giver}
+use Rattle.graph.proofs.Parent.{sole, receiver, giver}
 use Rattle.graph.proofs.Ancestor.{ancestor-above, ancestor-self}
-use Rattle.graph.proofs.Meet.{Meet, meet-is, meet-found, meet-sym, meet-behind, meet-unique}
+use Rattle.graph.proofs.Meet.{Meet, meet-found, meet-sym, meet-behind}
 use Rattle.command.specs.declared.Console.{Console}
 use Rattle.command.specs.declared.Command.{Command}
 use Rattle.command.specs.declared.Command.the-variants.{Fork, Entry, Merge, FastForward}
-use Rattle.command.specs.Code.{consoleCount, isEntryCode, isStrip, isOperand}
+use Rattle.command.specs.Code.{consoleCount}
 use Rattle.command.proofs.Refusals.{none-applies}
 use Rattle.command.proofs.Ranges.{InRange}
-use Rattle.room.specs.Room.{Room, headOf, present, head, common, fresh}
+use Rattle.room.specs.Room.{Room, present, head, common, fresh}
 use Rattle.room.specs.Sound.{isCapacity, headsMeet, allBehindHeads, soundRoom}
-use Rattle.room.specs.Step.{absent, behind, apart, splits, someThirdSplits, full, stepRefusal, moved, grown, step}
+use Rattle.room.specs.Step.{absent, behind, apart, splits, someThirdSplits, stepRefusal, grown, step}
 use Rattle.room.proofs.Sound.{Sound, present-console, present-head, meets-of, sound-facts, facts-sound}
 use Rattle.room.proofs.Moves.{there, number, new-head, new-number, kept, moved-sound, grown-sound, grown-meets}
 use Rattle.room.proofs.NewMeets.{entry-meet, merge-meet-receiver, merge-meet-giver, merge-meet-ordered}

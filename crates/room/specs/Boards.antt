@@ -1,6 +1,6 @@
 -- "every board is what the rules below give": the board of each version of a graph.
-use Prim.Native.Nat.{ℕ, suc}
-use mathlib.Core.Bool.{Bool, cond}
+use Prim.Native.Nat.{ℕ}
+use mathlib.Core.Bool.{cond}
 use mathlib.Core.List.{List, [], _∷_}
 use lib.Dec.{eqb}
 use Rattle.board.specs.Board.{emptyBoard, enter, mergeBoard}

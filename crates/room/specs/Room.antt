@@ -1,7 +1,7 @@
 -- "One store serves one training room: up to 16 consoles, each a branch of one version graph." What a store holds, without its bytes.
-use Prim.Native.Nat.{ℕ, suc}
+use Prim.Native.Nat.{ℕ}
 use mathlib.Core.Bool.{Bool, _&&_}
-use mathlib.Core.List.{List, [], _∷_}
+use mathlib.Core.List.{List, []}
 use mathlib.Core.Option.{Option, none, some, Option·getD}
 use lib.ListN.{getD, set, replicate}
 use Rattle.graph.specs.Below.{countBelow}

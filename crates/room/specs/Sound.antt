@@ -1,8 +1,7 @@
 -- "A store is sound when: .." The clauses on the room, one by one. That its bytes show the right boards, rows, bases and commons is the
 -- clause "the bytes are its one encoding", in the store's Layout (`holdsStore`), as those are functions of the room.
-use Prim.Native.Nat.{ℕ, suc}
-use mathlib.Core.Bool.{Bool, true, false, not, _&&_, _||_}
-use mathlib.Core.List.{List, [], _∷_}
+use Prim.Native.Nat.{ℕ}
+use mathlib.Core.Bool.{Bool, true, not, _&&_, _||_}
 use mathlib.Core.Option.{Option, none, some}
 use lib.Dec.{eqb, leb, ltb}
 use lib.ListN.{length}

@@ -1,14 +1,12 @@
 -- What each command does to a room, and the refusals 12 to 18 in their order.
-use Prim.Native.Nat.{ℕ, suc}
-use mathlib.Core.Bool.{Bool, true, false, not, _&&_, _||_}
-use mathlib.Core.List.{List, [], _∷_}
-use mathlib.Core.Option.{Option, none, some}
+use Prim.Native.Nat.{ℕ}
+use mathlib.Core.Bool.{Bool, not, _&&_, _||_}
+use mathlib.Core.List.{[], _∷_}
+use mathlib.Core.Option.{Option, some}
 use lib.Dec.{eqb, leb}
 use lib.ListN.{set}
-use Rattle.board.specs.declared.Strip.{Strip}
 use Rattle.graph.specs.Below.{someBelow}
-use Rattle.graph.specs.Graph.{Graph, Node, entry, merge, versionCount, ancestor}
-use Rattle.command.specs.declared.Console.{Console}
+use Rattle.graph.specs.Graph.{Node, entry, merge, versionCount, ancestor}
 use Rattle.command.specs.declared.Command.{Command}
 use Rattle.command.specs.declared.Command.the-variants.{Fork, Entry, Merge, FastForward}
 use Rattle.command.specs.Refusal.{_when_, firstRefusal}

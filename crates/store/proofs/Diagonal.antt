@@ -1,7 +1,7 @@
 -- The meet of a version with itself is that version, and no meet is above the newest version: what the table of common versions
 -- needs of graphs.
 -- Assumes nothing.
-use mathlib.Core.Path.{_≡_, refl}
+use mathlib.Core.Path.{_≡_}
 use mathlib.Core.Bool.{Bool, true, false, cond}
 use mathlib.Core.Option.{some, Option·getD}
 use Prim.Native.Nat.{ℕ, zero, suc, pred, _≤_, _<_}

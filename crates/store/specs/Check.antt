@@ -1,8 +1,8 @@
 -- The test that the code makes of lent bytes, in one pass over the versions: each version is held against the parts of its parents and its
 -- base, which were tested before it. That it says of any bytes what `holdsStore` says is a theorem, so a reader need not believe this file.
 use Prim.Native.Nat.{ℕ, zero, suc, pred, _+_, _-_, _*_}
-use mathlib.Core.Bool.{Bool, true, false, cond, not, _&&_, _||_}
-use mathlib.Core.List.{List, [], _∷_}
+use mathlib.Core.Bool.{Bool, cond, not, _&&_, _||_}
+use mathlib.Core.List.{List}
 use lib.Dec.{eqb, leb, ltb}
 use lib.ListN.{length, getD}
 use Rattle.buffer.specs.Field.{wordAt, zeros, part, same, allZero}
@@ -11,7 +11,7 @@ use Rattle.board.specs.Board.{boardSize, enter, mergeBoard}
 use Rattle.graph.specs.Below.{everyBelow}
 use Rattle.command.specs.Code.{consoleCount, isEntryCode, isStrip, isOperand}
 use Rattle.room.specs.Sound.{isCapacity}
-use Rattle.store.specs.Layout.{headerSize, nodeSize, rowSize, blockSize, storeSize, capacityAt, countAt, entriesAt, commonsEnd, commonAt, headAt, blockAt, nodeCodeAt, nodeStripAt, nodeOperandAt, nodeParentAt, nodeGiverAt, nodeBaseAt, rowAt, boardAt}
+use Rattle.store.specs.Layout.{headerSize, nodeSize, rowSize, blockSize, storeSize, capacityAt, countAt, entriesAt, commonsEnd, commonAt, blockAt, nodeCodeAt, nodeStripAt, nodeOperandAt, nodeParentAt, nodeGiverAt, nodeBaseAt, rowAt, boardAt}
 
 abbrev pub rowPart : List ℕ → ℕ → List ℕ
 rowPart s v = part s (rowAt v) rowSize

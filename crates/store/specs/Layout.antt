@@ -10,7 +10,7 @@ use Rattle.buffer.specs.Field.{byte, word, wordAt, zeros, same}
 use Rattle.buffer.specs.Row.{row}
 use Rattle.board.specs.Board.{boardSize}
 use Rattle.graph.specs.Graph.{Graph, Node, entry, merge, versionCount, ancestor, isEntry, nodeOf, baseOf}
-use Rattle.command.specs.Code.{consoleCount, isEntryCode}
+use Rattle.command.specs.Code.{consoleCount}
 use Rattle.room.specs.Room.{Room, present, common}
 use Rattle.room.specs.Sound.{maxCapacity, soundRoom}
 use Rattle.room.specs.Boards.{boardOf}

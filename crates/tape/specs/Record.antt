@@ -1,14 +1,11 @@
 -- "20, capacity (16 bits); one record per version from 1 upward; one head record per present console, consoles rising; 24, the last
 -- byte." What stands at the front of a tape, and the bytes of a record.
 use Prim.Native.Nat.{ℕ}
-use mathlib.Core.Bool.{Bool, cond}
+use mathlib.Core.Bool.{cond}
 use mathlib.Core.List.{List, [], _∷_, _++_}
 use lib.Dec.{eqb, ltb}
 use lib.ListN.{length, getD}
 use Rattle.buffer.specs.Field.{byte, word}
-use Rattle.board.specs.declared.Strip.{Strip}
-use Rattle.graph.specs.declared.Version.{Version}
-use Rattle.command.specs.declared.Console.{Console}
 use Rattle.command.specs.declared.Operands.{Operands}
 use Rattle.command.specs.Code.{shapeOf, lengthOf, operandsOf}
 use Rattle.tape.specs.declared.Record.{Record}

@@ -1,15 +1,12 @@
 -- "20, capacity (16 bits); one record per version from 1 upward; one head record per present console, consoles rising; 24, the last
 -- byte." The tape of a room, the grammar of tapes, the room of a tape, and the refusals 7 to 10.
 use Prim.Native.Nat.{ℕ, zero, suc}
-use mathlib.Core.Bool.{Bool, true, false, cond, not, _&&_, _||_}
+use mathlib.Core.Bool.{Bool, true, false, cond, not, _&&_}
 use mathlib.Core.List.{List, [], _∷_, _++_}
 use mathlib.Core.Option.{Option, none, some}
 use lib.Dec.{eqb, leb, ltb}
 use lib.ListN.{length, drop, set, replicate}
-use Rattle.board.specs.declared.Strip.{Strip}
-use Rattle.graph.specs.declared.Version.{Version}
 use Rattle.graph.specs.Graph.{Graph, Node, entry, merge, versionCount, everyVersion, parentsLower}
-use Rattle.command.specs.declared.Console.{Console}
 use Rattle.command.specs.Refusal.{_when_, firstRefusal}
 use Rattle.command.specs.Code.{consoleCount, isConsole}
 use Rattle.room.specs.Room.{Room}

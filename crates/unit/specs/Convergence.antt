@@ -8,9 +8,7 @@ use mathlib.Core.List.{List, [], _∷_}
 use lib.ListN.{length}
 use Rattle.buffer.specs.Field.{wordAt}
 use Rattle.board.specs.Board.{stripCount, boardSize, callsAt}
-use Rattle.room.specs.Room.{Room}
 use Rattle.store.specs.Layout.{roomIn, holdsStore}
-use Rattle.unit.specs.declared.Reply.{Reply}
 use Rattle.unit.specs.Calls.{Call, opening, command, pause, resume, board, heard, commonVersion, replied, replyTo, storeAfter, boardOutcome, heardReply, commonReply}
 use Rattle.unit.specs.Journal.{Journal, isPresent, headNumber, feed, leads, holds, hasHeard, commonTo, entriesHeard, callsHeard}
 

@@ -6,11 +6,8 @@ use mathlib.Core.List.{List, [], _∷_, map}
 use mathlib.Core.Option.{Option, none, some, Option·getD}
 use lib.Dec.{eqb}
 use lib.ListN.{length, getD, set, replicate}
-use Rattle.board.specs.declared.Strip.{Strip}
 use Rattle.graph.specs.Below.{countBelow}
 use Rattle.graph.specs.Graph.{Node, entry, merge, isSome}
-use Rattle.command.specs.declared.Console.{Console}
-use Rattle.command.specs.declared.Command.{Command}
 use Rattle.command.specs.declared.Command.the-variants.{Fork, Entry, Merge, FastForward}
 use Rattle.command.specs.declared.Decoded.{Decoded}
 use Rattle.command.specs.declared.Decoded.the-variants.{Whole, Refused}
