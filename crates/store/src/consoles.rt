@@ -1,13 +1,15 @@
 // Whether the table of common versions is right: each console's head, each pair's meet, and that every version stands behind a head.
 use crate::places;
 ghost use mathlib.Core.Path.{_≡_};
-ghost use Prim.Native.Nat.{suc, _<_, _≤_};
+ghost use mathlib.Core.Bool.{cond, _&&_, _||_};
+ghost use Prim.Native.Nat.{suc, pred, _<_, _≤_};
+ghost use lib.Dec.{eqb, leb, ltb};
 ghost use lib.ListN.{length};
 ghost use Rattle.buffer.specs.Field.{same};
 ghost use Rattle.buffer.specs.Row.{intersection};
 ghost use Rattle.command.specs.Code.{consoleCount};
 ghost use Rattle.store.specs.Layout.{headerSize, blockAt};
-ghost use Rattle.store.specs.Check.{rowPart, commonIn};
+ghost use Rattle.store.specs.Check.{rowPart, commonIn, pairRight};
 
 // The field of two consoles in the table of commons.
 fn common_in(s: &[u8], c: usize, d: usize) -> usize
@@ -30,4 +32,45 @@ fn rows_meet(s: &[u8], m: usize, u: usize, v: usize) -> bool
         places::row_of(s, u),
         places::row_of(s, v),
     )
+}
+
+// Whether m is the field of two consoles whose own fields are u and v.
+fn meet_right(s: &[u8], n: usize, m: usize, u: usize, v: usize) -> bool
+    requires { ⌜ blockAt n ≤ length (now s) ⌝ }
+    requires { ⌜ (u ≤ n) × (v ≤ n) ⌝ }
+    ensures { λ r. ⌜ r ≡ cond (eqb u 0 || eqb v 0)
+        (eqb m 0)
+        (ltb 0 m && leb m n
+        && same (rowPart (now (s .entry)) (pred m)) (intersection (rowPart (now (s .entry)) (pred u)) (rowPart (now (s .entry)) (pred v)))) ⌝ }
+{
+    if u == 0 {
+        return m == 0;
+    }
+    if v == 0 {
+        return m == 0;
+    }
+    if m == 0 {
+        return false;
+    }
+    if n < m {
+        return false;
+    }
+    rows_meet(s, m - 1, u - 1, v - 1)
+}
+
+// Whether the table is right at two consoles, whose heads are versions.
+fn pair_right(s: &[u8], n: usize, c: usize, d: usize) -> bool
+    requires { ⌜ blockAt n ≤ length (now s) ⌝ }
+    requires { ⌜ (c < consoleCount) × (d < consoleCount) ⌝ }
+    requires { ⌜ (commonIn (now s) c c ≤ n) × (commonIn (now s) d d ≤ n) ⌝ }
+    ensures { λ r. ⌜ r ≡ pairRight (now (s .entry)) n c d ⌝ }
+{
+    let m = common_in(s, c, d);
+    let other = common_in(s, d, c);
+    if other != m {
+        return false;
+    }
+    let u = common_in(s, c, c);
+    let v = common_in(s, d, d);
+    meet_right(s, n, m, u, v)
 }
