@@ -3,3 +3,4 @@ pub mod Blocks
 pub mod Ranges
 pub mod Reading
 pub mod RoundTrip
+pub mod Heads

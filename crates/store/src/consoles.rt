@@ -2,14 +2,15 @@
 use crate::places;
 ghost use mathlib.Core.Path.{_≡_};
 ghost use mathlib.Core.Bool.{cond, _&&_, _||_};
-ghost use Prim.Native.Nat.{suc, pred, _<_, _≤_};
+ghost use Prim.Native.Nat.{ℕ, suc, pred, _<_, _≤_};
 ghost use lib.Dec.{eqb, leb, ltb};
 ghost use lib.ListN.{length};
 ghost use Rattle.buffer.specs.Field.{same};
 ghost use Rattle.buffer.specs.Row.{intersection};
+ghost use Rattle.graph.specs.Below.{everyBelow};
 ghost use Rattle.command.specs.Code.{consoleCount};
 ghost use Rattle.store.specs.Layout.{headerSize, blockAt};
-ghost use Rattle.store.specs.Check.{rowPart, commonIn, pairRight};
+ghost use Rattle.store.specs.Check.{rowPart, commonIn, pairRight, consoleRight};
 
 // The field of two consoles in the table of commons.
 fn common_in(s: &[u8], c: usize, d: usize) -> usize
@@ -73,4 +74,36 @@ fn pair_right(s: &[u8], n: usize, c: usize, d: usize) -> bool
     let u = common_in(s, c, c);
     let v = common_in(s, d, d);
     meet_right(s, n, m, u, v)
+}
+
+// Whether console c's head is a version and the table is right at c and each console below it, whose heads are versions.
+fn console_right(s: &[u8], n: usize, c: usize) -> bool
+    requires { ⌜ blockAt n ≤ length (now s) ⌝ }
+    requires { ⌜ c < consoleCount ⌝ }
+    requires { ⌜ ((k : ℕ) → k < c → commonIn (now s) k k ≤ n) ⌝ }
+    ensures { λ r. ⌜ r ≡ consoleRight (now (s .entry)) n c ⌝ }
+{
+    let own = common_in(s, c, c);
+    if n < own {
+        return false;
+    }
+    for d in 0..c {
+        if !pair_right(s, n, c, d) {
+            return false;
+        }
+    }
+    true
+}
+
+// Whether the whole table of commons is right.
+pub fn consoles_right(s: &[u8], n: usize) -> bool
+    requires { ⌜ blockAt n ≤ length (now s) ⌝ }
+    ensures { λ r. ⌜ r ≡ everyBelow consoleCount (consoleRight (now (s .entry)) n) ⌝ }
+{
+    for c in 0..places::CONSOLES {
+        if !console_right(s, n, c) {
+            return false;
+        }
+    }
+    true
 }
