@@ -4,3 +4,4 @@ pub mod Ranges
 pub mod Reading
 pub mod RoundTrip
 pub mod Heads
+pub mod Full

@@ -2,14 +2,14 @@
 use crate::places;
 ghost use mathlib.Core.Path.{_≡_};
 ghost use mathlib.Core.Bool.{cond, _&&_, _||_};
-ghost use Prim.Native.Nat.{ℕ, suc, pred, _<_, _≤_};
+ghost use Prim.Native.Nat.{ℕ, suc, pred, _*_, _-_, _^_, _<_, _≤_};
 ghost use lib.Dec.{eqb, leb, ltb};
 ghost use lib.ListN.{length};
 ghost use Rattle.buffer.specs.Field.{same};
-ghost use Rattle.buffer.specs.Row.{intersection};
+ghost use Rattle.buffer.specs.Row.{rowByte, row, union, intersection};
 ghost use Rattle.graph.specs.Below.{everyBelow};
 ghost use Rattle.command.specs.Code.{consoleCount};
-ghost use Rattle.store.specs.Layout.{headerSize, blockAt};
+ghost use Rattle.store.specs.Layout.{headerSize, rowSize, blockAt};
 ghost use Rattle.store.specs.Check.{rowPart, commonIn, pairRight, consoleRight};
 
 // The field of two consoles in the table of commons.
@@ -106,4 +106,39 @@ pub fn consoles_right(s: &[u8], n: usize) -> bool
         }
     }
     true
+}
+
+// Adds the row of the version that a field of the table stands for, if it stands for one.
+fn add_head(acc: &mut [u8], s: &[u8], field: usize)
+    requires { ⌜ length (now acc) ≡ rowSize ⌝ }
+    requires { ⌜ (0 < field → blockAt field ≤ length (now s)) ⌝ }
+    ensures { λ _. ⌜ now (acc .exit) ≡ cond (eqb field 0) (now (acc .entry)) (union (now (acc .entry)) (rowPart (now (s .entry)) (pred field))) ⌝ }
+{
+    if field == 0 {
+        return;
+    }
+    buffer::add_union(acc, places::row_of(s, field - 1));
+}
+
+// The lowest j bits of a byte.
+fn low_bits(j: usize) -> u8
+    requires { ⌜ j < 8 ⌝ }
+    ensures { λ r. ⌜ r ≡ 2 ^ j - 1 ⌝ }
+{
+    (1u8 << j) - 1
+}
+
+// Byte k of the row of all versions below n.
+fn full_byte(n: usize, k: usize) -> u8
+    requires { ⌜ k < rowSize ⌝ }
+    ensures { λ r. ⌜ r ≡ rowByte (λ v. ltb v n) (8 * k) ⌝ }
+{
+    let v = 8 * k;
+    if v + 8 <= n {
+        return 255;
+    }
+    if n <= v {
+        return 0;
+    }
+    low_bits(n - v)
 }
