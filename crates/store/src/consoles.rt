@@ -10,7 +10,7 @@ ghost use Rattle.buffer.specs.Row.{rowByte, row, union, intersection};
 ghost use Rattle.graph.specs.Below.{everyBelow};
 ghost use Rattle.command.specs.Code.{consoleCount};
 ghost use Rattle.store.specs.Layout.{headerSize, rowSize, blockAt};
-ghost use Rattle.store.specs.Check.{rowPart, commonIn, pairRight, consoleRight};
+ghost use Rattle.store.specs.Check.{rowPart, commonIn, pairRight, consoleRight, behindHeads};
 
 // The field of two consoles in the table of commons.
 fn common_in(s: &[u8], c: usize, d: usize) -> usize
@@ -141,4 +141,30 @@ fn full_byte(n: usize, k: usize) -> u8
         return 0;
     }
     low_bits(n - v)
+}
+
+// Whether acc is the row of all versions below n.
+fn is_full(acc: &[u8], n: usize) -> bool
+    requires { ⌜ length (now acc) ≡ rowSize ⌝ }
+    ensures { λ r. ⌜ r ≡ same (now (acc .entry)) (row (λ v. ltb v n) rowSize) ⌝ }
+{
+    let mut wrong = 0u8;
+    for k in 0..places::ROW {
+        wrong = wrong | (acc[k] ^ full_byte(n, k));
+    }
+    wrong == 0
+}
+
+// Whether each of the n versions is an ancestor of a head.
+pub fn behind_right(s: &[u8], n: usize) -> bool
+    requires { ⌜ blockAt n ≤ length (now s) ⌝ }
+    requires { ⌜ ((c : ℕ) → c < consoleCount → commonIn (now s) c c ≤ n) ⌝ }
+    ensures { λ r. ⌜ r ≡ same (behindHeads (now (s .entry)) consoleCount) (row (λ v. ltb v n) rowSize) ⌝ }
+{
+    let mut acc = [0u8; places::ROW];
+    for c in 0..places::CONSOLES {
+        let field = common_in(s, c, c);
+        add_head(&mut acc, s, field);
+    }
+    is_full(&acc, n)
 }

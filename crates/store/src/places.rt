@@ -6,6 +6,7 @@ ghost use Rattle.command.specs.Code.{consoleCount};
 ghost use Rattle.store.specs.Layout.{rowSize, blockAt, commonAt};
 ghost use Rattle.store.specs.Check.{rowPart};
 
+// Sizes in bytes; COMMONS is where the table of commons starts, CONSOLES the number of consoles.
 pub const HEADER: usize = 4096;
 
 pub const BLOCK: usize = 544;

@@ -32,7 +32,13 @@ unfolding pairRight
 returns-2 c =
     let d = c .before .before .before .before in
     let a = d .before .before .before .args in
-    rw (c .meet-right .ensures, eq-eqb (commonIn (a .s .now) (a .d) (a .c)) (commonIn (a .s .now) (a .c) (a .d)) (omega arith), d .before .common-in .ensures .0, c .before .before .common-in3 .ensures .0, c .before .common-in4 .ensures .0)
+    rw (
+      c .meet-right .ensures,
+      eq-eqb (commonIn (a .s .now) (a .d) (a .c)) (commonIn (a .s .now) (a .c) (a .d)) (omega arith),
+      d .before .common-in .ensures .0,
+      c .before .before .common-in3 .ensures .0,
+      c .before .common-in4 .ensures .0,
+    )
 
 pub pair-right-spec : {M : Type 1} → statement M
 pair-right-spec =
