@@ -15,3 +15,5 @@ pub mod Checks
 pub mod Passes
 pub mod Holds
 pub mod Checked
+pub mod Heads
+pub mod Full

@@ -1,1 +1,3 @@
 // The store: a room in the bytes of a lent buffer.
+mod consoles;
+mod places;

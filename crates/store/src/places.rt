@@ -1,0 +1,38 @@
+// Where the parts of a store stand in its bytes.
+ghost use mathlib.Core.Path.{_≡_};
+ghost use Prim.Native.Nat.{suc, _<_, _≤_};
+ghost use lib.ListN.{length};
+ghost use Rattle.command.specs.Code.{consoleCount};
+ghost use Rattle.store.specs.Layout.{rowSize, blockAt, commonAt};
+ghost use Rattle.store.specs.Check.{rowPart};
+
+// Sizes in bytes; COMMONS is where the table of commons starts, CONSOLES the number of consoles.
+pub const HEADER: usize = 4096;
+
+pub const BLOCK: usize = 544;
+
+pub const NODE: usize = 32;
+
+pub const ROW: usize = 128;
+
+pub const COMMONS: usize = 256;
+
+pub const CONSOLES: usize = 16;
+
+// The place of the field of two consoles in the table of commons.
+pub fn common_at(c: usize, d: usize) -> usize
+    requires { ⌜ (c < consoleCount) × (d < consoleCount) ⌝ }
+    ensures { λ r. ⌜ r ≡ commonAt c d ⌝ }
+{
+    COMMONS + 2 * (CONSOLES * c + d)
+}
+
+// The row of a version whose block lies in the bytes.
+pub fn row_of(s: &[u8], v: usize) -> &[u8]
+    requires { ⌜ blockAt (suc v) ≤ length (now s) ⌝ }
+    ensures { λ r. ⌜ (now r ≡ rowPart (now (s .entry)) v) × (length (now r) ≡ rowSize) ⌝ }
+{
+    let at = HEADER + BLOCK * v + NODE;
+    let end = at + ROW;
+    &s[at..end]
+}
