@@ -15,5 +15,6 @@ pub mod Checks
 pub mod Passes
 pub mod Holds
 pub mod Checked
+pub mod Judged
 pub mod Heads
 pub mod Full

@@ -1,3 +1,4 @@
 // The store: a room in the bytes of a lent buffer.
 mod consoles;
+mod judge;
 mod places;
