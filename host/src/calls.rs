@@ -1,0 +1,171 @@
+// The seven calls on lent bytes, as the paper says what each answers and writes, and the session program.
+
+use crate::layout;
+use crate::model::{
+    capacity_is_in_range, command_length, common_version, console_board, decode, heard_count,
+    refusal, refuse_if, room_of_tape, step, tape_of, Room, CONSOLES,
+};
+
+/// The answer is 0 or the refusal; the count is the question's number or the bytes written, else 0.
+#[derive(Clone, Copy, Debug, PartialEq, Eq)]
+pub struct Reply {
+    pub answer: u32,
+    pub count: u32,
+}
+
+impl Reply {
+    fn of(outcome: Result<usize, u32>) -> Reply {
+        match outcome {
+            Ok(count) => Reply {
+                answer: 0,
+                count: count as u32,
+            },
+            Err(refusal) => Reply {
+                answer: refusal,
+                count: 0,
+            },
+        }
+    }
+}
+
+// ---------------------------------------------------------------- the calls
+
+pub fn open(capacity: u32, store: &mut [u8]) -> Reply {
+    let outcome = opened_room(capacity).and_then(|room| write_store(&room, store));
+    Reply::of(outcome)
+}
+
+pub fn command(store: &mut [u8], command: &[u8]) -> Reply {
+    let outcome = room_after(store, command).and_then(|room| write_store(&room, store));
+    Reply::of(outcome)
+}
+
+pub fn pause(store: &[u8], tape: &mut [u8]) -> Reply {
+    let outcome = room_in(store).and_then(|room| write_front(&tape_of(&room), tape));
+    Reply::of(outcome)
+}
+
+pub fn resume(tape: &[u8], store: &mut [u8]) -> Reply {
+    let outcome = room_of_tape(tape).and_then(|room| write_store(&room, store));
+    Reply::of(outcome)
+}
+
+pub fn board(store: &[u8], console: u32, board: &mut [u8]) -> Reply {
+    let outcome = shown_board(store, console).and_then(|bytes| write_front(&bytes, board));
+    Reply::of(outcome)
+}
+
+pub fn heard(store: &[u8], console: u32) -> Reply {
+    Reply::of(heard_number(store, console))
+}
+
+pub fn common(store: &[u8], first: u32, second: u32) -> Reply {
+    Reply::of(common_number(store, first, second))
+}
+
+// ---------------------------------------------------------------- what they are made of
+
+/// The room that the lent bytes hold, or refusal 11.
+fn room_in(store: &[u8]) -> Result<Room, u32> {
+    layout::read(store).ok_or(refusal::NO_SOUND_STORE)
+}
+
+/// Writes the bytes at the front of the lent buffer and says how many, or refusal 19.
+fn write_front(bytes: &[u8], lent: &mut [u8]) -> Result<usize, u32> {
+    let front = lent
+        .get_mut(..bytes.len())
+        .ok_or(refusal::BUFFER_TOO_SHORT)?;
+    front.copy_from_slice(bytes);
+    Ok(bytes.len())
+}
+
+/// Writes the room's encoding at the front of the lent store; such calls count 0.
+fn write_store(room: &Room, store: &mut [u8]) -> Result<usize, u32> {
+    write_front(&layout::encode(room), store)?;
+    Ok(0)
+}
+
+fn opened_room(capacity: u32) -> Result<Room, u32> {
+    let capacity = capacity as usize;
+    refuse_if(
+        !capacity_is_in_range(capacity),
+        refusal::CAPACITY_OUT_OF_RANGE,
+    )?;
+    Ok(Room::opened(capacity))
+}
+
+fn room_after(store: &[u8], command: &[u8]) -> Result<Room, u32> {
+    let decoded = decode(command)?;
+    step(&room_in(store)?, &decoded)
+}
+
+/// The console that a question names, or refusal 3.
+fn asked_console(console: u32) -> Result<usize, u32> {
+    let console = console as usize;
+    refuse_if(console >= CONSOLES, refusal::CONSOLE_TOO_HIGH)?;
+    Ok(console)
+}
+
+fn shown_board(store: &[u8], console: u32) -> Result<Vec<u8>, u32> {
+    let console = asked_console(console)?;
+    let room = room_in(store)?;
+    let board = console_board(&room, console).ok_or(refusal::CONSOLE_ABSENT)?;
+    Ok(layout::board_bytes(&board))
+}
+
+fn heard_number(store: &[u8], console: u32) -> Result<usize, u32> {
+    let console = asked_console(console)?;
+    heard_count(&room_in(store)?, console).ok_or(refusal::CONSOLE_ABSENT)
+}
+
+fn common_number(store: &[u8], first: u32, second: u32) -> Result<usize, u32> {
+    let first = asked_console(first)?;
+    let second = asked_console(second)?;
+    common_version(&room_in(store)?, first, second).ok_or(refusal::CONSOLE_ABSENT)
+}
+
+// ---------------------------------------------------------------- the session program
+
+const SESSION_CAPACITY: u32 = 64;
+
+/// What the program of "Sessions to check" prints for this standard input.
+pub fn session(input: &[u8]) -> String {
+    let mut store = vec![0; layout::store_bytes(SESSION_CAPACITY as usize)];
+    open(SESSION_CAPACITY, &mut store);
+    let mut printed = String::new();
+    let mut rest = input;
+    let mut ordinal = 1;
+    while !rest.is_empty() {
+        let (next, behind) = rest.split_at(next_length(rest));
+        let answer = command(&mut store, next).answer;
+        let head = shown_head(&store, answer, next);
+        printed += &format!("{ordinal} {answer} {head}\n");
+        if answer == refusal::NO_SUCH_COMMAND || answer == refusal::WRONG_LENGTH {
+            break;
+        }
+        rest = behind;
+        ordinal += 1;
+    }
+    printed + &format!("end {}\n", version_count(&store))
+}
+
+/// The bytes given to the unit next: a whole command, what is there of one, or an unknown code alone.
+fn next_length(rest: &[u8]) -> usize {
+    let length = rest.first().and_then(|&code| command_length(code));
+    length.unwrap_or(1).min(rest.len())
+}
+
+/// The head of the console in the first operand, or `-`.
+fn shown_head(store: &[u8], answer: u32, command: &[u8]) -> String {
+    let head = match command.get(1) {
+        Some(&console) if answer != refusal::NO_SUCH_COMMAND => {
+            layout::read(store).and_then(|room| room.head(usize::from(console)))
+        }
+        _ => None,
+    };
+    head.map_or("-".to_string(), |version| version.to_string())
+}
+
+fn version_count(store: &[u8]) -> usize {
+    layout::read(store).map_or(0, |room| room.versions.len())
+}

@@ -1,0 +1,578 @@
+// Generators of cases: command sequences, full rooms, graphs as tapes, and damaged tapes and stores.
+
+use crate::layout::{self, encode_with};
+use crate::model::{
+    code, decode, parents, record, step, tape_of, Ancestry, Entry, Room, Version, CONSOLES,
+    HIGHEST_HEADING, HIGHEST_LEVEL, MARKS, STRIPS,
+};
+use crate::rng::Rng;
+
+// ---------------------------------------------------------------- single commands
+
+/// A strip, often one of the first few, so that consoles meet on the same cells.
+fn some_strip(rng: &mut Rng) -> u8 {
+    let strips = if rng.chance(70) { 3 } else { STRIPS };
+    rng.below(strips) as u8
+}
+
+/// A mark, often one of the first few.
+fn some_mark(rng: &mut Rng) -> u16 {
+    let marks = if rng.chance(70) { 3 } else { MARKS };
+    rng.below(marks) as u16
+}
+
+/// A number up to the highest, often at an end of the range or small.
+fn some_value(rng: &mut Rng, highest: u16) -> u16 {
+    match rng.below(5) {
+        0 => 0,
+        1 => highest,
+        2 => rng.below(4) as u16,
+        _ => rng.below(usize::from(highest) + 1) as u16,
+    }
+}
+
+/// A strip change in range: any of the seven entry codes, a strip and an operand.
+fn some_change(rng: &mut Rng) -> (u8, u8, u16) {
+    let entry_code = rng.between(code::LEVEL.into(), code::ALERT_OFF.into()) as u8;
+    let operand = match entry_code {
+        code::LEVEL => some_value(rng, HIGHEST_LEVEL),
+        code::HEADING => some_value(rng, HIGHEST_HEADING),
+        code::MARK_PUT | code::MARK_TAKEN => some_mark(rng),
+        _ => 0,
+    };
+    (entry_code, some_strip(rng), operand)
+}
+
+/// An entry command of any of the seven codes, in range.
+pub fn entry_command(rng: &mut Rng, console: usize) -> Vec<u8> {
+    let (entry_code, strip, operand) = some_change(rng);
+    let mut bytes = vec![entry_code, console as u8, strip];
+    match entry_code {
+        code::LEVEL | code::HEADING => bytes.extend(operand.to_be_bytes()),
+        code::MARK_PUT | code::MARK_TAKEN => bytes.push(operand as u8),
+        _ => {}
+    }
+    bytes
+}
+
+fn entry_anywhere(rng: &mut Rng, room: &Room) -> Vec<u8> {
+    let console = rng.pick(&room.present()).unwrap_or(0);
+    entry_command(rng, console)
+}
+
+/// A fork of a present console to an absent one, or an entry where all are present.
+fn fork_command(rng: &mut Rng, room: &Room) -> Vec<u8> {
+    let absent: Vec<usize> = (0..CONSOLES).filter(|&c| room.head(c).is_none()).collect();
+    match (rng.pick(&absent), rng.pick(&room.present())) {
+        (Some(new), Some(old)) => vec![code::FORK, new as u8, old as u8],
+        _ => entry_anywhere(rng, room),
+    }
+}
+
+/// A merge or fast-forward of two present consoles: the first accepted one of a few tries, else the last tried.
+fn joining_command(rng: &mut Rng, room: &Room, joining_code: u8) -> Vec<u8> {
+    let mut bytes = entry_anywhere(rng, room);
+    for _ in 0..12 {
+        let consoles = rng.shuffled(&room.present());
+        let [receiver, giver, ..] = consoles[..] else {
+            break;
+        };
+        bytes = vec![joining_code, receiver as u8, giver as u8];
+        if after(room, &bytes).is_some() {
+            break;
+        }
+    }
+    bytes
+}
+
+/// A command that is likely to be accepted in this room.
+pub fn likely_command(rng: &mut Rng, room: &Room) -> Vec<u8> {
+    match rng.below(100) {
+        0..=14 => fork_command(rng, room),
+        15..=59 => entry_anywhere(rng, room),
+        60..=84 => joining_command(rng, room, code::MERGE),
+        _ => joining_command(rng, room, code::FAST_FORWARD),
+    }
+}
+
+/// A command of any kind: codes, lengths and operands in range and just out of it.
+pub fn any_command(rng: &mut Rng) -> Vec<u8> {
+    let (first, second) = (near(rng, CONSOLES), near(rng, CONSOLES));
+    let joining_code = rng.pick(&[code::FORK, code::MERGE, code::FAST_FORWARD]);
+    let mut bytes = match rng.below(100) {
+        0..=9 => (0..rng.below(8)).map(|_| rng.byte()).collect(),
+        10..=54 => entry_command(rng, first),
+        _ => vec![joining_code.unwrap_or(0), first as u8, second as u8],
+    };
+    if rng.chance(30) {
+        damage_command(rng, &mut bytes);
+    }
+    bytes
+}
+
+/// A number mostly below the bound, now and then at it or just above.
+fn near(rng: &mut Rng, bound: usize) -> usize {
+    if rng.chance(90) {
+        rng.below(bound)
+    } else {
+        bound + rng.below(2)
+    }
+}
+
+fn damage_command(rng: &mut Rng, bytes: &mut Vec<u8>) {
+    match rng.below(5) {
+        0 => bytes.push(rng.byte()),
+        1 => bytes.truncate(rng.below(bytes.len() + 1)),
+        2 => set_byte(bytes, 0, rng.below(16) as u8),
+        3 => set_byte(bytes, 2, 30 + rng.below(4) as u8),
+        _ => {
+            let place = rng.below(bytes.len());
+            set_byte(bytes, place, rng.byte());
+        }
+    }
+}
+
+fn set_byte(bytes: &mut [u8], place: usize, value: u8) {
+    if let Some(byte) = bytes.get_mut(place) {
+        *byte = value;
+    }
+}
+
+// ---------------------------------------------------------------- sequences and rooms
+
+/// The room after a command, where it is accepted.
+fn after(room: &Room, bytes: &[u8]) -> Option<Room> {
+    step(room, &decode(bytes).ok()?).ok()
+}
+
+/// So many commands for a room opened with this capacity, most of them accepted, and the room they lead to.
+pub fn command_sequence(rng: &mut Rng, capacity: usize, length: usize) -> (Vec<Vec<u8>>, Room) {
+    let mut room = Room::opened(capacity);
+    let mut commands = Vec::new();
+    for _ in 0..length {
+        let bytes = if rng.chance(90) {
+            likely_command(rng, &room)
+        } else {
+            any_command(rng)
+        };
+        if let Some(next) = after(&room, &bytes) {
+            room = next;
+        }
+        commands.push(bytes);
+    }
+    (commands, room)
+}
+
+/// A sound room that a random command sequence leads to.
+pub fn random_room(rng: &mut Rng, capacity: usize, length: usize) -> Room {
+    command_sequence(rng, capacity, length).1
+}
+
+/// A newly opened room with all 16 consoles on version 0.
+fn room_of_all_consoles(capacity: usize) -> Room {
+    let mut room = Room::opened(capacity);
+    for console in 1..CONSOLES {
+        if let Some(next) = after(&room, &[code::FORK, console as u8, 0]) {
+            room = next;
+        }
+    }
+    room
+}
+
+/// The room after an entry on some console; the same room where no version is left.
+fn with_entry(rng: &mut Rng, room: &Room) -> Room {
+    let bytes = entry_anywhere(rng, room);
+    after(room, &bytes).unwrap_or_else(|| room.clone())
+}
+
+/// A full room of 16 consoles with entries alone.
+pub fn full_of_entries(rng: &mut Rng, capacity: usize) -> Room {
+    let mut room = room_of_all_consoles(capacity);
+    while room.versions.len() < room.capacity {
+        room = with_entry(rng, &room);
+    }
+    room
+}
+
+/// A full room of 16 consoles: version 1 an entry, then an entry and a merge by turns.
+///
+/// The consoles are hung up as a random tree, and only neighbours merge or fast-forward. Whatever two consoles have
+/// in common has then passed every console between them, so refusal 17 never stands in the way of neighbours.
+pub fn full_of_merges(rng: &mut Rng, capacity: usize) -> Room {
+    let neighbours = random_tree(rng);
+    let mut room = with_entry(rng, &room_of_all_consoles(capacity));
+    while room.versions.len() + 2 <= room.capacity {
+        let Some(next) = entry_and_merge(rng, &room, &neighbours) else {
+            break;
+        };
+        room = next;
+    }
+    while room.versions.len() < room.capacity {
+        room = with_entry(rng, &room);
+    }
+    room
+}
+
+/// The pairs of neighbours of a random tree of the 16 consoles.
+fn random_tree(rng: &mut Rng) -> Vec<(usize, usize)> {
+    let consoles: Vec<usize> = (0..CONSOLES).collect();
+    let order = rng.shuffled(&consoles);
+    (1..CONSOLES)
+        .map(|place| (order[place], order[rng.below(place)]))
+        .collect()
+}
+
+/// The room after an entry and a merge of neighbours, and now and then a fast-forward before them.
+fn entry_and_merge(rng: &mut Rng, room: &Room, neighbours: &[(usize, usize)]) -> Option<Room> {
+    if rng.chance(30) {
+        let forwarded = joined(rng, room, neighbours, code::FAST_FORWARD);
+        let round = forwarded.and_then(|next| entry_then_merge(rng, &next, neighbours));
+        if round.is_some() {
+            return round;
+        }
+    }
+    entry_then_merge(rng, room, neighbours)
+}
+
+fn entry_then_merge(rng: &mut Rng, room: &Room, neighbours: &[(usize, usize)]) -> Option<Room> {
+    rng.shuffled(&room.present())
+        .into_iter()
+        .find_map(|console| {
+            let entered = after(room, &entry_command(rng, console))?;
+            joined(rng, &entered, neighbours, code::MERGE)
+        })
+}
+
+/// The room after an accepted merge or fast-forward of some neighbours, where there is one.
+fn joined(
+    rng: &mut Rng,
+    room: &Room,
+    neighbours: &[(usize, usize)],
+    joining_code: u8,
+) -> Option<Room> {
+    rng.shuffled(neighbours)
+        .into_iter()
+        .find_map(|(one, other)| {
+            let (first, second) = if rng.chance(50) {
+                (one as u8, other as u8)
+            } else {
+                (other as u8, one as u8)
+            };
+            after(room, &[joining_code, first, second])
+                .or_else(|| after(room, &[joining_code, second, first]))
+        })
+}
+
+// ---------------------------------------------------------------- graphs as tapes
+
+/// A room whose fields are in range and whose parents are lower numbers, but which need not be sound.
+pub fn random_graph(rng: &mut Rng, version_count: usize) -> Room {
+    let mut room = Room::opened(version_count.max(1) + rng.below(3));
+    let merge_percent = rng.pick(&[10, 25, 40]).unwrap_or(25);
+    for number in 1..version_count {
+        let version = if rng.chance(merge_percent) {
+            random_merge(rng, &room)
+        } else {
+            random_entry(rng, number)
+        };
+        room.versions.push(version);
+    }
+    room.heads = random_heads(rng, &room);
+    room
+}
+
+/// One of the lower numbers, often one of the last few.
+fn lower_number(rng: &mut Rng, number: usize) -> usize {
+    if rng.chance(60) {
+        number - 1 - rng.below(number.min(4))
+    } else {
+        rng.below(number)
+    }
+}
+
+fn random_entry(rng: &mut Rng, number: usize) -> Version {
+    let (code, strip, operand) = some_change(rng);
+    Version::Entry(Entry {
+        parent: lower_number(rng, number),
+        code,
+        strip,
+        operand,
+    })
+}
+
+/// A merge of any two lower versions; often the first pair of a few tries that has a base.
+fn random_merge(rng: &mut Rng, room: &Room) -> Version {
+    let number = room.versions.len();
+    let ancestry = Ancestry::new(room);
+    let tries = rng.below(8);
+    let mut pair = (lower_number(rng, number), lower_number(rng, number));
+    for _ in 0..tries {
+        let base = ancestry.lowest_common(pair.0, pair.1);
+        if base.is_some_and(|base| base != pair.0 && base != pair.1) {
+            break;
+        }
+        pair = (lower_number(rng, number), lower_number(rng, number));
+    }
+    Version::Merge {
+        receiver: pair.0,
+        giver: pair.1,
+    }
+}
+
+/// Heads that mostly cover the graph: the versions without children, then a few others, console 0 included.
+fn random_heads(rng: &mut Rng, room: &Room) -> [Option<usize>; CONSOLES] {
+    let mut chosen = rng.shuffled(&childless(room));
+    if rng.chance(15) {
+        chosen.pop();
+    }
+    chosen.truncate(CONSOLES);
+    for _ in 0..rng.below(3).max(usize::from(chosen.is_empty())) {
+        chosen.push(rng.below(room.versions.len()));
+    }
+    let mut heads = [None; CONSOLES];
+    let others: Vec<usize> = (1..CONSOLES).collect();
+    let mut consoles = rng.shuffled(&others);
+    consoles.push(0);
+    for head in rng.shuffled(&chosen) {
+        if let Some(console) = consoles.pop() {
+            heads[console] = Some(head);
+        }
+    }
+    heads
+}
+
+fn childless(room: &Room) -> Vec<usize> {
+    let is_parent = |number: &usize| {
+        room.versions
+            .iter()
+            .any(|version| parents(version).any(|parent| parent == *number))
+    };
+    (0..room.versions.len())
+        .filter(|number| !is_parent(number))
+        .collect()
+}
+
+/// A room one change away from a sound one: a parent, a giver, a head or the capacity is another.
+pub fn near_miss(rng: &mut Rng, sound_room: &Room) -> Room {
+    let mut room = sound_room.clone();
+    let number = rng.below(room.versions.len());
+    match rng.below(5) {
+        0 => room.heads[rng.below(CONSOLES)] = Some(number),
+        1 => room.heads[rng.between(1, CONSOLES - 1)] = None,
+        2 if number > 0 => room.versions[number] = random_merge_at(rng, number),
+        3 => room.capacity = rng.between(room.versions.len(), room.capacity),
+        _ if number > 0 => change_parent(rng, &mut room.versions[number], number),
+        _ => {}
+    }
+    room
+}
+
+fn random_merge_at(rng: &mut Rng, number: usize) -> Version {
+    Version::Merge {
+        receiver: rng.below(number),
+        giver: rng.below(number),
+    }
+}
+
+fn change_parent(rng: &mut Rng, version: &mut Version, number: usize) {
+    match version {
+        Version::Entry(entry) => entry.parent = rng.below(number),
+        Version::Merge { giver, .. } => *giver = rng.below(number),
+        Version::Start => {}
+    }
+}
+
+/// The tape of a graph, sound or not: of commands, of random parents, or one change away from a sound one.
+pub fn graph_tape(rng: &mut Rng) -> Vec<u8> {
+    let (capacity, length) = (rng.between(1, 40), rng.below(60));
+    let room = match rng.below(4) {
+        0 => random_room(rng, capacity, length),
+        1 => {
+            let reached = random_room(rng, capacity, length);
+            near_miss(rng, &reached)
+        }
+        2 => random_graph(rng, capacity),
+        _ => random_graph(rng, 1 + capacity % 8),
+    };
+    tape_of(&room)
+}
+
+// ---------------------------------------------------------------- damaged tapes
+
+/// A tape with one to three damages of any kind.
+pub fn damaged_tape(rng: &mut Rng, tape: &[u8]) -> Vec<u8> {
+    let mut damaged = tape.to_vec();
+    for _ in 0..rng.between(1, 3) {
+        damage_tape_once(rng, &mut damaged);
+    }
+    damaged
+}
+
+fn damage_tape_once(rng: &mut Rng, tape: &mut Vec<u8>) {
+    let place = rng.below(tape.len());
+    match rng.below(20) {
+        0 => tape.truncate(place),
+        1 => tape.push(rng.byte()),
+        2 => tape.insert(place, rng.byte()),
+        3 => set_byte(tape, place, rng.byte()),
+        4 => set_byte(tape, place, rng.below(0x26) as u8),
+        5 => change_bits(rng, tape, place),
+        6..=8 => move_record(rng, tape),
+        9 => set_field(rng, tape, 1),
+        _ => change_record(rng, tape),
+    }
+}
+
+fn change_bits(rng: &mut Rng, bytes: &mut [u8], place: usize) {
+    if let Some(byte) = bytes.get_mut(place) {
+        *byte ^= 1 << rng.below(8);
+    }
+}
+
+/// Where the records of an undamaged tape start and end.
+fn record_places(tape: &[u8]) -> Vec<(usize, usize)> {
+    let mut places = Vec::new();
+    let mut start = 0;
+    while let Some(&record_code) = tape.get(start) {
+        let length = match record_code {
+            record::CAPACITY => 3,
+            record::ENTRY => 7,
+            record::MERGE => 5,
+            record::HEAD => 4,
+            _ => 1,
+        };
+        places.push((start, (start + length).min(tape.len())));
+        start += length;
+    }
+    places
+}
+
+/// Copies a whole record to another place, or cuts it out, or both.
+fn move_record(rng: &mut Rng, tape: &mut Vec<u8>) {
+    let (start, end) = rng.pick(&record_places(tape)).unwrap_or((0, 0));
+    let copied = tape[start..end].to_vec();
+    if rng.chance(50) {
+        tape.drain(start..end);
+    }
+    if rng.chance(60) {
+        let (target, _) = rng.pick(&record_places(tape)).unwrap_or((0, 0));
+        tape.splice(target..target, copied);
+    }
+}
+
+/// Changes one byte of a record, not its code, to a small number, an edge of a range, or one next to what it was.
+fn change_record(rng: &mut Rng, tape: &mut [u8]) {
+    let (start, end) = rng.pick(&record_places(tape)).unwrap_or((0, 0));
+    if end - start < 2 {
+        return;
+    }
+    let place = rng.between(start + 1, end - 1);
+    let edges = [0, 1, 2, 8, 9, 15, 16, 31, 32, 0x58, 0x59, 0x68, 0x69, 0xFF];
+    let value = match rng.below(4) {
+        0 => rng.pick(&edges).unwrap_or(0),
+        1 => tape[place].wrapping_add(1),
+        2 => tape[place].wrapping_sub(1),
+        _ => rng.below(40) as u8,
+    };
+    set_byte(tape, place, value);
+}
+
+// ---------------------------------------------------------------- damaged stores
+
+/// A store's bytes with one to three damages, most of them in fields that mean something.
+pub fn damaged_store(rng: &mut Rng, store: &[u8]) -> Vec<u8> {
+    let mut damaged = store.to_vec();
+    for _ in 0..rng.between(1, 3) {
+        damage_store_once(rng, &mut damaged);
+    }
+    damaged
+}
+
+fn damage_store_once(rng: &mut Rng, store: &mut Vec<u8>) {
+    let anywhere = rng.below(store.len());
+    match rng.below(10) {
+        0 => store.truncate(anywhere),
+        1 => change_bits(rng, store, anywhere),
+        2..=5 => damage_header(rng, store),
+        _ => damage_block(rng, store),
+    }
+}
+
+fn damage_header(rng: &mut Rng, store: &mut [u8]) {
+    let zero = rng.below(layout::HEADER_BYTES);
+    let entry_row = layout::ENTRY_ROW_AT + rng.below(128);
+    let common = layout::common_at(rng.below(CONSOLES), rng.below(CONSOLES));
+    match rng.below(5) {
+        0 => set_byte(store, zero, rng.byte()),
+        1 => change_bits(rng, store, entry_row),
+        2 => set_field(rng, store, layout::CAPACITY_AT),
+        3 => set_field(rng, store, layout::VERSION_COUNT_AT),
+        _ => set_field(rng, store, common),
+    }
+}
+
+fn damage_block(rng: &mut Rng, store: &mut [u8]) {
+    let block = some_block(rng, store);
+    let node_field = block + 2 * rng.below(6);
+    let node_byte = block + rng.below(layout::ANCESTRY_ROW_AT);
+    let ancestry = block + layout::ANCESTRY_ROW_AT + rng.below(128);
+    let board = block + layout::BOARD_AT + rng.below(layout::BOARD_BYTES);
+    match rng.below(4) {
+        0 => set_field(rng, store, node_field),
+        1 => set_byte(store, node_byte, rng.below(12) as u8),
+        2 => change_bits(rng, store, ancestry),
+        _ => change_bits(rng, store, board),
+    }
+}
+
+/// Where some block starts, mostly one of a version that the store holds.
+fn some_block(rng: &mut Rng, store: &[u8]) -> usize {
+    let count = match store.get(2..4) {
+        Some(&[high, low]) => usize::from(u16::from_be_bytes([high, low])),
+        _ => 1,
+    };
+    layout::block_at(rng.below(count.min(1024) + 1))
+}
+
+/// Sets a 16-bit field to a small number, an edge, or one next to what it was.
+fn set_field(rng: &mut Rng, bytes: &mut [u8], place: usize) {
+    let Some(&[high, low]) = bytes.get(place..place + 2) else {
+        return;
+    };
+    let now = u16::from_be_bytes([high, low]);
+    let edges = [0, 1, 2, 1023, 1024, 1025, 0xFFFF];
+    let value = match rng.below(4) {
+        0 => rng.pick(&edges).unwrap_or(0),
+        1 => now.wrapping_add(1),
+        2 => now.wrapping_sub(1),
+        _ => rng.below(70) as u16,
+    };
+    bytes[place..place + 2].copy_from_slice(&value.to_be_bytes());
+}
+
+/// The bytes of a room that may be unsound, complete in every field, with the highest-numbered common version as
+/// base and as common of two heads: what a unit without the test of all others would take for a store.
+pub fn plausible_store(room: &Room) -> Vec<u8> {
+    let ancestry = Ancestry::new(room);
+    let highest = |one: usize, other: usize| {
+        let common = ancestry.common_ancestors(one, other);
+        common.first().copied().unwrap_or(0)
+    };
+    encode_with(room, &ancestry, &highest)
+}
+
+/// Bytes of any length and content, now and then with a header that looks like a store's.
+pub fn garbage(rng: &mut Rng, longest: usize) -> Vec<u8> {
+    let length = rng.below(longest + 1);
+    let all_zero = rng.chance(20);
+    let mut bytes: Vec<u8> = (0..length)
+        .map(|_| if all_zero { 0 } else { rng.byte() })
+        .collect();
+    if rng.chance(50) {
+        set_byte(&mut bytes, 0, 0);
+        set_byte(&mut bytes, 1, rng.between(1, 20) as u8);
+        set_byte(&mut bytes, 2, 0);
+        set_byte(&mut bytes, 3, rng.between(1, 20) as u8);
+    }
+    bytes
+}
