@@ -15,3 +15,4 @@ pub mod Checks
 pub mod Passes
 pub mod Holds
 pub mod Checked
+pub mod VersionTests

@@ -1,1 +1,2 @@
 // The store: a room in the bytes of a lent buffer.
+mod version;
