@@ -1,13 +1,13 @@
 -- `store::version::board_of` meets its contract.
 -- Assumes nothing.
-use Rattle.store.specs.Layout.{boardAt}
-use Rattle.board.specs.Board.{boardSize}
-use Rattle.buffer.proofs.Fields.{part-length}
-use denote.Ref.{now}
-use native.Mathlib.Omega.{arith}
-use mathlib.Core.Path.{_≡_, refl}
 use Prim.Native.Nat.{_+_, _-_}
+use mathlib.Core.Path.{_≡_, refl}
+use native.Mathlib.Omega.{arith}
+use denote.Ref.{now}
 use borrow.Author.Needs.{needs}
+use Rattle.buffer.proofs.Fields.{part-length}
+use Rattle.board.specs.Board.{boardSize}
+use Rattle.store.specs.Layout.{boardAt}
 use Rattle.store.proofs.version.board_of.Statement.{statement}
 use Rattle.store.proofs.version.board_of.Tie as tie
 

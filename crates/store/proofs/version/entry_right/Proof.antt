@@ -1,8 +1,8 @@
 -- `store::version::entry_right` meets its contract.
 -- Assumes nothing.
-use Rattle.store.proofs.VersionTests.{range-parent, range-strip, range-mark, range-unmark, entry-told, entry-refused}
 use native.Mathlib.Omega.{arith}
 use borrow.Author.Needs.{needs}
+use Rattle.store.proofs.VersionTests.{range-parent, range-strip, range-mark, range-unmark, entry-told, entry-refused}
 use Rattle.store.proofs.version.entry_right.Statement.{statement}
 use Rattle.store.proofs.version.entry_right.Tie as tie
 

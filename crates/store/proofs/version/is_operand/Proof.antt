@@ -1,7 +1,7 @@
 -- `store::version::is_operand` meets its contract.
 -- Assumes nothing.
-use Rattle.store.proofs.VersionTests.{operand-level, operand-heading, operand-mark, operand-unmark, operand-none}
 use native.Mathlib.Omega.{arith}
+use Rattle.store.proofs.VersionTests.{operand-level, operand-heading, operand-mark, operand-unmark, operand-none}
 use Rattle.store.proofs.version.is_operand.Statement.{statement}
 use Rattle.store.proofs.version.is_operand.Tie as tie
 

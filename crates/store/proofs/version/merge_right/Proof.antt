@@ -1,8 +1,8 @@
 -- `store::version::merge_right` meets its contract.
 -- Assumes nothing.
-use Rattle.store.proofs.VersionTests.{range-mine, range-given, range-base, merge-told, merge-refused}
 use native.Mathlib.Omega.{arith}
 use borrow.Author.Needs.{needs}
+use Rattle.store.proofs.VersionTests.{range-mine, range-given, range-base, merge-told, merge-refused}
 use Rattle.store.proofs.version.merge_right.Statement.{statement}
 use Rattle.store.proofs.version.merge_right.Tie as tie
 

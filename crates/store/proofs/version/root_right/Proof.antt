@@ -1,10 +1,10 @@
 -- `store::version::root_right` meets its contract.
 -- Assumes nothing.
-use Rattle.store.proofs.VersionTests.{root-told}
-use denote.Ref.{now}
 use mathlib.Core.Path.{ap, ap₂}
 use mathlib.Core.Bool.{not, _&&_}
+use denote.Ref.{now}
 use borrow.Author.Needs.{needs}
+use Rattle.store.proofs.VersionTests.{root-told}
 use Rattle.store.proofs.version.root_right.Statement.{statement}
 use Rattle.store.proofs.version.root_right.Tie as tie
 

@@ -1,12 +1,12 @@
 -- `store::version::row_of` meets its contract.
 -- Assumes nothing.
-use Rattle.store.specs.Layout.{rowSize, rowAt}
-use Rattle.buffer.proofs.Fields.{part-length}
-use denote.Ref.{now}
-use native.Mathlib.Omega.{arith}
-use mathlib.Core.Path.{_≡_, refl}
 use Prim.Native.Nat.{_+_, _-_}
+use mathlib.Core.Path.{_≡_, refl}
+use native.Mathlib.Omega.{arith}
+use denote.Ref.{now}
 use borrow.Author.Needs.{needs}
+use Rattle.buffer.proofs.Fields.{part-length}
+use Rattle.store.specs.Layout.{rowSize, rowAt}
 use Rattle.store.proofs.version.row_of.Statement.{statement}
 use Rattle.store.proofs.version.row_of.Tie as tie
 

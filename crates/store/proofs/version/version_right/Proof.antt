@@ -1,7 +1,7 @@
 -- `store::version::version_right` meets its contract.
 -- Assumes nothing.
-use Rattle.store.proofs.VersionTests.{version-merge, version-entry}
 use borrow.Author.Needs.{needs}
+use Rattle.store.proofs.VersionTests.{version-merge, version-entry}
 use Rattle.store.proofs.version.version_right.Statement.{statement}
 use Rattle.store.proofs.version.version_right.Tie as tie
 

@@ -1,8 +1,8 @@
 -- `store::version::zero_part` meets its contract.
 -- Assumes nothing.
-use native.Mathlib.Omega.{arith}
-use mathlib.Core.Path.{_≡_}
 use Prim.Native.Nat.{_+_, _-_}
+use mathlib.Core.Path.{_≡_}
+use native.Mathlib.Omega.{arith}
 use borrow.Author.Needs.{needs}
 use Rattle.store.proofs.version.zero_part.Statement.{statement}
 use Rattle.store.proofs.version.zero_part.Tie as tie
