@@ -18,3 +18,4 @@ pub mod Checked
 pub mod Judged
 pub mod Heads
 pub mod Full
+pub mod VersionTests

@@ -1,5 +1,7 @@
 // Whether lent bytes hold a sound store: the tests of the header, of the versions and of the consoles, together.
 use crate::consoles::{behind_right, consoles_right};
+use crate::places::{BLOCK, COMMONS, COMMONS_END, ENTRIES, HEADER, SPARE};
+use crate::version::versions_right;
 use buffer::{is_zero, none_from, word_at};
 ghost use mathlib.Core.Path.{_≡_};
 ghost use mathlib.Core.Bool.{_&&_};
@@ -9,15 +11,18 @@ ghost use lib.ListN.{length};
 ghost use Rattle.buffer.specs.Field.{part, same, allZero};
 ghost use Rattle.buffer.specs.Row.{row, noneFrom};
 ghost use Rattle.command.specs.Code.{consoleCount};
-ghost use Rattle.store.specs.Layout.{headerSize, rowSize, blockSize, storeSize, countAt, entriesAt, commonsEnd, blockAt};
-ghost use Rattle.store.specs.Check.{entriesPart, commonIn, behindHeads};
+ghost use Rattle.store.specs.Layout.{headerSize, rowSize, blockSize, storeSize, countAt, entriesAt, commonsEnd, blockAt, holdsStore};
+ghost use Rattle.store.specs.Check.{entriesPart, commonIn, behindHeads, contentsRight};
+
+// The most versions that a store can hold.
+const MAX_CAPACITY: usize = 1024;
 
 // The spare bytes of the header are zero.
 fn spare_right(s: &[u8]) -> bool
     requires { ⌜ headerSize ≤ length (now s) ⌝ }
     ensures { λ r. ⌜ r ≡ (allZero (part (now (s .entry)) (countAt + 2) (entriesAt - (countAt + 2))) && allZero (part (now (s .entry)) commonsEnd (headerSize - commonsEnd))) ⌝ }
 {
-    is_zero(&s[4..128]) & is_zero(&s[768..4096])
+    is_zero(&s[SPARE..ENTRIES]) & is_zero(&s[COMMONS_END..HEADER])
 }
 
 // Nothing stands past the last of n versions: no bit of the entry row, and no byte of the blocks that are free.
@@ -25,9 +30,9 @@ fn rest_right(s: &[u8], capacity: usize, n: usize) -> bool
     requires { ⌜ (capacity ≤ 1024) × (n ≤ capacity) × (storeSize capacity ≤ length (now s)) ⌝ }
     ensures { λ r. ⌜ r ≡ (noneFrom (entriesPart (now (s .entry))) n && allZero (part (now (s .entry)) (blockAt n) (blockSize * (capacity - n)))) ⌝ }
 {
-    let from = 4096 + 544 * n;
-    let to = 4096 + 544 * capacity;
-    none_from(&s[128..256], n) & is_zero(&s[from..to])
+    let from = HEADER + BLOCK * n;
+    let to = HEADER + BLOCK * capacity;
+    none_from(&s[ENTRIES..COMMONS], n) & is_zero(&s[from..to])
 }
 
 // Console 0 is present, and every version is an ancestor of a head.
@@ -36,7 +41,7 @@ fn heads_right(s: &[u8], n: usize) -> bool
     requires { ⌜ ((c : ℕ) → c < consoleCount → commonIn (now s) c c ≤ n) ⌝ }
     ensures { λ r. ⌜ r ≡ (ltb 0 (commonIn (now (s .entry)) 0 0) && same (behindHeads (now (s .entry)) consoleCount) (row (λ v. ltb v n) rowSize)) ⌝ }
 {
-    (0 < word_at(s, 256)) & behind_right(s, n)
+    (0 < word_at(s, COMMONS)) & behind_right(s, n)
 }
 
 // A store of this capacity with n versions.
@@ -69,17 +74,17 @@ fn contents_right(s: &[u8], capacity: usize, n: usize) -> bool
 pub fn holds(s: &[u8]) -> bool
     ensures { λ r. ⌜ r ≡ holdsStore (now (s .entry)) ⌝ }
 {
-    if s.len() < 4096 {
+    if s.len() < HEADER {
         return false;
     }
     let capacity = word_at(s, 0);
     if capacity < 1 {
         return false;
     }
-    if 1024 < capacity {
+    if MAX_CAPACITY < capacity {
         return false;
     }
-    if s.len() < 4096 + 544 * capacity {
+    if s.len() < HEADER + BLOCK * capacity {
         return false;
     }
     contents_right(s, capacity, word_at(s, 2))

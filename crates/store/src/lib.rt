@@ -1,4 +1,5 @@
 // The store: a room in the bytes of a lent buffer.
 mod consoles;
-mod judge;
+pub mod judge;
 mod places;
+mod version;

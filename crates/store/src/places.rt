@@ -15,7 +15,16 @@ pub const NODE: usize = 32;
 
 pub const ROW: usize = 128;
 
+pub const BOARD: usize = 384;
+
+// The spare bytes behind capacity and count, the row of entries, the table of commons and its end.
+pub const SPARE: usize = 4;
+
+pub const ENTRIES: usize = 128;
+
 pub const COMMONS: usize = 256;
+
+pub const COMMONS_END: usize = 768;
 
 pub const CONSOLES: usize = 16;
 
