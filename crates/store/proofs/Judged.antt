@@ -1,10 +1,12 @@
 -- The test of a store's contents, grouped as the code makes it: a failed group fails it, and all groups together pass it.
 -- Assumes nothing.
-use Prim.Native.Nat.{ℕ, pred, _+_, _-_, _*_}
-use mathlib.Core.Path.{_≡_, refl}
+use Prim.Native.Nat.{ℕ, pred, _+_, _-_, _*_, _≤_, _<_}
+use mathlib.Core.Path.{_≡_, refl, sym, _∙_}
 use mathlib.Core.Bool.{Bool, true, false, _&&_}
 use mathlib.Core.List.{List}
+use borrow.Author.Tests.{le-leb, lt-leb}
 use lib.Dec.{leb, ltb}
+use Rattle.laws.proofs.Logic.{clash}
 use Rattle.buffer.specs.Field.{part, same, allZero}
 use Rattle.buffer.specs.Row.{row, noneFrom}
 use Rattle.graph.specs.Below.{everyBelow}
@@ -40,3 +42,46 @@ contents-grouped s capacity n =
     grouped (leb 1 n) (leb n capacity) (allZero (part s (countAt + 2) (entriesAt - (countAt + 2)))) (allZero (part s commonsEnd (headerSize - commonsEnd)))
     (versionsRight s (pred n)) (noneFrom (entriesPart s) n) (allZero (part s (blockAt n) (blockSize * (capacity - n))))
     (everyBelow consoleCount (consoleRight s n)) (ltb 0 (commonIn s 0 0)) (same (behindHeads s consoleCount) (row (λ v. ltb v n) rowSize))
+
+and-fail-l : (a b : Bool) → a ≡ false → a && b ≡ false
+and-fail-l true b h = clash refl h
+and-fail-l false b h = refl
+
+and-fail-r : (a b : Bool) → b ≡ false → a && b ≡ false
+and-fail-r true b h = h
+and-fail-r false b h = refl
+
+module _ (s : List ℕ) (capacity n : ℕ) where
+  pub too-few : n < 1 → contentsRight s capacity n ≡ false
+  too-few h = contents-grouped s capacity n ∙ and-fail-l (leb 1 n) _ (lt-leb 1 n h)
+
+  pub too-many : capacity < n → contentsRight s capacity n ≡ false
+  too-many h = contents-grouped s capacity n ∙ and-fail-r (leb 1 n) _ (and-fail-l (leb n capacity) _ (lt-leb n capacity h))
+
+  pub spare-fails : spareZero s ≡ false → contentsRight s capacity n ≡ false
+  spare-fails h = contents-grouped s capacity n ∙ and-fail-r (leb 1 n) _ (and-fail-r (leb n capacity) _ (and-fail-l (spareZero s) _ h))
+
+  pub versions-fail : versionsRight s (pred n) ≡ false → contentsRight s capacity n ≡ false
+  versions-fail h =
+      contents-grouped s capacity n
+      ∙ and-fail-r (leb 1 n) _ (and-fail-r (leb n capacity) _ (and-fail-r (spareZero s) _ (and-fail-l (versionsRight s (pred n)) _ h)))
+
+  pub rest-fails : restZero s capacity n ≡ false → contentsRight s capacity n ≡ false
+  rest-fails h =
+      contents-grouped s capacity n
+      ∙ and-fail-r (leb 1 n) _
+      (and-fail-r (leb n capacity) _ (and-fail-r (spareZero s) _ (and-fail-r (versionsRight s (pred n)) _ (and-fail-l (restZero s capacity n) _ h))))
+
+  pub consoles-fail : everyBelow consoleCount (consoleRight s n) ≡ false → contentsRight s capacity n ≡ false
+  consoles-fail h =
+      contents-grouped s capacity n
+      ∙ and-fail-r (leb 1 n) _
+      (and-fail-r (leb n capacity) _
+      (and-fail-r (spareZero s) _
+      (and-fail-r (versionsRight s (pred n)) _
+      (and-fail-r (restZero s capacity n) _ (and-fail-l (everyBelow consoleCount (consoleRight s n)) _ h)))))
+
+  pub heads-decide : 1 ≤ n → n ≤ capacity → spareZero s ≡ true → versionsRight s (pred n) ≡ true → restZero s capacity n ≡ true
+      → everyBelow consoleCount (consoleRight s n) ≡ true → headsCover s n ≡ contentsRight s capacity n
+  heads-decide a b spare versions rest consoles =
+      sym (contents-grouped s capacity n ∙ rw (le-leb 1 n a, le-leb n capacity b, spare, versions, rest, consoles))
