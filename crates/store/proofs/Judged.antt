@@ -6,13 +6,18 @@ use mathlib.Core.Bool.{Bool, true, false, _&&_}
 use mathlib.Core.List.{List}
 use borrow.Author.Tests.{le-leb, lt-leb}
 use lib.Dec.{leb, ltb}
-use Rattle.laws.proofs.Logic.{clash}
-use Rattle.buffer.specs.Field.{part, same, allZero}
+use lib.ListN.{length}
+use Rattle.laws.proofs.Logic.{clash, refuted, and-i}
+use Rattle.buffer.specs.Field.{wordAt, part, same, allZero}
 use Rattle.buffer.specs.Row.{row, noneFrom}
+use Rattle.buffer.proofs.Parts.{Bytes}
 use Rattle.graph.specs.Below.{everyBelow}
 use Rattle.command.specs.Code.{consoleCount}
-use Rattle.store.specs.Layout.{headerSize, rowSize, blockSize, countAt, entriesAt, commonsEnd, blockAt}
-use Rattle.store.specs.Check.{entriesPart, commonIn, behindHeads, consoleRight, versionsRight, contentsRight}
+use Rattle.room.specs.Sound.{maxCapacity, isCapacity}
+use Rattle.store.specs.Layout.{headerSize, rowSize, blockSize, storeSize, capacityAt, countAt, entriesAt, commonsEnd, blockAt, holdsStore}
+use Rattle.store.specs.Check.{entriesPart, commonIn, behindHeads, consoleRight, versionsRight, contentsRight, storeRight}
+use Rattle.store.proofs.Holds.{holds-right}
+use Rattle.store.proofs.Checked.{check-holds}
 
 grouped : (a b c d e f g h i j : Bool) → a && b && c && d && e && f && g && h && i && j ≡ a && (b && ((c && d) && (e && ((f && g) && (h && (i && j))))))
 grouped true true true true true true true true i j = refl
@@ -85,3 +90,45 @@ module _ (s : List ℕ) (capacity n : ℕ) where
       → everyBelow consoleCount (consoleRight s n) ≡ true → headsCover s n ≡ contentsRight s capacity n
   heads-decide a b spare versions rest consoles =
       sym (contents-grouped s capacity n ∙ rw (le-leb 1 n a, le-leb n capacity b, spare, versions, rest, consoles))
+
+-- the whole test: a failed part fails it, and then the bytes hold no store; where all before pass, the contents decide
+module _ (s : List ℕ) where
+  unheld : storeRight s ≡ false → holdsStore s ≡ false
+  unheld h = refuted (holdsStore s) (λ t. clash (holds-right s t) h)
+
+  pub too-short : length s < headerSize → holdsStore s ≡ false
+  unfolding storeRight
+  too-short h =
+      unheld
+      (and-fail-l (leb headerSize (length s) && isCapacity (wordAt s capacityAt) && leb (storeSize (wordAt s capacityAt)) (length s)) _
+      (and-fail-l (leb headerSize (length s) && isCapacity (wordAt s capacityAt)) _ (and-fail-l (leb headerSize (length s)) _ (lt-leb headerSize (length s) h))))
+
+  pub no-capacity : isCapacity (wordAt s capacityAt) ≡ false → holdsStore s ≡ false
+  unfolding storeRight
+  no-capacity h =
+      unheld
+      (and-fail-l (leb headerSize (length s) && isCapacity (wordAt s capacityAt) && leb (storeSize (wordAt s capacityAt)) (length s)) _
+      (and-fail-l (leb headerSize (length s) && isCapacity (wordAt s capacityAt)) _ (and-fail-r (leb headerSize (length s)) _ h)))
+
+  pub no-room : length s < storeSize (wordAt s capacityAt) → holdsStore s ≡ false
+  unfolding storeRight
+  no-room h =
+      unheld
+      (and-fail-l (leb headerSize (length s) && isCapacity (wordAt s capacityAt) && leb (storeSize (wordAt s capacityAt)) (length s)) _
+      (and-fail-r (leb headerSize (length s) && isCapacity (wordAt s capacityAt)) _ (lt-leb (storeSize (wordAt s capacityAt)) (length s) h)))
+
+  pub contents-decide : Bytes s → headerSize ≤ length s → isCapacity (wordAt s capacityAt) ≡ true → storeSize (wordAt s capacityAt) ≤ length s
+      → contentsRight s (wordAt s capacityAt) (wordAt s countAt) ≡ holdsStore s
+  unfolding storeRight
+  contents-decide bytes a b c =
+      sym (sym (check-holds s bytes) ∙ rw (le-leb headerSize (length s) a, b, le-leb (storeSize (wordAt s capacityAt)) (length s) c))
+
+-- a number outside 1 to 1,024 is no capacity
+pub capacity-low : (x : ℕ) → x < 1 → isCapacity x ≡ false
+capacity-low x h = and-fail-l (leb 1 x) _ (lt-leb 1 x h)
+
+pub capacity-high : (x : ℕ) → maxCapacity < x → isCapacity x ≡ false
+capacity-high x h = and-fail-r (leb 1 x) _ (lt-leb x maxCapacity h)
+
+pub capacity-in : (x : ℕ) → 1 ≤ x → x ≤ maxCapacity → isCapacity x ≡ true
+capacity-in x a b = and-i (leb 1 x) _ (le-leb 1 x a) (le-leb x maxCapacity b)

@@ -1,8 +1,17 @@
 // Whether lent bytes hold a sound store: the tests of the header, of the versions and of the consoles, together.
-use crate::consoles::{behind_right, consoles_right};
-use crate::places::{BLOCK, COMMONS, COMMONS_END, ENTRIES, HEADER, SPARE};
+use crate::consoles::behind_right;
+use crate::consoles::consoles_right;
+use crate::places::BLOCK;
+use crate::places::COMMONS;
+use crate::places::COMMONS_END;
+use crate::places::ENTRIES;
+use crate::places::HEADER;
+use crate::places::SPARE;
 use crate::version::versions_right;
-use buffer::{is_zero, none_from, word_at};
+use buffer::is_zero;
+use buffer::none_from;
+use buffer::wide;
+use buffer::word_at;
 ghost use mathlib.Core.Path.{_≡_};
 ghost use mathlib.Core.Bool.{_&&_};
 ghost use Prim.Native.Nat.{ℕ, _+_, _-_, _*_, _≤_, _<_};
@@ -77,7 +86,7 @@ pub fn holds(s: &[u8]) -> bool
     if s.len() < HEADER {
         return false;
     }
-    let capacity = word_at(s, 0);
+    let capacity = wide(s[0]) * 256 + wide(s[1]);
     if capacity < 1 {
         return false;
     }

@@ -1,7 +1,21 @@
 // The test of the versions of a store: each version's block against the blocks of its parents and its base.
-use crate::places::{BLOCK, BOARD, ENTRIES, HEADER, NODE, ROW, row_of};
-use board::{Strip, is_entered, is_merged};
-use buffer::{has_member, is_extended, is_extended_union, is_intersection, is_zero, wide, word_at};
+use crate::places::BLOCK;
+use crate::places::BOARD;
+use crate::places::ENTRIES;
+use crate::places::HEADER;
+use crate::places::NODE;
+use crate::places::ROW;
+use crate::places::row_of;
+use board::Strip;
+use board::is_entered;
+use board::is_merged;
+use buffer::has_member;
+use buffer::is_extended;
+use buffer::is_extended_union;
+use buffer::is_intersection;
+use buffer::is_zero;
+use buffer::wide;
+use buffer::word_at;
 ghost use mathlib.Core.Path.{_≡_};
 ghost use mathlib.Core.Bool.{not, _&&_};
 ghost use Prim.Native.Nat.{suc, _+_, _-_, _<_, _≤_};
