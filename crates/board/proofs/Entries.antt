@@ -1,6 +1,6 @@
 -- An entry writes within its strip: a board after an entry is the board with its strip as the entry makes it.
 -- Assumes nothing.
-use Prim.Native.Nat.{ℕ, suc, _+_, _-_, _*_, _/_, _^_, _<_, _≤_}
+use Prim.Native.Nat.{ℕ, _+_, _-_, _*_, _/_, _^_, _<_, _≤_}
 use mathlib.Core.Path.{_≡_, refl, sym, ap, ap₂, _∙_}
 use mathlib.Core.Bool.{Bool, true, false, cond, _&&_}
 use mathlib.Core.List.{List, [], _∷_, _++_}
@@ -27,6 +27,7 @@ unfolding enter
 enter-none code k x s b c d e f g h =
     simp (ne-eqb code 2 b, ne-eqb code 3 c, ne-eqb code 4 d, ne-eqb code 5 e, ne-eqb code 6 f, ne-eqb code 7 g, ne-eqb code 8 h)
 
+-- a store behind a seam
 set-right : (p q : List ℕ) (i x : ℕ) → set (p ++ q) (length p + i) x ≡ p ++ set q i x
 set-right [] q i x = rw zero-add
 set-right (y ∷ p) q i x = rw suc-add (ap (λ (t : List ℕ). y ∷ t) (set-right p q i x))

@@ -1,4 +1,4 @@
--- `board::copy` meets its contract.
+-- `board::copy` meets its contract. The invariant of its loop is `Copying`: the first i bytes are copied.
 -- Assumes nothing.
 use Prim.Native.Nat.{_-_}
 use native.Mathlib.Omega.{arith}

@@ -1,4 +1,4 @@
--- `board::count_up` meets its contract.
+-- `board::count_up` meets its contract. What is written is what was read and 1.
 -- Assumes nothing.
 use borrow.Author.Needs.{needs}
 use Rattle.board.proofs.count_up.Statement.{statement}

@@ -1,4 +1,4 @@
--- `board::enter_board` meets its contract.
+-- `board::enter_board` meets its contract. The strip was lent, and comes back as the entry makes it.
 -- Assumes nothing.
 use Prim.Native.Nat.{_+_, _-_, _*_}
 use native.Mathlib.Omega.{arith}

@@ -1,4 +1,4 @@
--- `board::is_entered` meets its contract.
+-- `board::is_entered` meets its contract. The board is compared in three parts: before the strip, the strip, behind it.
 -- Assumes nothing.
 use Prim.Native.Nat.{_*_}
 use mathlib.Core.Path.{sym, _∙_}

@@ -1,4 +1,4 @@
--- `board::is_same` meets its contract.
+-- `board::is_same` meets its contract. The invariant of its loop is `Gathered`: the difference of the first i bytes.
 -- Assumes nothing.
 use Prim.Native.Nat.{_-_}
 use native.Mathlib.Omega.{arith}

@@ -1,4 +1,4 @@
--- `board::is_strip_entered` meets its contract.
+-- `board::is_strip_entered` meets its contract. The entry is made on a copy of the strip and compared.
 -- Assumes nothing.
 use borrow.Author.Needs.{needs}
 use Rattle.board.proofs.is_strip_entered.Statement.{statement}

@@ -1,4 +1,4 @@
--- `board::is_strip_merged` meets its contract.
+-- `board::is_strip_merged` meets its contract. The merge is written to an array of its own and compared.
 -- Assumes nothing.
 use borrow.Author.Needs.{needs}
 use Rattle.board.proofs.is_strip_merged.Statement.{statement}

@@ -1,4 +1,4 @@
--- `board::mark_bit` meets its contract.
+-- `board::mark_bit` meets its contract. The shift stays within 64 bits.
 -- Assumes nothing.
 use native.Mathlib.Omega.{arith}
 use lib.Pow.{shl-exact}

@@ -1,4 +1,4 @@
--- `board::marks_without` meets its contract.
+-- `board::marks_without` meets its contract. What is taken from marks is among them.
 -- Assumes nothing.
 use lib.Bits.{and-le-l}
 use borrow.Author.Needs.{needs}

@@ -1,4 +1,4 @@
--- `board::merge_alerts` meets its contract.
+-- `board::merge_alerts` meets its contract. What is written is made of the words and the flags that were read.
 -- Assumes nothing.
 use native.Mathlib.Omega.{arith}
 use lib.ListN.{length-set}
@@ -21,23 +21,17 @@ merge-count-requires c κs = search needs
 put-word-requires : tie.Need-put-word-requires
 put-word-requires c κs = search needs
 
-shared-slice-read-is-on : tie.Need-shared-slice-read-is-on
-shared-slice-read-is-on c = search needs
+shared-slice-read-merge-flag : tie.Need-shared-slice-read-merge-flag
+shared-slice-read-merge-flag c = search needs
 
-is-on-requires : tie.Need-is-on-requires
-is-on-requires c κs = search needs
-
-shared-slice-read-is-on-2 : tie.Need-shared-slice-read-is-on-2
-shared-slice-read-is-on-2 c = search needs
-
-is-on-requires-2 : tie.Need-is-on-requires-2
-is-on-requires-2 c κs = search needs
+shared-slice-read-merge-flag-2 : tie.Need-shared-slice-read-merge-flag-2
+shared-slice-read-merge-flag-2 c = search needs
 
 merge-flag-requires : tie.Need-merge-flag-requires
 merge-flag-requires c κs = search needs
 
-bit-of-requires : tie.Need-bit-of-requires
-bit-of-requires c κs = search needs
+cast-s : tie.Need-cast-s
+cast-s c = search needs
 
 slice-write-s : tie.Need-slice-write-s
 slice-write-s c = search needs
@@ -60,12 +54,10 @@ merge-alerts-spec =
     word-at-requires-3
     merge-count-requires
     put-word-requires
-    shared-slice-read-is-on
-    is-on-requires
-    shared-slice-read-is-on-2
-    is-on-requires-2
+    shared-slice-read-merge-flag
+    shared-slice-read-merge-flag-2
     merge-flag-requires
-    bit-of-requires
+    cast-s
     slice-write-s
     slice-write-s-2
     same-length

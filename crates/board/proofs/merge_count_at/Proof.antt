@@ -1,4 +1,4 @@
--- `board::merge_count_at` meets its contract.
+-- `board::merge_count_at` meets its contract. What is written is made of the three words that were read.
 -- Assumes nothing.
 use borrow.Author.Needs.{needs}
 use Rattle.board.proofs.merge_count_at.Statement.{statement}

@@ -1,4 +1,4 @@
--- `board::merge_strip` meets its contract.
+-- `board::merge_strip` meets its contract. Its calls write the cells from the first to the last.
 -- Assumes nothing.
 use denote.Ref.{now}
 use borrow.Author.Needs.{needs}

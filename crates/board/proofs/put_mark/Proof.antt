@@ -1,4 +1,4 @@
--- `board::put_mark` meets its contract.
+-- `board::put_mark` meets its contract. What is written are the marks that were read, with one put.
 -- Assumes nothing.
 use borrow.Author.Needs.{needs}
 use Rattle.board.proofs.put_mark.Statement.{statement}

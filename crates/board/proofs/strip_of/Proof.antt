@@ -1,4 +1,4 @@
--- `board::strip_of` meets its contract.
+-- `board::strip_of` meets its contract. The part from a strip's first byte to its last has the strip's bytes.
 -- Assumes nothing.
 use Prim.Native.Nat.{_+_, _-_, _*_}
 use mathlib.Core.Path.{_≡_, refl}

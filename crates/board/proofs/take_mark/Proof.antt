@@ -1,4 +1,4 @@
--- `board::take_mark` meets its contract.
+-- `board::take_mark` meets its contract. What is written are the marks that were read, with one taken.
 -- Assumes nothing.
 use borrow.Author.Needs.{needs}
 use Rattle.board.proofs.take_mark.Statement.{statement}
