@@ -2,8 +2,8 @@
 -- Assumes nothing.
 use Prim.Native.Nat.{_+_, _-_, _*_}
 use native.Mathlib.Omega.{arith}
-use denote.Ref.{now}
 use borrow.Author.Needs.{needs}
+use denote.Ref.{now}
 use Rattle.board.specs.Board.{stripSize}
 use Rattle.board.proofs.Entries.{entered-back}
 use Rattle.board.proofs.enter_board.Statement.{statement}

@@ -3,9 +3,9 @@
 use Prim.Native.Nat.{_*_}
 use mathlib.Core.Path.{sym, _∙_}
 use native.Mathlib.Omega.{arith}
-use lib.Seq.{length-take-le}
-use denote.Ref.{now}
 use borrow.Author.Needs.{needs}
+use denote.Ref.{now}
+use lib.Seq.{length-take-le}
 use Rattle.board.specs.Board.{stripSize}
 use Rattle.board.proofs.Entries.{same-entered}
 use Rattle.board.proofs.is_entered.Statement.{statement}

@@ -1,6 +1,10 @@
 -- `board::is_strip_entered` meets its contract. The entry is made on a copy of the strip and compared.
 -- Assumes nothing.
+use mathlib.Core.Path.{ap, _∙_}
 use borrow.Author.Needs.{needs}
+use denote.Ref.{now}
+use Rattle.buffer.specs.Field.{same}
+use Rattle.board.specs.Board.{enter}
 use Rattle.board.proofs.is_strip_entered.Statement.{statement}
 use Rattle.board.proofs.is_strip_entered.Tie as tie
 
@@ -23,7 +27,12 @@ is-same-requires : tie.Need-is-same-requires
 is-same-requires c κs = search needs
 
 returns : tie.Need-returns
-returns c = cc
+returns c =
+    let entry = c .before .before .before in
+    let copied = entry .before .before .before in
+    let args = copied .before .before .before .before .args in
+    c .is-same .ensures
+    ∙ ap (same (now (args .s))) (entry .enter-strip .ensures ∙ ap (enter (args .code) 0 (args .operand)) (copied .copy .ensures))
 
 pub is-strip-entered-spec : {M : Type 1} → statement M
 is-strip-entered-spec =

@@ -1,6 +1,9 @@
 -- `board::is_strip_merged` meets its contract. The merge is written to an array of its own and compared.
 -- Assumes nothing.
+use mathlib.Core.Path.{ap, _∙_}
 use borrow.Author.Needs.{needs}
+use denote.Ref.{now}
+use Rattle.buffer.specs.Field.{same}
 use Rattle.board.proofs.is_strip_merged.Statement.{statement}
 use Rattle.board.proofs.is_strip_merged.Tie as tie
 
@@ -17,7 +20,9 @@ is-same-requires : tie.Need-is-same-requires
 is-same-requires c κs = search needs
 
 returns : tie.Need-returns
-returns c = cc
+returns c =
+    let start = c .before .before .before .before .before .before .before .before .before in
+    c .is-same .ensures ∙ ap (same (now (start .args .s))) (c .before .before .before .merge-strip .ensures)
 
 pub is-strip-merged-spec : {M : Type 1} → statement M
 is-strip-merged-spec =

@@ -1,8 +1,8 @@
 -- `board::mark_bit` meets its contract. The shift stays within 64 bits.
 -- Assumes nothing.
 use native.Mathlib.Omega.{arith}
-use lib.Pow.{shl-exact}
 use borrow.Author.Needs.{needs}
+use lib.Pow.{shl-exact}
 use Rattle.board.proofs.mark_bit.Statement.{statement}
 use Rattle.board.proofs.mark_bit.Tie as tie
 

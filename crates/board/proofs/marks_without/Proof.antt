@@ -1,7 +1,7 @@
 -- `board::marks_without` meets its contract. What is taken from marks is among them.
 -- Assumes nothing.
-use lib.Bits.{and-le-l}
 use borrow.Author.Needs.{needs}
+use lib.Bits.{and-le-l}
 use Rattle.board.proofs.marks_without.Statement.{statement}
 use Rattle.board.proofs.marks_without.Tie as tie
 

@@ -1,7 +1,7 @@
 -- `board::merge_strip` meets its contract. Its calls write the cells from the first to the last.
 -- Assumes nothing.
-use denote.Ref.{now}
 use borrow.Author.Needs.{needs}
+use denote.Ref.{now}
 use Rattle.board.proofs.Strips.{strip-built}
 use Rattle.board.proofs.merge_strip.Statement.{statement}
 use Rattle.board.proofs.merge_strip.Tie as tie

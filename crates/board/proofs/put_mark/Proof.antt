@@ -1,6 +1,12 @@
 -- `board::put_mark` meets its contract. What is written are the marks that were read, with one put.
 -- Assumes nothing.
+use Prim.Native.Nat.{ℕ}
+use mathlib.Core.Path.{ap₂, _∙_}
 use borrow.Author.Needs.{needs}
+use denote.Ref.{now}
+use lib.Bits.{bitOr}
+use Rattle.buffer.specs.Field.{putWord}
+use Rattle.board.specs.Board.{marksAt}
 use Rattle.board.proofs.put_mark.Statement.{statement}
 use Rattle.board.proofs.put_mark.Tie as tie
 
@@ -17,7 +23,11 @@ same-length : tie.Need-same-length
 same-length c = search needs
 
 returns : tie.Need-returns
-returns c = cc
+returns c =
+    let put = c .before .before in
+    let args = put .before .before .before .before .before .before .args in
+    put .put-word .ensures
+    ∙ ap₂ (λ (m n : ℕ). putWord (now (args .s)) (marksAt 0) (bitOr m n)) (put .before .before .before .word-at .ensures .0) (put .before .mark-bit .ensures)
 
 pub put-mark-spec : {M : Type 1} → statement M
 put-mark-spec =

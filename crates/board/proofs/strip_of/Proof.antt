@@ -3,8 +3,8 @@
 use Prim.Native.Nat.{_+_, _-_, _*_}
 use mathlib.Core.Path.{_≡_, refl}
 use native.Mathlib.Omega.{arith}
-use denote.Ref.{now}
 use borrow.Author.Needs.{needs}
+use denote.Ref.{now}
 use Rattle.buffer.proofs.Fields.{part-length}
 use Rattle.board.specs.Board.{stripSize}
 use Rattle.board.proofs.strip_of.Statement.{statement}

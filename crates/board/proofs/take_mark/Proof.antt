@@ -1,6 +1,10 @@
 -- `board::take_mark` meets its contract. What is written are the marks that were read, with one taken.
 -- Assumes nothing.
+use mathlib.Core.Path.{ap, ap₂, _∙_}
 use borrow.Author.Needs.{needs}
+use denote.Ref.{now}
+use Rattle.buffer.specs.Field.{putWord}
+use Rattle.board.specs.Board.{marksAt, without}
 use Rattle.board.proofs.take_mark.Statement.{statement}
 use Rattle.board.proofs.take_mark.Tie as tie
 
@@ -20,7 +24,11 @@ same-length : tie.Need-same-length
 same-length c = search needs
 
 returns : tie.Need-returns
-returns c = cc
+returns c =
+    let put = c .before .before in
+    let args = put .before .before .before .before .before .before .before .args in
+    put .put-word .ensures
+    ∙ ap (putWord (now (args .s)) (marksAt 0)) (put .before .marks-without .ensures ∙ ap₂ without (put .before .before .before .before .word-at .ensures .0) (put .before .before .mark-bit .ensures))
 
 pub take-mark-spec : {M : Type 1} → statement M
 take-mark-spec =
