@@ -27,6 +27,7 @@ unfolding enter
 enter-none code k x s b c d e f g h =
     simp (ne-eqb code 2 b, ne-eqb code 3 c, ne-eqb code 4 d, ne-eqb code 5 e, ne-eqb code 6 f, ne-eqb code 7 g, ne-eqb code 8 h)
 
+-- a store behind a seam
 set-right : (p q : List ℕ) (i x : ℕ) → set (p ++ q) (length p + i) x ≡ p ++ set q i x
 set-right [] q i x = rw zero-add
 set-right (y ∷ p) q i x = rw suc-add (ap (λ (t : List ℕ). y ∷ t) (set-right p q i x))

@@ -1,4 +1,4 @@
--- Marks of 16 bits: what a merge makes of them, and what one mark is.
+-- Marks of 16 bits stay within 16 bits when they are merged.
 -- Assumes nothing.
 use Prim.Native.Nat.{ℕ, _<_}
 use native.Mathlib.Omega.{arith}

@@ -7,12 +7,12 @@ use buffer::word_at;
 ghost use mathlib.Core.Path.{_≡_};
 ghost use Prim.Native.Nat.{_+_, _*_, _^_, _<_};
 ghost use lib.Bits.{bitOr};
-ghost use lib.Dec.{eqb};
 ghost use lib.ListN.{length, set};
 ghost use Rattle.buffer.specs.Field.{wordAt, putWord, part, same};
 ghost use Rattle.buffer.specs.Row.{bit};
 ghost use Rattle.board.specs.Board.{stripSize, stripCount, boardSize, marksAt, alertsAt, flagAt, flagOn, mergeSetting, mergeMarks, mergeCount, mergeFlag, mergeStrip, mergeBoard, without, enter};
 
+// The bytes of a strip, and the strips of a board.
 const STRIP_SIZE: usize = 12;
 
 const STRIP_COUNT: usize = 32;
@@ -59,7 +59,7 @@ fn marks_without(a: usize, l: usize) -> usize
 
 // The marks of a merge: those that both have, and those that either put.
 fn merge_marks(l: usize, a: usize, b: usize) -> usize
-    requires { ⌜ (l < 65536) × (a < 65536) × (b < 65536) ⌝ }
+    requires { ⌜ (a < 65536) × (b < 65536) ⌝ }
     ensures { λ r. ⌜ (r ≡ mergeMarks l a b) × (r < 65536) ⌝ }
 {
     (a & b) | marks_without(a, l) | marks_without(b, l)
@@ -88,20 +88,6 @@ fn merge_flag(a_on: bool, b_on: bool, l: usize, a: usize, b: usize) -> bool
         return l < b;
     }
     false
-}
-
-// A test as a byte.
-fn bit_of(on: bool) -> u8
-    ensures { λ r. ⌜ r ≡ bit on ⌝ }
-{
-    on as u8
-}
-
-// A flag's byte is 1.
-fn is_on(x: u8) -> bool
-    ensures { λ r. ⌜ r ≡ eqb x 1 ⌝ }
-{
-    x == 1
 }
 
 // Writes a merged level or heading into a strip.
@@ -149,7 +135,7 @@ fn merge_alerts(s: &mut [u8], l: &[u8], a: &[u8], b: &[u8])
     let mine = word_at(a, ALERTS);
     let given = word_at(b, ALERTS);
     put_word(s, ALERTS, merge_count(base, mine, given));
-    s[FLAG] = bit_of(merge_flag(is_on(a[FLAG]), is_on(b[FLAG]), base, mine, given));
+    s[FLAG] = merge_flag(a[FLAG] == 1, b[FLAG] == 1, base, mine, given) as u8;
     s[REST] = 0;
 }
 

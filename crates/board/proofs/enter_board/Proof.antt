@@ -1,9 +1,9 @@
--- `board::enter_board` meets its contract.
+-- `board::enter_board` meets its contract. The strip was lent, and comes back as the entry makes it.
 -- Assumes nothing.
 use Prim.Native.Nat.{_+_, _-_, _*_}
 use native.Mathlib.Omega.{arith}
-use denote.Ref.{now}
 use borrow.Author.Needs.{needs}
+use denote.Ref.{now}
 use Rattle.board.specs.Board.{stripSize}
 use Rattle.board.proofs.Entries.{entered-back}
 use Rattle.board.proofs.enter_board.Statement.{statement}

@@ -1,4 +1,4 @@
--- `board::enter_strip` meets its contract.
+-- `board::enter_strip` meets its contract. Each arm of its match is one of the choices of `enter`.
 -- Assumes nothing.
 use mathlib.Core.Path.{sym}
 use native.Mathlib.Omega.{arith}

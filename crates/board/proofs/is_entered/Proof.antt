@@ -1,11 +1,11 @@
--- `board::is_entered` meets its contract.
+-- `board::is_entered` meets its contract. The board is compared in three parts: before the strip, the strip, behind it.
 -- Assumes nothing.
 use Prim.Native.Nat.{_*_}
 use mathlib.Core.Path.{sym, _∙_}
 use native.Mathlib.Omega.{arith}
-use lib.Seq.{length-take-le}
-use denote.Ref.{now}
 use borrow.Author.Needs.{needs}
+use denote.Ref.{now}
+use lib.Seq.{length-take-le}
 use Rattle.board.specs.Board.{stripSize}
 use Rattle.board.proofs.Entries.{same-entered}
 use Rattle.board.proofs.is_entered.Statement.{statement}

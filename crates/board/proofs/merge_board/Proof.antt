@@ -1,4 +1,4 @@
--- `board::merge_board` meets its contract.
+-- `board::merge_board` meets its contract. The invariant of its loop is `Merging`: the first k strips are merged.
 -- Assumes nothing.
 use Prim.Native.Nat.{_-_}
 use native.Mathlib.Omega.{arith}

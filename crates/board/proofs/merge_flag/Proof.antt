@@ -1,4 +1,4 @@
--- `board::merge_flag` meets its contract: each way through the two tests is a clause of the definition.
+-- `board::merge_flag` meets its contract. Each way through the two tests is a clause of the definition.
 -- Assumes nothing.
 use Rattle.board.specs.Board.{mergeFlag}
 use Rattle.board.proofs.merge_flag.Statement.{statement}

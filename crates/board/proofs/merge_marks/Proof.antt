@@ -1,4 +1,4 @@
--- `board::merge_marks` meets its contract: marks of 16 bits stay within 16 bits.
+-- `board::merge_marks` meets its contract. Marks of 16 bits stay within 16 bits.
 -- Assumes nothing.
 use native.Mathlib.Omega.{arith}
 use Rattle.board.proofs.Marks.{marks-small}

@@ -1,29 +1,37 @@
--- `board::merge_marks_at` meets its contract.
+-- `board::merge_marks_at` meets its contract. What is written is made of the three words that were read.
 -- Assumes nothing.
-use native.Mathlib.Omega.{arith}
+use borrow.Author.Needs.{needs}
+use denote.Ref.{now}
+use Rattle.board.specs.Board.{mergeMarks}
+use Rattle.board.proofs.Strips.{put-rule}
 use Rattle.board.proofs.merge_marks_at.Statement.{statement}
 use Rattle.board.proofs.merge_marks_at.Tie as tie
 
 word-at-requires : tie.Need-word-at-requires
-word-at-requires c κs = omega arith
+word-at-requires c κs = search needs
 
 word-at-requires-2 : tie.Need-word-at-requires-2
-word-at-requires-2 c κs = omega arith
+word-at-requires-2 c κs = search needs
 
 word-at-requires-3 : tie.Need-word-at-requires-3
-word-at-requires-3 c κs = omega arith
+word-at-requires-3 c κs = search needs
 
 merge-marks-requires : tie.Need-merge-marks-requires
-merge-marks-requires c κs = omega arith
+merge-marks-requires c κs = search needs
 
 put-word-requires : tie.Need-put-word-requires
-put-word-requires c κs = omega arith
+put-word-requires c κs = search needs
 
 same-length : tie.Need-same-length
-same-length c = omega arith
+same-length c = search needs
 
 returns : tie.Need-returns
-returns c = cc
+returns c =
+    let rule = c .before .before .before in
+    let words = rule .before in
+    let args = words .before .before .before .before .before .before .before .before .args in
+    put-rule mergeMarks (now (args .s)) (args .at) (c .before .before .put-word .ensures) (rule .merge-marks .ensures .0)
+    (words .before .before .word-at .ensures .0) (words .before .word-at2 .ensures .0) (words .word-at3 .ensures .0)
 
 pub merge-marks-at-spec : {M : Type 1} → statement M
 merge-marks-at-spec =

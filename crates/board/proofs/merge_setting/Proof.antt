@@ -1,4 +1,4 @@
--- `board::merge_setting` meets its contract: the branch is the choice.
+-- `board::merge_setting` meets its contract. The branch is the choice.
 -- Assumes nothing.
 use borrow.Author.Tests.{eq-eqb, ne-eqb}
 use Rattle.board.proofs.merge_setting.Statement.{statement}

@@ -1,28 +1,28 @@
--- `board::merge_strip` meets its contract.
+-- `board::merge_strip` meets its contract. Its calls write the cells from the first to the last.
 -- Assumes nothing.
+use borrow.Author.Needs.{needs}
 use denote.Ref.{now}
-use native.Mathlib.Omega.{arith}
 use Rattle.board.proofs.Strips.{strip-built}
 use Rattle.board.proofs.merge_strip.Statement.{statement}
 use Rattle.board.proofs.merge_strip.Tie as tie
 
 merge-setting-at-requires : tie.Need-merge-setting-at-requires
-merge-setting-at-requires c κs = omega arith
+merge-setting-at-requires c κs = search needs
 
 merge-setting-at-requires-2 : tie.Need-merge-setting-at-requires-2
-merge-setting-at-requires-2 c κs = omega arith
+merge-setting-at-requires-2 c κs = search needs
 
 merge-marks-at-requires : tie.Need-merge-marks-at-requires
-merge-marks-at-requires c κs = omega arith
+merge-marks-at-requires c κs = search needs
 
 merge-count-at-requires : tie.Need-merge-count-at-requires
-merge-count-at-requires c κs = omega arith
+merge-count-at-requires c κs = search needs
 
 merge-alerts-requires : tie.Need-merge-alerts-requires
-merge-alerts-requires c κs = omega arith
+merge-alerts-requires c κs = search needs
 
 same-length : tie.Need-same-length
-same-length c = omega arith
+same-length c = search needs
 
 returns : tie.Need-returns
 returns c =

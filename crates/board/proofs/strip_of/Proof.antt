@@ -1,8 +1,9 @@
--- `board::strip_of` meets its contract.
+-- `board::strip_of` meets its contract. The part from a strip's first byte to its last has the strip's bytes.
 -- Assumes nothing.
 use Prim.Native.Nat.{_+_, _-_, _*_}
 use mathlib.Core.Path.{_≡_, refl}
 use native.Mathlib.Omega.{arith}
+use borrow.Author.Needs.{needs}
 use denote.Ref.{now}
 use Rattle.buffer.proofs.Fields.{part-length}
 use Rattle.board.specs.Board.{stripSize}
@@ -10,19 +11,19 @@ use Rattle.board.proofs.strip_of.Statement.{statement}
 use Rattle.board.proofs.strip_of.Tie as tie
 
 mul-at : tie.Need-mul-at
-mul-at c = omega arith
+mul-at c = search needs
 
 add-end : tie.Need-add-end
-add-end c = omega arith
+add-end c = search needs
 
 sub-result : tie.Need-sub-result
-sub-result c = omega arith
+sub-result c = search needs
 
 part-result-start : tie.Need-part-result-start
-part-result-start c = omega arith
+part-result-start c = search needs
 
 part-result-end : tie.Need-part-result-end
-part-result-end c = omega arith
+part-result-end c = search needs
 
 returns : tie.Need-returns
 returns c =
