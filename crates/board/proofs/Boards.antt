@@ -14,7 +14,7 @@ use Rattle.laws.proofs.Lists.{part-at, take-put}
 use Rattle.buffer.specs.Field.{wordAt, part, same}
 use Rattle.board.specs.Board.{stripSize, stripCount, boardSize, flagOn, mergeStrip, mergeStrips, mergeBoard}
 use Rattle.board.proofs.Length.{mergeStrip-length, mergeStrips-length}
-use Rattle.board.proofs.Compare.{same-append}
+use Rattle.buffer.proofs.Compare.{same-append}
 
 -- strip k of a board
 abbrev pub strip : List ℕ → ℕ → List ℕ

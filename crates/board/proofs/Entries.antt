@@ -2,7 +2,7 @@
 -- Assumes nothing.
 use Prim.Native.Nat.{ℕ, _+_, _-_, _*_, _/_, _^_, _<_, _≤_}
 use mathlib.Core.Path.{_≡_, refl, sym, ap, ap₂, _∙_}
-use mathlib.Core.Bool.{Bool, true, false, cond, _&&_}
+use mathlib.Core.Bool.{Bool, true, false, cond, _&&_, and-assoc}
 use mathlib.Core.List.{List, [], _∷_, _++_}
 use native.Mathlib.Nat.{zero-add, suc-add}
 use native.Mathlib.Omega.{arith}
@@ -12,12 +12,12 @@ use lib.Dec.{eqb}
 use lib.ListN.{length, set, take, drop, length-set}
 use lib.Seq.{drop-drop, length-take-le, set-append-left}
 use Rattle.laws.proofs.Lists.{three-parts, rest-all}
+use Rattle.buffer.proofs.Compare.{same-append}
 use Rattle.buffer.specs.Field.{byte, wordAt, putWord, same}
 use Rattle.buffer.proofs.Fields.{wordAt-left, wordAt-right, part-length}
 use Rattle.buffer.proofs.Writes.{put-length}
 use Rattle.board.specs.Board.{stripSize, stripCount, boardSize, levelAt, headingAt, marksAt, callsAt, alertsAt, flagAt, without, enter}
 use Rattle.board.proofs.Length.{enter-length}
-use Rattle.board.proofs.Compare.{and-assoc, same-append}
 use Rattle.board.proofs.Boards.{strip}
 
 -- a code that is no entry's changes nothing
@@ -112,7 +112,7 @@ same-entered code k x board parent {before = before} {here = here} {behind = beh
     ap₂ same (sym (three-parts board at stripSize)) (entered code k x parent (omega arith))
     ∙ same-append b₁ p₁ (strip board k ++ b₃) (p₂ ++ p₃) front
     ∙ ap (λ (t : Bool). same b₁ p₁ && t) (same-append (strip board k) p₂ b₃ p₃ middle)
-    ∙ and-assoc (same b₁ p₁) (same (strip board k) p₂) (same b₃ p₃) in
+    ∙ sym (and-assoc (same b₁ p₁) (same (strip board k) p₂) (same b₃ p₃)) in
     let told : here ≡ same (strip board k) p₂ = cc in
     let rest : behind ≡ same b₃ p₃ = rw (rest-all board end, rest-all parent end) at e₃ in
     rw (e₁, told, rest) (sym parts)

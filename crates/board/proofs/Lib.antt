@@ -1,7 +1,6 @@
 pub mod Length
 pub mod Cells
-mod Marks
-mod Strips
-mod Boards
-mod Compare
-mod Entries
+pub mod Marks
+pub mod Strips
+pub mod Boards
+pub mod Entries

@@ -9,8 +9,9 @@ use native.Mathlib.Decide.{decLt}
 use native.Mathlib.Omega.{arith}
 use lib.Dec.{eqb}
 use lib.ListN.{length, getD, drop, length-append, length-take, getD-replicate, List·getD-append, List·getD-eq-default}
-use lib.Seq.{getD-append-add, getD-take, getD-drop, ext-getD}
+use lib.Seq.{getD-append-add, ext-getD}
 use borrow.Author.Tests.{eqb-true, eq-eqb}
+use Rattle.laws.proofs.Lists.{part-at}
 use Rattle.laws.proofs.Logic.{and-l, and-r, and-i}
 use Rattle.buffer.specs.Field.{byte, word, wordAt, zeros, part, same, allZero}
 use Rattle.buffer.proofs.Fields.{zeros-length, part-length, same-refl}
@@ -19,9 +20,6 @@ use Rattle.buffer.proofs.Stands.{Stands}
 -- every element is a byte
 abbrev pub Bytes : List ℕ → Type 0
 Bytes s = (k : ℕ) → getD s k 0 < 256
-
-pub part-at : (s : List ℕ) (at n i : ℕ) → i < n → getD (part s at n) i 0 ≡ getD s (at + i) 0
-part-at s at n i h = getD-take n (drop at s) i 0 h ∙ getD-drop at s i 0
 
 pub part-bytes : (s : List ℕ) (at n : ℕ) → Bytes s → Bytes (part s at n)
 part-bytes s at n b k =

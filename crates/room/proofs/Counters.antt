@@ -16,7 +16,7 @@ use Rattle.laws.proofs.Logic.{decide, and-l, and-r, cond-true, cond-false}
 use Rattle.buffer.specs.Field.{wordAt}
 use Rattle.board.specs.Board.{stripCount, boardSize, emptyBoard, callsAt, alertsAt, mergeCount, mergeBoard, enter}
 use Rattle.board.proofs.Cells.{calls-kept, alerts-kept, call-counted, alert-counted, calls-merged, alerts-merged}
-use Rattle.graph.specs.Graph.{Graph, Node, entry, merge, versionCount, ancestor, nodeOf, meetNumber, parentsLower}
+use Rattle.graph.specs.Graph.{Graph, Node, entry, merge, versionCount, ancestor, nodeOf, meetNumber, baseOf, parentsLower}
 use Rattle.graph.specs.Below.{countBelow}
 use Rattle.graph.proofs.Below.{count-ext}
 use Rattle.graph.proofs.Ancestor.{every-new, ancestor-below, nodeOf-new, nodeOf-old, nodeOf-named}
@@ -43,11 +43,11 @@ unfolding held
 tally-same w k n g v =
     count-ext (versionCount g) _ _ (λ e l. ap (λ (o : Option Node). entryIs w k o && ancestor g e v) (nodeOf-old n g e l))
 
-board-new : (n : Node) (g : Graph) → boardOf (n ∷ g) (versionCount g) ≡ boardMade (boardOf g) (meetNumber g) n
+pub board-new : (n : Node) (g : Graph) → boardOf (n ∷ g) (versionCount g) ≡ boardMade (boardOf g) (baseOf g) n
 unfolding boardOf
 board-new n g = cond-true _ _ _ (eq-eqb (versionCount g) (versionCount g) refl)
 
-board-old : (n : Node) (g : Graph) (v : ℕ) → v < versionCount g → boardOf (n ∷ g) v ≡ boardOf g v
+pub board-old : (n : Node) (g : Graph) (v : ℕ) → v < versionCount g → boardOf (n ∷ g) v ≡ boardOf g v
 unfolding boardOf
 board-old n g v l = cond-false _ _ _ (ne-eqb v (versionCount g) (omega arith))
 

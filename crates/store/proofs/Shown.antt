@@ -9,8 +9,7 @@ use Prim.Native.Nat.{ℕ, _≤_, _<_}
 use native.Mathlib.Decide.{ℕ-discrete}
 use native.Mathlib.Omega.{arith}
 use lib.Dec.{eqb}
-use borrow.Author.Tests.{eq-eqb, ne-eqb}
-use Rattle.laws.proofs.Logic.{refuted, cond-true, cond-false}
+use Rattle.laws.proofs.Logic.{refuted}
 use Rattle.buffer.specs.Row.{row}
 use Rattle.buffer.proofs.Sets.{row-ext}
 use Rattle.graph.specs.Graph.{Graph, Node, entry, merge, versionCount, someParent, ancestor, nodeOf, entryNode, isEntry, baseOf, everyVersion, parentsLower}
@@ -18,6 +17,7 @@ use Rattle.graph.proofs.Ancestor.{every-new, every-old, ancestor-new, ancestor-
 use Rattle.graph.proofs.Parent.{Parent, parent-lower, receiver, giver}
 use Rattle.graph.proofs.Meet.{meet-old}
 use Rattle.room.specs.Boards.{boardMade, boardOf}
+use Rattle.room.proofs.Counters.{board-new, board-old}
 use Rattle.store.specs.Layout.{rowSize, nodeBytes}
 use Rattle.store.proofs.Lineage.{lineage}
 
@@ -39,14 +39,6 @@ made g n =
       board = boardMade (boardOf g) (baseOf g) n;
       listed = entryNode (some n);
     }
-
-board-new : (n : Node) (g : Graph) → boardOf (n ∷ g) (versionCount g) ≡ boardMade (boardOf g) (baseOf g) n
-unfolding boardOf
-board-new n g = cond-true _ _ _ (eq-eqb (versionCount g) (versionCount g) refl)
-
-board-old : (n : Node) (g : Graph) (v : ℕ) → v < versionCount g → boardOf (n ∷ g) v ≡ boardOf g v
-unfolding boardOf
-board-old n g v l = cond-false _ _ _ (ne-eqb v (versionCount g) (omega arith))
 
 -- parents that are versions have the base that they had
 note-kept : (n m : Node) (g : Graph) → ((p : ℕ) → Parent m p → p < versionCount g) → nodeBytes (n ∷ g) (some m) ≡ nodeBytes g (some m)
