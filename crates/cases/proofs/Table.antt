@@ -9,7 +9,7 @@ use Rattle.graph.specs.Below.{everyBelow, someBelow, countBelow, highestBelow}
 use Rattle.graph.specs.Graph.{ancestor, nodeOf, isMeet, meet, everyVersion}
 use Rattle.command.specs.Refusal.{firstRefusal}
 use Rattle.command.specs.Code.{shapeOf, lengthOf, numberAt, operandsOf, isOperand}
-use Rattle.command.specs.Decode.{commandRefusal, commandOf, decode}
+use Rattle.command.specs.Decode.{commandRefusal, commandOf, decode, operandBytes, commandBytes}
 use Rattle.room.specs.Room.{common, heardCount}
 use Rattle.room.specs.Sound.{headsMeet, allBehindHeads, soundRoom}
 use Rattle.room.specs.Boards.{boardMade, boardOf}
@@ -17,8 +17,8 @@ use Rattle.room.specs.Step.{stepRefusal, step}
 use Rattle.store.specs.Layout.{commonFields, commonTable, header, nodeBytes, block, blocks, encode, nodeIn, versionsIn, headsIn, roomIn, holdsStore}
 use Rattle.tape.specs.Record.{recordFrom, recordIn, recordBytes}
 use Rattle.tape.specs.Tape.{versionRecords, headRecords, tapeOf, afterRecord, readOn, contentOf, headSlots, consolesRise, headsNamed, contentRefusal}
-use Rattle.unit.specs.Calls.{openOutcome, stepOutcome, commandOutcome, pauseOutcome, resumed, resumeOutcome, boardOutcome, heardReply, commonReply}
-use Rattle.cases.specs.Run.{Case, answerIn, roomAfter, made, answers, session}
+use Rattle.unit.specs.Calls.{openOutcome, stepOutcome, commandOutcome, pauseOutcome, resumed, resumeOutcome, boardOutcome, heardReply, commonReply, outputAfter}
+use Rattle.cases.specs.Run.{Case, saidBack, answerIn, roomAfter, made, answers, session}
 use Rattle.cases.specs.Starred.{crossed, stuck, acceptedBy, accepted, starred}
 use Rattle.cases.specs.Commands.{diverged, ahead, decoding, stepping, boards}
 use Rattle.cases.specs.Tapes.{sequence, ranges, graphs}
@@ -30,7 +30,7 @@ Hold table = map (λ (c : Case). c .got) table ≡ map (λ (c : Case). c .due) t
 
 -- every definition that a row computes with, named once: to unfold this is to unfold them all
 definitions : ℕ
-unfolding same rowFrom mergeFlag mergeStrip mergeStrips enter everyBelow someBelow countBelow highestBelow ancestor nodeOf isMeet meet everyVersion firstRefusal shapeOf lengthOf numberAt operandsOf isOperand commandRefusal commandOf decode common heardCount headsMeet allBehindHeads soundRoom boardMade boardOf stepRefusal step commonFields commonTable header nodeBytes block blocks encode nodeIn versionsIn headsIn roomIn holdsStore recordFrom recordIn recordBytes versionRecords headRecords tapeOf afterRecord readOn contentOf headSlots consolesRise headsNamed contentRefusal openOutcome stepOutcome commandOutcome pauseOutcome resumed resumeOutcome boardOutcome heardReply commonReply answerIn roomAfter made answers session crossed stuck acceptedBy accepted diverged ahead store parted mergedStore least shown damaged
+unfolding same rowFrom mergeFlag mergeStrip mergeStrips enter everyBelow someBelow countBelow highestBelow ancestor nodeOf isMeet meet everyVersion firstRefusal shapeOf lengthOf numberAt operandsOf isOperand commandRefusal commandOf decode operandBytes commandBytes common heardCount headsMeet allBehindHeads soundRoom boardMade boardOf stepRefusal step commonFields commonTable header nodeBytes block blocks encode nodeIn versionsIn headsIn roomIn holdsStore recordFrom recordIn recordBytes versionRecords headRecords tapeOf afterRecord readOn contentOf headSlots consolesRise headsNamed contentRefusal openOutcome stepOutcome commandOutcome pauseOutcome resumed resumeOutcome boardOutcome heardReply commonReply outputAfter saidBack answerIn roomAfter made answers session crossed stuck acceptedBy accepted diverged ahead store parted mergedStore least shown damaged
 definitions = 0
 
 -- the cases that the paper marks *

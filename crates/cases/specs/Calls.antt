@@ -7,7 +7,7 @@ use Rattle.buffer.specs.Row.{bit}
 use Rattle.store.specs.Layout.{storeSize, encode, roomIn, holdsStore}
 use Rattle.room.specs.Room.{Room, fresh}
 use Rattle.tape.specs.Tape.{tapeOf}
-use Rattle.unit.specs.Calls.{Outcome, openOutcome, commandOutcome, pauseOutcome, resumeOutcome, boardOutcome, heardReply, commonReply}
+use Rattle.unit.specs.Calls.{Outcome, openOutcome, commandOutcome, pauseOutcome, resumeOutcome, boardOutcome, heardReply, commonReply, pause, outputAfter}
 use Rattle.cases.specs.Run.{Case, _gives_, fork, level, call, merge, made, dirty, replyList}
 
 -- a room of capacity 2 with consoles 0 and 1 on versions 1 and 0, and its store with two bytes behind it
@@ -92,7 +92,7 @@ leastTape = 0x20 ∷ 0 ∷ 1 ∷ 0x23 ∷ 0 ∷ 0 ∷ 0 ∷ 0x24 ∷ []
 unfoldable pub tapes : List Case
 tapes =
     -- pause: the exact length is enough, one less gives 19, output beyond is untouched; 11 before 19
-    (pauseOutcome least (dirty 8) .buffer gives leastTape)
+    (outputAfter least (pause (dirty 8)) gives leastTape)
     ∷ (shown (pauseOutcome least (dirty 7)) (dirty 7) gives 19 ∷ 0 ∷ 1 ∷ 0xEE ∷ 0xEE ∷ [])
     ∷ (shown (pauseOutcome least (dirty 10)) (dirty 10) gives 0 ∷ 8 ∷ 0 ∷ 0xEE ∷ 0xEE ∷ [])
     ∷ (shown (pauseOutcome (dirty 9) (dirty 7)) (dirty 7) gives 11 ∷ 0 ∷ 1 ∷ 0xEE ∷ 0xEE ∷ [])

@@ -2,7 +2,8 @@
 use Prim.Native.Nat.{ℕ}
 use mathlib.Core.List.{List, [], _∷_, _++_}
 use Rattle.room.specs.Room.{Room, fresh, common, heardCount}
-use Rattle.cases.specs.Run.{Case, _gives_, fork, level, heading, put, taken, call, alert, quiet, merge, forward, made, answers, answer, cells, fourHeads}
+use Rattle.command.specs.Decode.{decode}
+use Rattle.cases.specs.Run.{Case, _gives_, fork, level, heading, put, taken, call, alert, quiet, merge, forward, made, answers, answer, cells, fourHeads, saidBack}
 use Rattle.cases.specs.Starred.{crossed}
 
 -- consoles 0 and 1, each with an entry of its own: heads 1 and 2
@@ -61,6 +62,17 @@ decoding =
     ∷ (answer ahead (merge 2 2) gives 6 ∷ [])
     ∷ (answer ahead (forward 1 1) gives 6 ∷ [])
     ∷ (answer ahead (level 0 0 0) gives 0 ∷ [])
+    -- a command that is decoded whole is its own bytes again, one of each shape
+    ∷ (saidBack (decode (fork 15 0)) gives 0x01 ∷ 15 ∷ 0 ∷ [])
+    ∷ (saidBack (decode (level 1 31 600)) gives 0x02 ∷ 1 ∷ 31 ∷ 0x02 ∷ 0x58 ∷ [])
+    ∷ (saidBack (decode (heading 1 2 360)) gives 0x03 ∷ 1 ∷ 2 ∷ 0x01 ∷ 0x68 ∷ [])
+    ∷ (saidBack (decode (put 1 2 15)) gives 0x04 ∷ 1 ∷ 2 ∷ 15 ∷ [])
+    ∷ (saidBack (decode (taken 1 2 0)) gives 0x05 ∷ 1 ∷ 2 ∷ 0 ∷ [])
+    ∷ (saidBack (decode (call 3 4)) gives 0x06 ∷ 3 ∷ 4 ∷ [])
+    ∷ (saidBack (decode (quiet 3 4)) gives 0x08 ∷ 3 ∷ 4 ∷ [])
+    ∷ (saidBack (decode (merge 1 2)) gives 0x09 ∷ 1 ∷ 2 ∷ [])
+    ∷ (saidBack (decode (forward 2 1)) gives 0x0A ∷ 2 ∷ 1 ∷ [])
+    ∷ (saidBack (decode (merge 2 2)) gives 6 ∷ [])
     ∷ []
 
 unfoldable pub stepping : List Case

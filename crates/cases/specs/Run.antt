@@ -9,7 +9,7 @@ use Rattle.buffer.specs.Field.{wordAt}
 use Rattle.board.specs.Board.{levelAt, headingAt, marksAt, callsAt, alertsAt, flagAt}
 use Rattle.command.specs.declared.Decoded.{Decoded}
 use Rattle.command.specs.declared.Decoded.the-variants.{Whole, Refused}
-use Rattle.command.specs.Decode.{decode}
+use Rattle.command.specs.Decode.{decode, refusalOf, commandBytes}
 use Rattle.graph.specs.Graph.{versionCount}
 use Rattle.room.specs.Room.{Room, headOf, head}
 use Rattle.room.specs.Boards.{boardOf}
@@ -55,6 +55,11 @@ merge receiver giver = 0x09 ∷ receiver ∷ giver ∷ []
 
 abbrev pub forward : ℕ → ℕ → List ℕ
 forward receiver giver = 0x0A ∷ receiver ∷ giver ∷ []
+
+-- what a command was decoded to, as the paper's bytes, or the number of its refusal
+unfoldable pub saidBack : Decoded → List ℕ
+saidBack (Refused n) = refusalOf (Refused n) ∷ []
+saidBack (Whole c) = commandBytes c
 
 -- the answer to a command in a room
 unfoldable pub answerIn : Room → Decoded → ℕ
