@@ -1,11 +1,11 @@
--- Two rows put together byte by byte: how long the result is, each of its bytes, and its parts.
+-- Two rows put together byte by byte: how long the result is, and each of its bytes.
 -- Assumes nothing.
 use mathlib.Core.Path.{_≡_, refl, ap}
 use mathlib.Core.List.{List, [], _∷_}
 use Prim.Native.Nat.{ℕ, zero, suc, _<_}
 use native.Mathlib.Nat.{suc-inj, le-of-suc-le-suc, not-suc-le-zero}
 use native.Mathlib.Omega.{arith}
-use lib.ListN.{length, getD, take, drop}
+use lib.ListN.{length, getD}
 use Rattle.buffer.specs.Row.{bytewise}
 
 module _ (f : ℕ → ℕ → ℕ) where
@@ -22,17 +22,3 @@ module _ (f : ℕ → ℕ → ℕ) where
   bytewise-at (x ∷ s) [] i h k = absurd (not-suc-le-zero k)
   bytewise-at (x ∷ s) (y ∷ t) zero h k = refl
   bytewise-at (x ∷ s) (y ∷ t) (suc i) h k = bytewise-at s t i (le-of-suc-le-suc h) (le-of-suc-le-suc k)
-
-  pub bytewise-take : (n : ℕ) (s t : List ℕ) → take n (bytewise f s t) ≡ bytewise f (take n s) (take n t)
-  unfolding bytewise
-  bytewise-take zero s t = refl
-  bytewise-take (suc n) [] t = refl
-  bytewise-take (suc n) (x ∷ s) [] = refl
-  bytewise-take (suc n) (x ∷ s) (y ∷ t) = ap (f x y ∷_) (bytewise-take n s t)
-
-  pub bytewise-drop : (n : ℕ) (s t : List ℕ) → length s ≡ length t → drop n (bytewise f s t) ≡ bytewise f (drop n s) (drop n t)
-  unfolding bytewise
-  bytewise-drop zero s t e = refl
-  bytewise-drop (suc n) [] t e = refl
-  bytewise-drop (suc n) (x ∷ s) [] e = absurd (omega arith)
-  bytewise-drop (suc n) (x ∷ s) (y ∷ t) e = bytewise-drop n s t (suc-inj e)

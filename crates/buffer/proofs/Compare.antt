@@ -1,4 +1,4 @@
--- The test that two lists of bytes are the same: over lists put end to end, at a place, and one byte further; and zero bytes as such a test.
+-- The test that two lists of bytes are the same: over lists put end to end and one byte further; and zero bytes as such a test.
 -- Assumes nothing.
 use mathlib.Core.Path.{_≡_, refl, sym, ap, ap₂, _∙_}
 use mathlib.Core.Bool.{Bool, _&&_, and-assoc, and-true}
@@ -8,8 +8,8 @@ use native.Mathlib.Nat.{suc-inj}
 use native.Mathlib.Numerals.{add-one}
 use native.Mathlib.Omega.{arith}
 use lib.Dec.{eqb}
-use lib.ListN.{length, getD, take, drop, set, length-set}
-use lib.Seq.{split-at, take-suc, length-take-le, take-set-le, getD-set-same, drop-set-lt}
+use lib.ListN.{length, getD, take}
+use lib.Seq.{take-suc, length-take-le}
 use Rattle.buffer.specs.Field.{same, allZero, zeros}
 
 pub same-append : (a b : List ℕ) (x y : List ℕ) → length a ≡ length b → same (a ++ x) (b ++ y) ≡ same a b && same x y
@@ -24,31 +24,12 @@ module _ (s t : List ℕ) (i : ℕ) (left : i < length s) (right : i < length t)
   firsts : length (take i s) ≡ length (take i t)
   firsts = length-take-le i s (omega arith) ∙ sym (length-take-le i t (omega arith))
 
-  -- the bytes before a place, the byte there, and those after it
-  same-split : same s t ≡ same (take i s) (take i t) && eqb (getD s i 0) (getD t i 0) && same (drop (i + 1) s) (drop (i + 1) t)
-  unfolding same
-  same-split =
-      rw add-one
-      (ap₂ same (split-at s i 0 left) (split-at t i 0 right)
-      ∙ same-append (take i s) (take i t) _ _ firsts
-      ∙ sym (and-assoc (same (take i s) (take i t)) (eqb (getD s i 0) (getD t i 0)) (same (drop (suc i) s) (drop (suc i) t))))
-
   -- one byte further
   pub same-more : same (take (i + 1) s) (take (i + 1) t) ≡ same (take i s) (take i t) && eqb (getD s i 0) (getD t i 0)
   unfolding same
   same-more =
       rw add-one
       (ap₂ same (take-suc s i 0 left) (take-suc t i 0 right) ∙ same-append (take i s) (take i t) _ _ firsts ∙ simp and-true)
-
--- where the second list had one byte replaced
-pub same-set : (s t : List ℕ) (i b : ℕ) → length s ≡ length t → i < length t
-    → same s (set t i b) ≡ same (take i s) (take i t) && eqb (getD s i 0) b && same (drop (i + 1) s) (drop (i + 1) t)
-same-set s t i b e h =
-    let n = length-set t i b in
-    let front = take-set-le i t i b (omega arith) in
-    let here = getD-set-same t i b 0 h in
-    let back = drop-set-lt (i + 1) t i b (omega arith) in
-    cc (same-split s (set t i b) i (omega arith) (omega arith))
 
 pub zero-same : (s : List ℕ) → allZero s ≡ same s (zeros (length s))
 unfolding same allZero

@@ -5,6 +5,9 @@ ghost use lib.ListN.{length};
 ghost use Rattle.buffer.specs.Field.{wordAt, putWord, same, allZero, zeros};
 ghost use Rattle.buffer.specs.Row.{member, union, intersection, withMember, noneFrom};
 
+// The bytes of a row of 1,024 members.
+const ROW: usize = 128;
+
 // A byte as a number of the machine's width.
 pub fn wide(b: u8) -> usize
     ensures { λ r. ⌜ (r ≡ b) × (r < 256) ⌝ }
@@ -71,21 +74,6 @@ pub fn is_intersection(s: &[u8], p: &[u8], q: &[u8]) -> bool
     acc == 0
 }
 
-// Whether s is the union of the rows p and q.
-fn is_union(s: &[u8], p: &[u8], q: &[u8]) -> bool
-    requires { ⌜ length (now s) ≡ length (now p) ⌝ }
-    requires { ⌜ length (now s) ≡ length (now q) ⌝ }
-    ensures { λ r. ⌜ r ≡ same (now (s .entry)) (union (now (p .entry)) (now (q .entry))) ⌝ }
-{
-    let mut acc = 0u8;
-    let mut i = 0;
-    while i < s.len() {
-        acc = acc | (s[i] ^ (p[i] | q[i]));
-        i += 1;
-    }
-    acc == 0
-}
-
 // The bit of a member within its byte.
 fn bit_of(v: usize) -> u8
     ensures { λ r. ⌜ r ≡ 2 ^ (v % 8) ⌝ }
@@ -93,29 +81,33 @@ fn bit_of(v: usize) -> u8
     1u8 << (v % 8)
 }
 
-// Whether the row s is p with v as a member besides.
+// Whether the row s is p with v as a member besides. The row that it should be is made and compared whole, as loops of a length
+// that is known run on many bytes at a time.
 pub fn is_extended(s: &[u8], p: &[u8], v: usize) -> bool
-    requires { ⌜ length (now s) ≡ length (now p) ⌝ }
-    requires { ⌜ v / 8 < length (now p) ⌝ }
+    requires { ⌜ length (now s) ≡ 128 ⌝ }
+    requires { ⌜ length (now p) ≡ 128 ⌝ }
+    requires { ⌜ v < 1024 ⌝ }
     ensures { λ r. ⌜ r ≡ same (now (s .entry)) (withMember (now (p .entry)) v) ⌝ }
 {
-    let at = v / 8;
-    let next = at + 1;
-    is_same(&s[..at], &p[..at]) & (s[at] == (p[at] | bit_of(v))) & is_same(&s[next..], &p[next..])
+    let mut extended = [0u8; ROW];
+    copy(&mut extended, p);
+    add_member(&mut extended, v);
+    is_same(s, &extended)
 }
 
 // Whether the row s is the union of p and q with v as a member besides.
 pub fn is_extended_union(s: &[u8], p: &[u8], q: &[u8], v: usize) -> bool
-    requires { ⌜ length (now s) ≡ length (now p) ⌝ }
-    requires { ⌜ length (now s) ≡ length (now q) ⌝ }
-    requires { ⌜ v / 8 < length (now p) ⌝ }
+    requires { ⌜ length (now s) ≡ 128 ⌝ }
+    requires { ⌜ length (now p) ≡ 128 ⌝ }
+    requires { ⌜ length (now q) ≡ 128 ⌝ }
+    requires { ⌜ v < 1024 ⌝ }
     ensures { λ r. ⌜ r ≡ same (now (s .entry)) (withMember (union (now (p .entry)) (now (q .entry))) v) ⌝ }
 {
-    let at = v / 8;
-    let next = at + 1;
-    is_union(&s[..at], &p[..at], &q[..at])
-        & (s[at] == (p[at] | q[at] | bit_of(v)))
-        & is_union(&s[next..], &p[next..], &q[next..])
+    let mut extended = [0u8; ROW];
+    copy(&mut extended, p);
+    add_union(&mut extended, q);
+    add_member(&mut extended, v);
+    is_same(s, &extended)
 }
 
 // Whether v is a member of the row s.
