@@ -8,13 +8,14 @@ use crate::model::{
 
 /// The answer is 0 or the refusal; the count is the question's number or the bytes written, else 0.
 #[derive(Clone, Copy, Debug, PartialEq, Eq)]
+#[repr(C)]
 pub struct Reply {
     pub answer: u32,
     pub count: u32,
 }
 
 impl Reply {
-    fn of(outcome: Result<usize, u32>) -> Reply {
+    pub(crate) fn of(outcome: Result<usize, u32>) -> Reply {
         match outcome {
             Ok(count) => Reply {
                 answer: 0,

@@ -1,7 +1,12 @@
-// The test host: an independent model of the room unit, its bytes, its calls, and generators of cases.
+// The test host: an independent model of the room unit, its bytes, its calls, generators of cases, a fast second implementation,
+// the wrapper of the unit itself, and the comparison of both with the model.
 
 pub mod calls;
+pub mod compare;
+pub mod fast;
 pub mod gen;
 pub mod layout;
 pub mod model;
 pub mod rng;
+pub mod session;
+pub mod unit;

@@ -1,6 +1,7 @@
 // The model: one training room as plain data, and the paper's rules on it, each as close to its words as Rust allows.
 
-use std::cell::OnceCell;
+use std::cell::{OnceCell, RefCell};
+use std::collections::HashMap;
 
 pub const CONSOLES: usize = 16;
 pub const STRIPS: usize = 32;
@@ -151,16 +152,21 @@ pub fn search_ancestors(room: &Room, version: usize) -> Vec<bool> {
     reached
 }
 
-/// The ancestors of a room's versions, each searched for once, when it is first asked for.
+/// The ancestors of a room's versions and the lowest common ones of two, each searched for once, when first asked for.
 pub struct Ancestry<'a> {
     room: &'a Room,
     searched: Vec<OnceCell<Vec<bool>>>,
+    lowest: RefCell<HashMap<(usize, usize), Option<usize>>>,
 }
 
 impl<'a> Ancestry<'a> {
     pub fn new(room: &'a Room) -> Ancestry<'a> {
         let searched = room.versions.iter().map(|_| OnceCell::new()).collect();
-        Ancestry { room, searched }
+        Ancestry {
+            room,
+            searched,
+            lowest: RefCell::default(),
+        }
     }
 
     /// For every version, whether it is an ancestor of this one.
@@ -181,8 +187,18 @@ impl<'a> Ancestry<'a> {
             .collect()
     }
 
-    /// The single lowest common ancestor: the common ancestor to which every other one leads.
+    /// The single lowest common ancestor.
     pub fn lowest_common(&self, one: usize, other: usize) -> Option<usize> {
+        if let Some(&found) = self.lowest.borrow().get(&(one, other)) {
+            return found;
+        }
+        let found = self.search_lowest_common(one, other);
+        self.lowest.borrow_mut().insert((one, other), found);
+        found
+    }
+
+    /// The common ancestor to which every other one leads.
+    fn search_lowest_common(&self, one: usize, other: usize) -> Option<usize> {
         let common = self.common_ancestors(one, other);
         let all_lead_to = |&lowest: &usize| {
             common

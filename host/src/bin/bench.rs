@@ -1,0 +1,261 @@
+// The benchmark: each line is `ratio WHAT AGAINST VALUE`, the time of one thing divided by the time of another, both measured in this run.
+// A time is the shortest of many runs, taken by turns so that both see the same machine. Buffers are warm: nothing is cleared between runs.
+// A line `limit WHAT AGAINST VALUE` behind a ratio says what it may be at most.
+
+use room_host::compare::{Call, Calls, FAST, UNIT};
+use room_host::layout::{self, BOARD_BYTES};
+use room_host::model::{code, decode, step, tape_of, Room, CONSOLES};
+use room_host::rng::Rng;
+use room_host::{gen, unit};
+use std::hint::black_box;
+use std::time::Instant;
+
+const SEED: u64 = 20_261_115;
+const ROUNDS: usize = 40;
+/// Runs of one piece of work in a turn; the first brings its buffers back into the cache.
+const RUNS: usize = 3;
+const CAPACITIES: [usize; 3] = [64, 256, 1024];
+/// Version records of the tapes.
+const TAPE_VERSIONS: [usize; 3] = [64, 256, 1023];
+const KINDS: [&str; 2] = ["entries", "merges"];
+
+fn print_ratio(what: &str, against: &str, value: f64) {
+    println!("ratio {what} {against} {value:.2}");
+}
+
+fn full_room(kind: &str, capacity: usize) -> Room {
+    let rng = &mut Rng::new(SEED);
+    match kind {
+        "entries" => gen::full_of_entries(rng, capacity),
+        _ => gen::full_of_merges(rng, capacity),
+    }
+}
+
+// ---------------------------------------------------------------- one call measured
+
+/// A call that is accepted, with its store and input, and the most that its time may be of a soundness test's.
+struct Work {
+    what: String,
+    call: Call,
+    room: Room,
+    input: Vec<u8>,
+    limit: Option<f64>,
+}
+
+/// The shortest times in seconds: a comparison of the whole store with a copy, the unit's soundness test alone, and the call
+/// by the unit and by the fast implementation.
+struct Times {
+    memcmp: f64,
+    soundness: f64,
+    unit: f64,
+    fast: f64,
+}
+
+/// The store as it was before the call: what the call can have written is put back.
+fn restore(work: &Work, store: &mut [u8], fresh: &[u8]) {
+    let unused = layout::block_at(work.room.versions.len());
+    match work.call {
+        Call::Open { .. } => store.copy_from_slice(fresh),
+        Call::Command => {
+            store[..layout::HEADER_BYTES].copy_from_slice(&fresh[..layout::HEADER_BYTES]);
+            store[unused..].copy_from_slice(&fresh[unused..]);
+        }
+        _ => {}
+    }
+}
+
+fn seconds(work: impl FnOnce()) -> f64 {
+    let start = Instant::now();
+    work();
+    start.elapsed().as_secs_f64()
+}
+
+fn times_of(work: &Work) -> Times {
+    let fresh = layout::encode(&work.room);
+    let mut store = fresh.clone();
+    let mut output = vec![0; tape_of(&work.room).len().max(BOARD_BYTES)];
+    let mut shortest = [f64::MAX; 4];
+    let mut note = |place: usize, time: f64| shortest[place] = time.min(shortest[place]);
+    for _ in 0..ROUNDS {
+        for _ in 0..RUNS {
+            note(
+                0,
+                seconds(|| assert!(black_box(&store) == black_box(&fresh))),
+            );
+        }
+        for _ in 0..RUNS {
+            note(1, seconds(|| judge(&store)));
+        }
+        for (place, calls) in [(2, UNIT), (3, FAST)] {
+            for _ in 0..RUNS {
+                note(
+                    place,
+                    seconds(|| make(work, &calls, &mut store, &mut output)),
+                );
+                restore(work, &mut store, &fresh);
+            }
+        }
+    }
+    let [memcmp, soundness, unit, fast] = shortest;
+    Times {
+        memcmp,
+        soundness,
+        unit,
+        fast,
+    }
+}
+
+/// The cheapest question: its cost is the soundness test and the reading of one field.
+fn judge(store: &[u8]) {
+    assert_eq!(unit::common(black_box(store), 0, 0).answer, 0);
+}
+
+fn make(work: &Work, calls: &Calls, store: &mut [u8], output: &mut [u8]) {
+    let reply = work.call.make(calls, black_box(store), &work.input, output);
+    assert_eq!(reply.answer, 0, "{} by {}", work.what, calls.name);
+}
+
+/// Measures a piece of work, prints its ratios, and gives the unit's time.
+fn bench(work: &Work) -> f64 {
+    let times = times_of(work);
+    print_ratio(&work.what, "memcmp_of_the_store", times.unit / times.memcmp);
+    print_ratio(&work.what, "fast", times.unit / times.fast);
+    if let Some(limit) = work.limit {
+        print_ratio(&work.what, "soundness", times.unit / times.soundness);
+        println!("limit {} soundness {limit:.2}", work.what);
+    }
+    times.unit
+}
+
+/// How the time grows: the time for each byte or version, against that of the smallest of the sizes.
+fn print_growth(what: &str, per: &str, sizes: [usize; 3], amounts: [usize; 3], times: [f64; 3]) {
+    let each = |place: usize| times[place] / amounts[place] as f64;
+    for place in 1..sizes.len() {
+        print_ratio(
+            &format!("{what}_per_{per}_{}", sizes[place]),
+            &format!("per_{per}_{}", sizes[0]),
+            each(place) / each(0),
+        );
+    }
+}
+
+// ---------------------------------------------------------------- the works
+
+/// The soundness test, by the question that costs little else.
+fn bench_soundness() {
+    for kind in KINDS {
+        let works = CAPACITIES.map(|capacity| Work {
+            what: format!("soundness_{kind}_{capacity}"),
+            call: Call::Common {
+                first: 0,
+                second: 0,
+            },
+            room: full_room(kind, capacity),
+            input: Vec::new(),
+            limit: None,
+        });
+        let times = works.each_ref().map(bench);
+        let what = format!("soundness_{kind}");
+        let lengths = CAPACITIES.map(layout::store_bytes);
+        print_growth(&what, "byte", CAPACITIES, lengths, times);
+    }
+}
+
+/// Resume of tapes of several lengths, and pause of the rooms they give.
+fn bench_tapes() {
+    for kind in KINDS {
+        for (name, call, limit) in [("pause", Call::Pause, 1.3), ("resume", Call::Resume, 3.0)] {
+            let what = format!("{name}_{kind}");
+            let works = TAPE_VERSIONS.map(|versions| {
+                let room = full_room(kind, versions + 1);
+                Work {
+                    what: format!("{what}_{versions}"),
+                    call,
+                    input: tape_of(&room),
+                    room,
+                    limit: Some(limit).filter(|_| versions == 1023),
+                }
+            });
+            let times = works.each_ref().map(bench);
+            print_growth(&what, "version", TAPE_VERSIONS, TAPE_VERSIONS, times);
+        }
+    }
+}
+
+/// The calls on a store of capacity 1,024 that holds 1,000 versions.
+fn bench_calls() {
+    let (room, commands) = busy_room();
+    let question = |what: &str, call: Call| Work {
+        what: what.to_string(),
+        call,
+        room: room.clone(),
+        input: Vec::new(),
+        limit: None,
+    };
+    bench(&question("open", Call::Open { capacity: 1024 }));
+    bench(&question("board", Call::Board { console: 0 }));
+    bench(&question("heard", Call::Heard { console: 0 }));
+    let (first, second) = (0, 1);
+    bench(&question("common", Call::Common { first, second }));
+    for (what, input) in commands {
+        bench(&Work {
+            what: what.to_string(),
+            call: Call::Command,
+            room: room.clone(),
+            input,
+            limit: Some(1.3).filter(|_| what == "entry" || what == "merge"),
+        });
+    }
+}
+
+// ---------------------------------------------------------------- a room in which every command is accepted
+
+/// A room of 1,000 versions and 15 consoles, and an accepted command of each kind in it.
+fn busy_room() -> (Room, [(&'static str, Vec<u8>); 4]) {
+    let mut room = full_room("merges", 990);
+    room.capacity = 1024;
+    let absent = leaving_console(&mut room);
+    let follower = leaving_console(&mut room);
+    room = after(&room, &[code::FORK, follower, 0]).expect("the console has left");
+    while room.versions.len() < 1000 {
+        room = after(&room, &[code::CALL_COUNTED, 0, 5]).expect("there are versions left");
+    }
+    let merge = accepted_merge(&room);
+    let commands = [
+        ("entry", vec![code::LEVEL, 0, 5, 0, 100]),
+        ("merge", merge),
+        ("fork", vec![code::FORK, absent, 0]),
+        ("fast_forward", vec![code::FAST_FORWARD, follower, 0]),
+    ];
+    (room, commands)
+}
+
+fn after(room: &Room, command: &[u8]) -> Option<Room> {
+    step(room, &decode(command).ok()?).ok()
+}
+
+fn accepted_merge(room: &Room) -> Vec<u8> {
+    let consoles = 1..CONSOLES as u8;
+    let pairs = consoles
+        .clone()
+        .flat_map(|one| consoles.clone().map(move |other| (one, other)));
+    pairs
+        .map(|(receiver, giver)| vec![code::MERGE, receiver, giver])
+        .find(|command| after(room, command).is_some())
+        .expect("some two neighbours can merge")
+}
+
+/// Merges some console into another and takes it out of the room: its versions still lead to a head.
+fn leaving_console(room: &mut Room) -> u8 {
+    let merge = accepted_merge(room);
+    *room = after(room, &merge).expect("the merge is accepted");
+    room.heads[usize::from(merge[2])] = None;
+    merge[2]
+}
+
+fn main() {
+    println!("seed {SEED}");
+    bench_soundness();
+    bench_calls();
+    bench_tapes();
+}

@@ -1,0 +1,938 @@
+// The comparison of an implementation of the seven calls with the model, call by call: every reply, and every byte of every
+// lent buffer and of guard bytes around it. The cases come from one seed, so that a difference can be met again.
+
+use crate::calls::{self, Reply};
+use crate::layout::{self, store_bytes, BOARD_BYTES};
+use crate::model::{code, decode, record, refusal, room_of_tape, step, tape_of, Room, CONSOLES};
+use crate::rng::Rng;
+use crate::{fast, gen, unit};
+use std::fmt;
+use std::ops::AddAssign;
+
+// ---------------------------------------------------------------- implementations
+
+/// One implementation of the seven calls.
+#[derive(Clone, Copy)]
+pub struct Calls {
+    pub name: &'static str,
+    pub open: fn(u32, &mut [u8]) -> Reply,
+    pub command: fn(&mut [u8], &[u8]) -> Reply,
+    pub pause: fn(&[u8], &mut [u8]) -> Reply,
+    pub resume: fn(&[u8], &mut [u8]) -> Reply,
+    pub board: fn(&[u8], u32, &mut [u8]) -> Reply,
+    pub heard: fn(&[u8], u32) -> Reply,
+    pub common: fn(&[u8], u32, u32) -> Reply,
+}
+
+pub const MODEL: Calls = Calls {
+    name: "model",
+    open: calls::open,
+    command: calls::command,
+    pause: calls::pause,
+    resume: calls::resume,
+    board: calls::board,
+    heard: calls::heard,
+    common: calls::common,
+};
+
+pub const FAST: Calls = Calls {
+    name: "fast",
+    open: fast::open,
+    command: fast::command,
+    pause: fast::pause,
+    resume: fast::resume,
+    board: fast::board,
+    heard: fast::heard,
+    common: fast::common,
+};
+
+pub const UNIT: Calls = Calls {
+    name: "unit",
+    open: unit::open,
+    command: unit::command,
+    pause: unit::pause,
+    resume: unit::resume,
+    board: unit::board,
+    heard: unit::heard,
+    common: unit::common,
+};
+
+// ---------------------------------------------------------------- lent buffers
+
+/// Guard bytes before and behind each lent buffer. The number is odd, so that no buffer is aligned.
+const GUARD_BYTES: usize = 33;
+const GUARD: u8 = 0xA5;
+
+#[derive(Clone)]
+struct Buffer {
+    with_guards: Vec<u8>,
+}
+
+impl Buffer {
+    fn of(bytes: &[u8]) -> Buffer {
+        let guard = [GUARD; GUARD_BYTES];
+        Buffer {
+            with_guards: [&guard, bytes, &guard].concat(),
+        }
+    }
+
+    fn lent(&self) -> &[u8] {
+        let end = self.with_guards.len() - GUARD_BYTES;
+        &self.with_guards[GUARD_BYTES..end]
+    }
+
+    fn lent_mut(&mut self) -> &mut [u8] {
+        let end = self.with_guards.len() - GUARD_BYTES;
+        &mut self.with_guards[GUARD_BYTES..end]
+    }
+}
+
+/// The buffers of a call: the store, a command or tape to be read, and a tape or board to be written.
+#[derive(Clone)]
+struct Lent {
+    store: Buffer,
+    input: Buffer,
+    output: Buffer,
+}
+
+impl Lent {
+    fn make(&mut self, call: Call, calls: &Calls) -> Reply {
+        let store = self.store.lent_mut();
+        call.make(calls, store, self.input.lent(), self.output.lent_mut())
+    }
+}
+
+/// Equal buffers for the model and for the implementation under test.
+#[derive(Clone)]
+struct Pair {
+    model: Lent,
+    tested: Lent,
+}
+
+impl Pair {
+    fn of_store(store: &[u8]) -> Pair {
+        let lent = Lent {
+            store: Buffer::of(store),
+            input: Buffer::of(&[]),
+            output: Buffer::of(&[]),
+        };
+        Pair {
+            model: lent.clone(),
+            tested: lent,
+        }
+    }
+
+    fn store(&self) -> &[u8] {
+        self.model.store.lent()
+    }
+
+    fn output(&self) -> &[u8] {
+        self.model.output.lent()
+    }
+
+    fn lend_input(&mut self, bytes: &[u8]) {
+        self.model.input = Buffer::of(bytes);
+        self.tested.input = Buffer::of(bytes);
+    }
+
+    fn lend_output(&mut self, bytes: &[u8]) {
+        self.model.output = Buffer::of(bytes);
+        self.tested.output = Buffer::of(bytes);
+    }
+
+    /// Where the buffers of the two sides first differ.
+    fn difference(&self) -> Option<String> {
+        let sides = [
+            ("store", &self.model.store, &self.tested.store),
+            ("input", &self.model.input, &self.tested.input),
+            ("output", &self.model.output, &self.tested.output),
+        ];
+        sides.into_iter().find_map(|(name, model, tested)| {
+            if model.with_guards == tested.with_guards {
+                return None;
+            }
+            let bytes = model.with_guards.iter().zip(&tested.with_guards);
+            let place = bytes.take_while(|(model, tested)| model == tested).count();
+            Some(format!(
+                "{name} differs at byte {} of {}",
+                place as isize - GUARD_BYTES as isize,
+                model.lent().len()
+            ))
+        })
+    }
+}
+
+// ---------------------------------------------------------------- one compared call
+
+/// A call and its numbers; commands, tapes and outputs stand in the lent buffers.
+#[derive(Clone, Copy, Debug)]
+pub enum Call {
+    Open { capacity: u32 },
+    Command,
+    Pause,
+    Resume,
+    Board { console: u32 },
+    Heard { console: u32 },
+    Common { first: u32, second: u32 },
+}
+
+const CALL_NAMES: [&str; 7] = [
+    "open", "command", "pause", "resume", "board", "heard", "common",
+];
+
+impl Call {
+    fn place(self) -> usize {
+        match self {
+            Call::Open { .. } => 0,
+            Call::Command => 1,
+            Call::Pause => 2,
+            Call::Resume => 3,
+            Call::Board { .. } => 4,
+            Call::Heard { .. } => 5,
+            Call::Common { .. } => 6,
+        }
+    }
+
+    /// Makes the call with the store, a command or tape to be read, and a tape or board to be written.
+    pub fn make(self, calls: &Calls, store: &mut [u8], input: &[u8], output: &mut [u8]) -> Reply {
+        match self {
+            Call::Open { capacity } => (calls.open)(capacity, store),
+            Call::Command => (calls.command)(store, input),
+            Call::Pause => (calls.pause)(store, output),
+            Call::Resume => (calls.resume)(input, store),
+            Call::Board { console } => (calls.board)(store, console, output),
+            Call::Heard { console } => (calls.heard)(store, console),
+            Call::Common { first, second } => (calls.common)(store, first, second),
+        }
+    }
+}
+
+/// The first difference, told in words.
+pub type Outcome<T> = Result<T, String>;
+
+const HIGHEST_REFUSAL: usize = refusal::BUFFER_TOO_SHORT as usize;
+
+/// How often each call gave each answer.
+#[derive(Clone, Default)]
+pub struct Tally {
+    answers: [[u64; HIGHEST_REFUSAL + 1]; CALL_NAMES.len()],
+}
+
+impl Tally {
+    pub fn calls(&self) -> u64 {
+        self.answers.as_flattened().iter().sum()
+    }
+
+    fn of_answer(&self, answer: usize) -> u64 {
+        self.answers.iter().map(|answers| answers[answer]).sum()
+    }
+
+    /// The answers that were never met.
+    pub fn missing(&self) -> Vec<usize> {
+        (0..=HIGHEST_REFUSAL)
+            .filter(|&answer| self.of_answer(answer) == 0)
+            .collect()
+    }
+}
+
+impl AddAssign<&Tally> for Tally {
+    fn add_assign(&mut self, other: &Tally) {
+        let others = other.answers.as_flattened();
+        let sums = self.answers.as_flattened_mut().iter_mut();
+        sums.zip(others).for_each(|(sum, other)| *sum += other);
+    }
+}
+
+impl fmt::Display for Tally {
+    fn fmt(&self, out: &mut fmt::Formatter) -> fmt::Result {
+        write!(out, "{:>6}", "answer")?;
+        for name in CALL_NAMES {
+            write!(out, " {name:>9}")?;
+        }
+        writeln!(out, " {:>9}", "all")?;
+        for answer in 0..=HIGHEST_REFUSAL {
+            write!(out, "{answer:>6}")?;
+            for answers in &self.answers {
+                write!(out, " {:>9}", answers[answer])?;
+            }
+            writeln!(out, " {:>9}", self.of_answer(answer))?;
+        }
+        Ok(())
+    }
+}
+
+struct Comparison {
+    tested: Calls,
+    round: String,
+    tally: Tally,
+    /// With ROOM_TRACE in the environment each call is told before it is made, for an implementation that doesn't come back.
+    is_traced: bool,
+}
+
+impl Comparison {
+    fn new(tested: Calls, round: String) -> Comparison {
+        Comparison {
+            tested,
+            round,
+            tally: Tally::default(),
+            is_traced: std::env::var_os("ROOM_TRACE").is_some(),
+        }
+    }
+
+    /// Makes the call on both sides; the reply, where reply and buffers agree.
+    fn call(&mut self, call: Call, pair: &mut Pair) -> Outcome<Reply> {
+        if self.is_traced {
+            eprintln!("{}", self.story(call, pair, "to be made"));
+        }
+        let model = pair.model.make(call, &MODEL);
+        let tested = pair.tested.make(call, &self.tested);
+        let difference = if model == tested {
+            pair.difference()
+        } else {
+            Some(format!("replies differ: {model:?} and {tested:?}"))
+        };
+        if let Some(difference) = difference {
+            return Err(self.story(call, pair, &difference));
+        }
+        self.tally.answers[call.place()][model.answer as usize] += 1;
+        Ok(model)
+    }
+
+    fn story(&self, call: Call, pair: &Pair, difference: &str) -> String {
+        let input = pair.model.input.lent();
+        let shown = &input[..input.len().min(400)];
+        format!(
+            "model and {}, {}, call {}: {call:?}: {difference}\ninput ({} bytes): {shown:02X?}\nstore of {} bytes, output of {} bytes",
+            self.tested.name,
+            self.round,
+            self.tally.calls() + 1,
+            input.len(),
+            pair.store().len(),
+            pair.output().len(),
+        )
+    }
+
+    fn command(&mut self, pair: &mut Pair, bytes: &[u8]) -> Outcome<Reply> {
+        pair.lend_input(bytes);
+        self.call(Call::Command, pair)
+    }
+
+    fn resume(&mut self, pair: &mut Pair, tape: &[u8]) -> Outcome<Reply> {
+        pair.lend_input(tape);
+        self.call(Call::Resume, pair)
+    }
+
+    /// Open with this capacity in a buffer of so many bytes of any content.
+    fn opened(&mut self, rng: &mut Rng, capacity: u32, length: usize) -> Outcome<Pair> {
+        let mut pair = Pair::of_store(&bytes_of_length(rng, length));
+        self.call(Call::Open { capacity }, &mut pair)?;
+        Ok(pair)
+    }
+
+    /// One call of any kind but opening and resume.
+    fn any_call(&mut self, rng: &mut Rng, pair: &mut Pair) -> Outcome<Reply> {
+        match rng.below(8) {
+            0 => {
+                let needed = 3 + 7 * rng.below(20);
+                let length = output_length(rng, needed);
+                self.output_call(rng, Call::Pause, pair, length)
+            }
+            1 => {
+                let (console, length) = (some_console(rng), output_length(rng, BOARD_BYTES));
+                self.output_call(rng, Call::Board { console }, pair, length)
+            }
+            2 => {
+                let console = some_console(rng);
+                self.call(Call::Heard { console }, pair)
+            }
+            3 => {
+                let (first, second) = (some_console(rng), some_console(rng));
+                self.call(Call::Common { first, second }, pair)
+            }
+            _ => self.command(pair, &gen::any_command(rng)),
+        }
+    }
+
+    fn output_call(
+        &mut self,
+        rng: &mut Rng,
+        call: Call,
+        pair: &mut Pair,
+        length: usize,
+    ) -> Outcome<Reply> {
+        pair.lend_output(&bytes_of_length(rng, length));
+        self.call(call, pair)
+    }
+
+    /// Each of the five calls that read a store, on bytes that may hold none.
+    fn all_calls(&mut self, rng: &mut Rng, pair: &mut Pair) -> Outcome<()> {
+        let console = rng.below(3) as u32;
+        self.command(pair, &gen::entry_command(rng, console as usize))?;
+        self.output_call(rng, Call::Pause, pair, 9000)?;
+        self.output_call(rng, Call::Board { console }, pair, BOARD_BYTES)?;
+        self.call(Call::Heard { console }, pair)?;
+        let (first, second) = (0, console);
+        self.call(Call::Common { first, second }, pair)?;
+        Ok(())
+    }
+}
+
+fn bytes_of_length(rng: &mut Rng, length: usize) -> Vec<u8> {
+    let content = rng.byte();
+    let mut bytes = vec![content; length];
+    bytes.iter_mut().step_by(7).for_each(|b| *b = rng.byte());
+    bytes
+}
+
+/// A length for bytes that need so many: mostly enough, exact or longer, now and then short.
+fn output_length(rng: &mut Rng, needed: usize) -> usize {
+    match rng.below(10) {
+        0 => needed.saturating_sub(1),
+        1 => rng.below(needed + 1),
+        2..=5 => needed,
+        _ => needed + rng.below(50),
+    }
+}
+
+/// A console number, mostly one below 16.
+fn some_console(rng: &mut Rng) -> u32 {
+    let too_high = [16, 17, 31, 255, 256, 257, 65_536, 65_537, 1 << 31, u32::MAX];
+    if rng.chance(92) {
+        rng.below(CONSOLES) as u32
+    } else {
+        rng.pick(&too_high).unwrap_or(16)
+    }
+}
+
+// ---------------------------------------------------------------- sessions
+
+/// A running room: its buffers, and the room that the model's rules give, from which commands are chosen.
+struct Session<'a> {
+    comparison: &'a mut Comparison,
+    rng: Rng,
+    pair: Pair,
+    room: Room,
+}
+
+impl Session<'_> {
+    fn run(&mut self, steps: usize) -> Outcome<()> {
+        (0..steps).try_for_each(|_| self.step())
+    }
+
+    fn step(&mut self) -> Outcome<()> {
+        match self.rng.below(100) {
+            0..=44 => {
+                let bytes = gen::likely_command(&mut self.rng, &self.room);
+                self.command(&bytes)
+            }
+            45..=54 => {
+                let bytes = gen::any_command(&mut self.rng);
+                self.command(&bytes)
+            }
+            55..=70 => self.ask(),
+            71..=77 => self.pause().map(|_| ()),
+            78..=82 => self.come_back(),
+            83..=86 => self.resume_elsewhere(),
+            87..=88 => self.open_elsewhere(),
+            _ => self.damage(),
+        }
+    }
+
+    fn command(&mut self, bytes: &[u8]) -> Outcome<()> {
+        let reply = self.comparison.command(&mut self.pair, bytes)?;
+        if reply.answer == 0 {
+            let next = decode(bytes).and_then(|command| step(&self.room, &command));
+            self.room = next.map_err(|refusal| format!("the model accepted {refusal}"))?;
+        }
+        Ok(())
+    }
+
+    fn ask(&mut self) -> Outcome<()> {
+        let (first, second) = (some_console(&mut self.rng), some_console(&mut self.rng));
+        let length = output_length(&mut self.rng, BOARD_BYTES);
+        let pair = &mut self.pair;
+        pair.lend_output(&bytes_of_length(&mut self.rng, length));
+        self.comparison.call(Call::Board { console: first }, pair)?;
+        self.comparison.call(Call::Heard { console: first }, pair)?;
+        self.comparison.call(Call::Common { first, second }, pair)?;
+        Ok(())
+    }
+
+    /// Pauses into an output of some length; the tape, where it was long enough.
+    fn pause(&mut self) -> Outcome<Option<Vec<u8>>> {
+        let needed = tape_of(&self.room).len();
+        let length = output_length(&mut self.rng, needed);
+        self.pair
+            .lend_output(&bytes_of_length(&mut self.rng, length));
+        let reply = self.comparison.call(Call::Pause, &mut self.pair)?;
+        let written = &self.pair.output()[..reply.count as usize];
+        Ok((reply.answer == 0).then(|| written.to_vec()))
+    }
+
+    /// Pauses and resumes in the same buffer, over the running room or over its damaged bytes.
+    fn come_back(&mut self) -> Outcome<()> {
+        let Some(tape) = self.pause()? else {
+            return Ok(());
+        };
+        if self.rng.chance(50) {
+            let damaged = bytes_of_length(&mut self.rng, self.pair.store().len());
+            self.pair = Pair::of_store(&damaged);
+        }
+        self.comparison.resume(&mut self.pair, &tape)?;
+        Ok(())
+    }
+
+    /// Resumes a damaged tape of this room in a buffer of its own.
+    fn resume_elsewhere(&mut self) -> Outcome<()> {
+        let tape = gen::damaged_tape(&mut self.rng, &tape_of(&self.room));
+        let length = output_length(&mut self.rng, self.pair.store().len());
+        let mut pair = Pair::of_store(&bytes_of_length(&mut self.rng, length));
+        self.comparison.resume(&mut pair, &tape)?;
+        Ok(())
+    }
+
+    fn open_elsewhere(&mut self) -> Outcome<()> {
+        let capacity = self.rng.between(1, 40) as u32;
+        let mut pair = self.pair.clone();
+        self.comparison.call(Call::Open { capacity }, &mut pair)?;
+        self.comparison.any_call(&mut self.rng, &mut pair)?;
+        Ok(())
+    }
+
+    /// One call on a damaged copy of the store.
+    fn damage(&mut self) -> Outcome<()> {
+        let damaged = gen::damaged_store(&mut self.rng, self.pair.store());
+        let mut pair = Pair::of_store(&damaged);
+        self.comparison.any_call(&mut self.rng, &mut pair)?;
+        Ok(())
+    }
+}
+
+/// A length for the buffer of a running store: exact or longer.
+fn store_length(rng: &mut Rng, capacity: usize) -> usize {
+    let longer = [0, 0, 1, 7, 543, 544, 5000];
+    store_bytes(capacity) + rng.pick(&longer).unwrap_or(0)
+}
+
+/// A session of so many steps from opening on.
+fn session_from_opening(
+    comparison: &mut Comparison,
+    rng: &mut Rng,
+    capacity: usize,
+    steps: usize,
+) -> Outcome<()> {
+    let length = store_length(rng, capacity);
+    let pair = comparison.opened(rng, capacity as u32, length)?;
+    let mut session = Session {
+        comparison,
+        rng: Rng::new(rng.number()),
+        pair,
+        room: Room::opened(capacity),
+    };
+    session.run(steps)
+}
+
+/// A session of so many steps that goes on from a room's tape.
+fn session_from_room(
+    comparison: &mut Comparison,
+    rng: &mut Rng,
+    room: Room,
+    steps: usize,
+) -> Outcome<()> {
+    let length = store_length(rng, room.capacity);
+    let mut pair = Pair::of_store(&bytes_of_length(rng, length));
+    comparison.resume(&mut pair, &tape_of(&room))?;
+    let mut session = Session {
+        comparison,
+        rng: Rng::new(rng.number()),
+        pair,
+        room,
+    };
+    session.run(steps)
+}
+
+// ---------------------------------------------------------------- tapes, stores, garbage, numbers
+
+/// Tapes of graphs sound and unsound, and damaged ones, each resumed and, where accepted, used.
+fn compare_tapes(comparison: &mut Comparison, rng: &mut Rng, count: usize) -> Outcome<()> {
+    for _ in 0..count {
+        let graph = gen::graph_tape(rng);
+        let tape = if rng.chance(50) {
+            graph
+        } else {
+            gen::damaged_tape(rng, &graph)
+        };
+        let capacity = room_of_tape(&tape).map_or(rng.between(1, 40), |room| room.capacity);
+        let length = output_length(rng, store_bytes(capacity));
+        let mut pair = Pair::of_store(&bytes_of_length(rng, length));
+        if comparison.resume(&mut pair, &tape)?.answer == 0 {
+            comparison.any_call(rng, &mut pair)?;
+            comparison.output_call(rng, Call::Pause, &mut pair, tape.len())?;
+        }
+    }
+    Ok(())
+}
+
+/// A tape cut at every place, and with each of its bytes changed.
+fn compare_cut_tapes(comparison: &mut Comparison, rng: &mut Rng) -> Outcome<()> {
+    let room = gen::random_room(rng, 12, 40);
+    let tape = tape_of(&room);
+    let mut pair = Pair::of_store(&bytes_of_length(rng, store_bytes(room.capacity)));
+    for place in 0..tape.len() {
+        comparison.resume(&mut pair, &tape[..place])?;
+        let mut changed = tape.clone();
+        changed[place] ^= 1 << rng.below(8);
+        comparison.resume(&mut pair, &changed)?;
+        changed[place] = rng.byte();
+        comparison.resume(&mut pair, &changed)?;
+    }
+    Ok(())
+}
+
+/// Tapes of many versions, around the highest capacity and around what 16 bits count.
+fn compare_long_tapes(comparison: &mut Comparison, rng: &mut Rng) -> Outcome<()> {
+    let lengths = [
+        1022, 1023, 1024, 65_534, 65_535, 65_536, 65_537, 65_540, 70_000,
+    ];
+    for (capacity, versions) in lengths.into_iter().flat_map(|n| [(1024, n), (1023, n)]) {
+        let chained = rng.chance(50);
+        let mut tape = tape_start(capacity);
+        for version in 0..versions {
+            let parent = if chained { version as u16 } else { 0 };
+            tape.extend(entry_record(parent, code::CALL_COUNTED, 0, 0));
+        }
+        let head = if chained { versions as u16 } else { 0 };
+        tape.extend(tape_end(head));
+        let length = output_length(rng, store_bytes(capacity.into()));
+        let mut pair = Pair::of_store(&bytes_of_length(rng, length));
+        comparison.resume(&mut pair, &tape)?;
+    }
+    Ok(())
+}
+
+fn tape_start(capacity: u16) -> Vec<u8> {
+    let [high, low] = capacity.to_be_bytes();
+    vec![record::CAPACITY, high, low]
+}
+
+fn entry_record(parent: u16, code: u8, strip: u8, operand: u16) -> [u8; 7] {
+    let [high, low] = parent.to_be_bytes();
+    let [operand_high, operand_low] = operand.to_be_bytes();
+    [
+        record::ENTRY,
+        high,
+        low,
+        code,
+        strip,
+        operand_high,
+        operand_low,
+    ]
+}
+
+/// The head of console 0, and the end.
+fn tape_end(head: u16) -> [u8; 5] {
+    let [high, low] = head.to_be_bytes();
+    [record::HEAD, 0, high, low, record::END]
+}
+
+/// Codes, strips and operands at and beyond the ends of their ranges, as commands and on tapes.
+fn compare_edges(comparison: &mut Comparison, rng: &mut Rng) -> Outcome<()> {
+    let operands = [0, 1, 15, 16, 255, 256, 360, 361, 600, 601, 0xFFFF];
+    let opened = comparison.opened(rng, 3, store_bytes(3))?;
+    for (code, strip) in (0..=0x0B).flat_map(|code| [0, 31, 32, 255].map(|strip| (code, strip))) {
+        for (operand, console) in operands
+            .into_iter()
+            .flat_map(|n| [(n, 0), (n, 15), (n, 16)])
+        {
+            let [high, low] = u16::to_be_bytes(operand);
+            let command = [code, console, strip, high, low];
+            for length in [5, 4, 3] {
+                let mut pair = opened.clone();
+                comparison.command(&mut pair, &command[..length])?;
+            }
+        }
+        for operand in operands {
+            let record = entry_record(0, code, strip, operand);
+            let tape = [&tape_start(3)[..], &record, &tape_end(1)].concat();
+            comparison.resume(&mut opened.clone(), &tape)?;
+        }
+    }
+    Ok(())
+}
+
+/// Damaged, truncated and plausible stores, each with every call that reads a store.
+fn compare_stores(comparison: &mut Comparison, rng: &mut Rng, count: usize) -> Outcome<()> {
+    for _ in 0..count {
+        let (capacity, length) = (rng.between(1, 20), rng.below(60));
+        let store = match rng.below(5) {
+            0 => gen::plausible_store(&gen::random_graph(rng, capacity)),
+            1 => {
+                let reached = gen::random_room(rng, capacity, length);
+                let mut near = gen::near_miss(rng, &reached);
+                near.capacity = near.capacity.max(near.versions.len());
+                gen::plausible_store(&near)
+            }
+            2 => gen::garbage(rng, 8000),
+            _ => {
+                let reached = gen::random_room(rng, capacity, length);
+                gen::damaged_store(rng, &layout::encode(&reached))
+            }
+        };
+        comparison.all_calls(rng, &mut Pair::of_store(&store))?;
+    }
+    Ok(())
+}
+
+/// Every byte of a store changed, one at a time, and the store cut at places of every kind.
+fn compare_every_byte(comparison: &mut Comparison, rng: &mut Rng, capacity: usize) -> Outcome<()> {
+    let room = gen::random_room(rng, capacity, 5 * capacity);
+    let store = layout::encode(&room);
+    let mut pair = Pair::of_store(&store);
+    for place in 0..store.len() {
+        let bits = if rng.chance(50) {
+            1 << rng.below(8)
+        } else {
+            rng.byte()
+        };
+        pair.model.store.lent_mut()[place] ^= bits;
+        pair.tested.store.lent_mut()[place] ^= bits;
+        comparison.call(Call::Heard { console: 0 }, &mut pair)?;
+        pair.model.store.lent_mut()[place] ^= bits;
+        pair.tested.store.lent_mut()[place] ^= bits;
+    }
+    for length in (0..store.len()).step_by(37).chain([store.len() - 1]) {
+        let mut cut = Pair::of_store(&store[..length]);
+        comparison.call(Call::Heard { console: 0 }, &mut cut)?;
+    }
+    Ok(())
+}
+
+/// A store whose capacity field says more than it was made with, in a buffer that is long enough for it: sound with zeros
+/// behind the store and a capacity in range.
+fn compare_grown_store(comparison: &mut Comparison, rng: &mut Rng, capacity: usize) -> Outcome<()> {
+    let store = layout::encode(&gen::random_room(rng, capacity, 20));
+    for (grown, behind) in [(1, 0), (1, rng.byte()), (2, 0), (64_000, 0)] {
+        let mut longer = store.clone();
+        longer.resize(store_bytes((capacity + grown).min(1100)), behind);
+        longer[..2].copy_from_slice(&((capacity + grown) as u16).to_be_bytes());
+        comparison.all_calls(rng, &mut Pair::of_store(&longer))?;
+    }
+    Ok(())
+}
+
+/// Garbage as commands and tapes.
+fn compare_garbage(comparison: &mut Comparison, rng: &mut Rng, count: usize) -> Outcome<()> {
+    let mut pair = Pair::of_store(&layout::encode(&gen::random_room(rng, 8, 12)));
+    for _ in 0..count {
+        comparison.command(&mut pair, &gen::any_command(rng))?;
+        comparison.command(&mut pair, &gen::garbage(rng, 8))?;
+        let mut tape = gen::garbage(rng, 40);
+        if let (Some(first), true) = (tape.first_mut(), rng.chance(50)) {
+            *first = 0x20;
+        }
+        comparison.resume(&mut pair, &tape)?;
+    }
+    Ok(())
+}
+
+/// Numbers at and beyond the ends of their ranges.
+fn compare_numbers(comparison: &mut Comparison, rng: &mut Rng) -> Outcome<()> {
+    let numbers = [
+        0,
+        1,
+        2,
+        15,
+        16,
+        17,
+        255,
+        256,
+        257,
+        1023,
+        1024,
+        1025,
+        65_535,
+        65_536,
+        65_537,
+        66_560,
+        1 << 31,
+        u32::MAX,
+    ];
+    for capacity in numbers {
+        let needed = store_bytes((capacity as usize).min(1100));
+        for length in [needed, needed - 1, needed + 9, 0, 4096] {
+            comparison.opened(rng, capacity, length)?;
+        }
+    }
+    let stores = [layout::encode(&gen::random_room(rng, 8, 20)), vec![0; 5000]];
+    for mut pair in stores.iter().map(|store| Pair::of_store(store)) {
+        for first in numbers {
+            comparison.call(Call::Heard { console: first }, &mut pair)?;
+            comparison.output_call(rng, Call::Board { console: first }, &mut pair, 384)?;
+            comparison.output_call(rng, Call::Board { console: first }, &mut pair, 383)?;
+            for second in numbers {
+                comparison.call(Call::Common { first, second }, &mut pair)?;
+            }
+        }
+    }
+    Ok(())
+}
+
+// ---------------------------------------------------------------- the paper's rooms
+
+/// The paper's rooms as commands, and then every merge and fast-forward in each; they meet the rare refusals.
+const PAPER_ROOMS: [(u32, &[&[u8]]); 4] = [
+    (
+        64,
+        &[
+            &[0x01, 1, 0],
+            &[0x02, 0, 5, 0, 100],
+            &[0x06, 1, 5],
+            &[0x09, 0, 1],
+            &[0x0A, 1, 0],
+            &[0x09, 0, 1],
+        ],
+    ),
+    (1, &[&[0x06, 0, 0], &[0x01, 1, 0], &[0x01, 1, 0]]),
+    (
+        6,
+        &[
+            &[0x01, 1, 0],
+            &[0x01, 2, 0],
+            &[0x06, 0, 0],
+            &[0x06, 1, 0],
+            &[0x06, 2, 0],
+            &[0x09, 2, 0],
+            &[0x09, 2, 1],
+        ],
+    ),
+    (
+        7,
+        &[
+            &[0x01, 1, 0],
+            &[0x01, 2, 0],
+            &[0x01, 3, 0],
+            &[0x06, 2, 0],
+            &[0x0A, 3, 2],
+            &[0x06, 0, 0],
+            &[0x09, 2, 0],
+            &[0x06, 1, 0],
+            &[0x09, 3, 1],
+            &[0x09, 0, 1],
+            &[0x0A, 1, 0],
+        ],
+    ),
+];
+
+fn compare_paper_rooms(comparison: &mut Comparison, rng: &mut Rng) -> Outcome<()> {
+    for (capacity, commands) in PAPER_ROOMS {
+        let mut pair = comparison.opened(rng, capacity, store_bytes(capacity as usize))?;
+        for command in commands {
+            comparison.command(&mut pair, command)?;
+        }
+        for (first, second) in (0..5).flat_map(|first| (0..5).map(move |second| (first, second))) {
+            for code in [code::FORK, code::MERGE, code::FAST_FORWARD] {
+                comparison.command(&mut pair.clone(), &[code, first, second])?;
+            }
+        }
+        comparison.all_calls(rng, &mut pair)?;
+    }
+    Ok(())
+}
+
+// ---------------------------------------------------------------- rounds
+
+const DEFAULT_SEED: u64 = 20_261_115;
+
+/// The seed of a run: the environment's ROOM_SEED, or the fixed one.
+pub fn seed() -> u64 {
+    let given = std::env::var("ROOM_SEED").ok();
+    given
+        .and_then(|text| text.parse().ok())
+        .unwrap_or(DEFAULT_SEED)
+}
+
+/// How much a run compares.
+#[derive(Clone, Copy)]
+pub struct Effort {
+    /// Rounds at small capacities, of some thousands of calls each.
+    pub rounds: usize,
+    /// Steps at capacity 1,024, where the model takes milliseconds for a call.
+    pub steps_at_1024: usize,
+}
+
+/// Compares the implementation with the model on all cases of the seed; every answer is met, or the run has failed.
+pub fn compare(tested: Calls, seed: u64, effort: Effort) -> Outcome<Tally> {
+    let mut tally = Tally::default();
+    for round in 0..effort.rounds {
+        let mut comparison = Comparison::new(tested, format!("seed {seed}, round {round}"));
+        let round_seed = Rng::new(seed.wrapping_add(round as u64)).number();
+        small_round(&mut comparison, &mut Rng::new(round_seed))?;
+        tally += &comparison.tally;
+    }
+    let mut comparison = Comparison::new(tested, format!("seed {seed}, after the rounds"));
+    let rng = &mut Rng::new(seed);
+    fixed_cases(&mut comparison, rng)?;
+    large_sessions(&mut comparison, rng, effort.steps_at_1024)?;
+    tally += &comparison.tally;
+    match tally.missing()[..] {
+        [] => Ok(tally),
+        ref missing => Err(format!("seed {seed}: answers never met: {missing:?}")),
+    }
+}
+
+/// Capacities, how many sessions of each in a round, and their steps: enough to fill the room and go on for a while.
+const SMALL_SESSIONS: [(usize, usize, usize); 5] = [
+    (1, 2, 20),
+    (2, 4, 30),
+    (3, 8, 40),
+    (16, 30, 70),
+    (64, 8, 250),
+];
+
+fn small_round(comparison: &mut Comparison, rng: &mut Rng) -> Outcome<()> {
+    for (capacity, sessions, steps) in SMALL_SESSIONS {
+        for _ in 0..sessions {
+            session_from_opening(comparison, rng, capacity, steps)?;
+        }
+    }
+    for capacity in [16, 64] {
+        let entries = gen::full_of_entries(rng, capacity);
+        session_from_room(comparison, rng, entries, 40)?;
+        let merges = gen::full_of_merges(rng, capacity);
+        session_from_room(comparison, rng, merges, 40)?;
+    }
+    compare_garbage(comparison, rng, 250)?;
+    compare_tapes(comparison, rng, 500)?;
+    compare_cut_tapes(comparison, rng)?;
+    compare_stores(comparison, rng, 150)?;
+    compare_grown_store(comparison, rng, 6)?;
+    if rng.chance(30) {
+        let capacity = rng.between(1, 5);
+        compare_every_byte(comparison, rng, capacity)?;
+    }
+    Ok(())
+}
+
+/// The cases that are the same, or nearly so, for every seed.
+fn fixed_cases(comparison: &mut Comparison, rng: &mut Rng) -> Outcome<()> {
+    compare_paper_rooms(comparison, rng)?;
+    compare_numbers(comparison, rng)?;
+    compare_edges(comparison, rng)?;
+    compare_long_tapes(comparison, rng)?;
+    compare_grown_store(comparison, rng, 1023)?;
+    compare_grown_store(comparison, rng, 1024)
+}
+
+fn large_sessions(comparison: &mut Comparison, rng: &mut Rng, steps: usize) -> Outcome<()> {
+    session_from_opening(comparison, rng, 1024, steps / 2)?;
+    for (kind, count) in [(0, 900), (1, 900), (0, 1010), (1, 1010)] {
+        let mut room = if kind == 0 {
+            gen::full_of_entries(rng, count)
+        } else {
+            gen::full_of_merges(rng, count)
+        };
+        room.capacity = 1024;
+        session_from_room(comparison, rng, room, steps / 8)?;
+    }
+    Ok(())
+}

@@ -1,0 +1,104 @@
+// Runs the session program on standard inputs of every kind and compares every line that it prints with the model's.
+
+use crate::calls;
+use crate::compare::Outcome;
+use crate::gen;
+use crate::model::{decode, refusal};
+use crate::rng::Rng;
+use std::io::{self, Write};
+use std::path::{Path, PathBuf};
+use std::process::{Command, Stdio};
+
+/// The paper's session, and what it prints.
+const PAPER_INPUT: [u8; 20] = [
+    0x01, 0x01, 0x00, 0x02, 0x00, 0x05, 0x00, 0x64, 0x06, 0x01, 0x05, 0x09, 0x00, 0x01, 0x0A, 0x01,
+    0x00, 0x09, 0x00, 0x01,
+];
+const PAPER_LINES: &str = "1 0 0\n2 0 1\n3 0 2\n4 0 3\n5 0 3\n6 14 3\nend 4\n";
+
+/// The session program that the environment's ROOM_SESSION names.
+pub fn program() -> Option<PathBuf> {
+    std::env::var_os("ROOM_SESSION").map(PathBuf::from)
+}
+
+/// What the program prints for an input.
+fn printed(program: &Path, input: &[u8]) -> io::Result<String> {
+    let mut running = Command::new(program)
+        .stdin(Stdio::piped())
+        .stdout(Stdio::piped())
+        .spawn()?;
+    if let Some(mut standard_input) = running.stdin.take() {
+        // The program may stop reading before the end, after an answer of 1 or 2.
+        match standard_input.write_all(input) {
+            Err(error) if error.kind() != io::ErrorKind::BrokenPipe => return Err(error),
+            _ => {}
+        }
+    }
+    let ended = running.wait_with_output()?;
+    let text = String::from_utf8_lossy(&ended.stdout).into_owned();
+    Ok(match ended.status.code() {
+        Some(_) => text,
+        None => text + "(ended by a signal)\n",
+    })
+}
+
+fn compare_input(program: &Path, input: &[u8], expected: &str) -> Outcome<()> {
+    let found = printed(program, input).map_err(|error| format!("{program:?}: {error}"))?;
+    if found == expected {
+        return Ok(());
+    }
+    let lines = expected.lines().zip(found.lines());
+    let line = lines
+        .take_while(|(expected, found)| expected == found)
+        .count();
+    Err(format!(
+        "session program, line {}: expected {:?}, found {:?}\ninput: {input:02X?}",
+        line + 1,
+        expected.lines().nth(line),
+        found.lines().nth(line)
+    ))
+}
+
+/// Whether a command ends the session: its answer is 1 or 2.
+fn ends(command: &[u8]) -> bool {
+    let refusal = decode(command).err();
+    refusal == Some(refusal::NO_SUCH_COMMAND) || refusal == Some(refusal::WRONG_LENGTH)
+}
+
+/// An input: commands of which most are accepted, whole or cut or with bytes changed, or garbage.
+fn some_input(rng: &mut Rng) -> Vec<u8> {
+    let length = rng.below(120);
+    let (mut commands, _) = gen::command_sequence(rng, 64, length);
+    commands.retain(|command| !ends(command));
+    let mut input = commands.concat();
+    match rng.below(6) {
+        0 => input.truncate(rng.below(input.len() + 1)),
+        1 => input = gen::garbage(rng, 40),
+        2 => input = (0..rng.below(60)).map(|_| rng.below(12) as u8).collect(),
+        3 => {
+            let place = rng.below(input.len());
+            if let Some(byte) = input.get_mut(place) {
+                *byte = rng.byte();
+            }
+        }
+        _ => {}
+    }
+    input
+}
+
+/// Compares the program with the model on the paper's session, cut at every place, and on so many random inputs; how
+/// many inputs and lines were compared.
+pub fn compare_program(program: &Path, seed: u64, count: usize) -> Outcome<(usize, usize)> {
+    compare_input(program, &PAPER_INPUT, PAPER_LINES)?;
+    let rng = &mut Rng::new(seed);
+    let cut = (0..=PAPER_INPUT.len()).map(|length| PAPER_INPUT[..length].to_vec());
+    let random = (0..count).map(|_| some_input(rng));
+    let (mut inputs, mut lines) = (1, PAPER_LINES.lines().count());
+    for input in cut.chain(random) {
+        let expected = calls::session(&input);
+        compare_input(program, &input, &expected)?;
+        inputs += 1;
+        lines += expected.lines().count();
+    }
+    Ok((inputs, lines))
+}

@@ -1,0 +1,81 @@
+// The safe wrapper of the room unit: its seven calls as safe functions. A slice crosses the boundary as a pointer and a length, and the
+// unit's contracts have no conditions, so any bytes and any numbers may be handed over.
+
+use crate::calls::Reply;
+
+#[link(name = "unit", kind = "static")]
+extern "C" {
+    fn room_open(capacity: u32, store: *mut u8, store_length: usize) -> Reply;
+    fn room_command(
+        store: *mut u8,
+        store_length: usize,
+        command: *const u8,
+        command_length: usize,
+    ) -> Reply;
+    fn room_pause(
+        store: *const u8,
+        store_length: usize,
+        tape: *mut u8,
+        tape_length: usize,
+    ) -> Reply;
+    fn room_resume(
+        tape: *const u8,
+        tape_length: usize,
+        store: *mut u8,
+        store_length: usize,
+    ) -> Reply;
+    fn room_board(
+        store: *const u8,
+        store_length: usize,
+        console: u32,
+        board: *mut u8,
+        board_length: usize,
+    ) -> Reply;
+    fn room_heard(store: *const u8, store_length: usize, console: u32) -> Reply;
+    fn room_common(store: *const u8, store_length: usize, first: u32, second: u32) -> Reply;
+}
+
+// Each call below is sound for every argument: the unit reads and writes within the lengths given and keeps no pointer.
+
+pub fn open(capacity: u32, store: &mut [u8]) -> Reply {
+    unsafe { room_open(capacity, store.as_mut_ptr(), store.len()) }
+}
+
+pub fn command(store: &mut [u8], command: &[u8]) -> Reply {
+    unsafe {
+        room_command(
+            store.as_mut_ptr(),
+            store.len(),
+            command.as_ptr(),
+            command.len(),
+        )
+    }
+}
+
+pub fn pause(store: &[u8], tape: &mut [u8]) -> Reply {
+    unsafe { room_pause(store.as_ptr(), store.len(), tape.as_mut_ptr(), tape.len()) }
+}
+
+pub fn resume(tape: &[u8], store: &mut [u8]) -> Reply {
+    unsafe { room_resume(tape.as_ptr(), tape.len(), store.as_mut_ptr(), store.len()) }
+}
+
+pub fn board(store: &[u8], console: u32, board: &mut [u8]) -> Reply {
+    unsafe {
+        room_board(
+            store.as_ptr(),
+            store.len(),
+            console,
+            board.as_mut_ptr(),
+            board.len(),
+        )
+    }
+}
+
+pub fn heard(store: &[u8], console: u32) -> Reply {
+    unsafe { room_heard(store.as_ptr(), store.len(), console) }
+}
+
+pub fn common(store: &[u8], first: u32, second: u32) -> Reply {
+    unsafe { room_common(store.as_ptr(), store.len(), first, second) }
+}

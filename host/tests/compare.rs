@@ -1,0 +1,30 @@
+// The unit and the fast implementation against the model, on fewer cases than the program `compare` runs.
+
+use room_host::compare::{compare, seed, Calls, Effort, FAST, UNIT};
+
+const EFFORT: Effort = Effort {
+    rounds: 2,
+    steps_at_1024: 8,
+};
+
+fn check(tested: Calls) {
+    let seed = seed();
+    match compare(tested, seed, EFFORT) {
+        Ok(tally) => println!(
+            "{tally}model and {} agree in {} calls, seed {seed}",
+            tested.name,
+            tally.calls()
+        ),
+        Err(difference) => panic!("{difference}"),
+    }
+}
+
+#[test]
+fn the_unit_answers_and_writes_as_the_model() {
+    check(UNIT);
+}
+
+#[test]
+fn the_fast_implementation_answers_and_writes_as_the_model() {
+    check(FAST);
+}

@@ -1,0 +1,113 @@
+/*
+ * The room unit: one training room's strip boards, kept as a version graph in a store that the caller lends.
+ *
+ * What the caller owes:
+ * - A pointer and the length behind it describe bytes that the caller may read, and write where the pointer is not const.
+ *   With a length of 0 the pointer may be NULL.
+ * - The two buffers of one call do not overlap.
+ * - No other thread touches a lent buffer before the call has returned. The unit keeps no pointer and no state of its own.
+ * - room_resume needs ROOM_RESUME_STACK bytes of stack, any other call ROOM_STACK bytes.
+ * Nothing else: any bytes may stand in a lent buffer, and any number may be passed.
+ *
+ * A call answers 0, or the number of the refusal that applies. A refused call counts 0 and changes no lent byte.
+ */
+#ifndef ROOM_H
+#define ROOM_H
+
+#include <stddef.h>
+#include <stdint.h>
+
+#ifdef __cplusplus
+extern "C" {
+#endif
+
+/* Sizes. A store of a capacity takes ROOM_STORE_BYTES(capacity) bytes at the front of its buffer; bytes behind it are never touched. */
+#define ROOM_CONSOLES 16
+#define ROOM_STRIPS 32
+#define ROOM_STRIP_BYTES 12
+#define ROOM_BOARD_BYTES 384
+#define ROOM_MAX_CAPACITY 1024
+#define ROOM_STORE_BYTES(capacity) ((size_t)4096 + (size_t)544 * (size_t)(capacity))
+/* The longest tape of a room of this capacity: its start, its versions, 16 heads and its end. */
+#define ROOM_TAPE_BYTES(capacity) ((size_t)7 * (size_t)(capacity) + (size_t)61)
+
+/* Stack in bytes that a caller must have: resume judges a tape with 1,024 rows of 128 bytes of its own before it writes. */
+#define ROOM_STACK 16384
+#define ROOM_RESUME_STACK 151552
+
+/* Cells of a strip, by their first byte; 16 bits with the high byte first, but for the flag, which is a byte. */
+#define ROOM_LEVEL_AT 0
+#define ROOM_HEADING_AT 2
+#define ROOM_MARKS_AT 4
+#define ROOM_CALLS_AT 6
+#define ROOM_ALERTS_AT 8
+#define ROOM_FLAG_AT 10
+
+/* Codes of commands, with the bytes that follow. */
+#define ROOM_FORK 0x01         /* new console, old console */
+#define ROOM_LEVEL 0x02        /* console, strip, level in 16 bits */
+#define ROOM_HEADING 0x03      /* console, strip, heading in 16 bits */
+#define ROOM_MARK_PUT 0x04     /* console, strip, mark */
+#define ROOM_MARK_TAKEN 0x05   /* console, strip, mark */
+#define ROOM_CALL 0x06         /* console, strip */
+#define ROOM_ALERT_ON 0x07     /* console, strip */
+#define ROOM_ALERT_OFF 0x08    /* console, strip */
+#define ROOM_MERGE 0x09        /* receiver, giver */
+#define ROOM_FAST_FORWARD 0x0A /* receiver, giver */
+
+/* Refusals. Of several that apply, the lowest is given. */
+enum room_refusal {
+    ROOM_ACCEPTED = 0,
+    ROOM_NO_COMMAND = 1,          /* empty command, or code outside 01 to 0A */
+    ROOM_WRONG_LENGTH = 2,        /* length not the code's */
+    ROOM_CONSOLE_TOO_HIGH = 3,    /* console above 15 */
+    ROOM_STRIP_TOO_HIGH = 4,      /* strip above 31 */
+    ROOM_OPERAND_TOO_HIGH = 5,    /* level above 600, heading above 360, mark above 15 */
+    ROOM_SAME_CONSOLE = 6,        /* the same console twice in 01, 09, 0A */
+    ROOM_BROKEN_TAPE = 7,         /* no sequence of whole records with at least one head */
+    ROOM_BAD_CAPACITY = 8,        /* capacity outside 1 to 1,024 */
+    ROOM_TAPE_OUT_OF_RANGE = 9,   /* a number on the tape is out of range */
+    ROOM_TAPE_NOT_SOUND = 10,     /* the tape's versions and heads give no sound store */
+    ROOM_NO_STORE = 11,           /* the lent bytes hold no sound store */
+    ROOM_CONSOLE_ABSENT = 12,     /* a named console is absent (fork: the old one) */
+    ROOM_CONSOLE_PRESENT = 13,    /* fork's new console is present */
+    ROOM_GIVER_BEHIND = 14,       /* the giver's head is an ancestor of the receiver's */
+    ROOM_RECEIVER_BEHIND = 15,    /* merge: the receiver's head is an ancestor of the giver's */
+    ROOM_NOT_BEHIND = 16,         /* fast-forward: the receiver's head is no ancestor of the giver's */
+    ROOM_THIRD_CONSOLE = 17,      /* merge: a third console's common versions with the two are apart */
+    ROOM_FULL = 18,               /* no version left */
+    ROOM_BUFFER_TOO_SHORT = 19    /* lent output or store buffer too short */
+};
+
+/* 0 or a refusal; and a question's number, or for room_pause and room_board the bytes written, else 0. */
+struct room_reply {
+    uint32_t answer;
+    uint32_t count;
+};
+
+/* Makes version 0 with console 0 on it, whatever stood in the store. Refusals 8, 19. */
+struct room_reply room_open(uint32_t capacity, uint8_t *store, size_t store_length);
+
+/* Carries out one command. Refusals 1 to 6, 11 to 18. */
+struct room_reply room_command(uint8_t *store, size_t store_length, const uint8_t *command, size_t command_length);
+
+/* Writes the tape of the room; counts its bytes. Refusals 11, 19. */
+struct room_reply room_pause(const uint8_t *store, size_t store_length, uint8_t *tape, size_t tape_length);
+
+/* Makes the store of the tape's room, whatever stood in the store. Refusals 7 to 10, 19. */
+struct room_reply room_resume(const uint8_t *tape, size_t tape_length, uint8_t *store, size_t store_length);
+
+/* Copies a console's board out; counts its 384 bytes. Refusals 3, 11, 12, 19. */
+struct room_reply room_board(const uint8_t *store, size_t store_length, uint32_t console, uint8_t *board, size_t board_length);
+
+/* Counts the entries that a console has heard. Refusals 3, 11, 12. */
+struct room_reply room_heard(const uint8_t *store, size_t store_length, uint32_t console);
+
+/* Counts to the common version of two consoles; of a console with itself, its head. Refusals 3, 11, 12. */
+struct room_reply room_common(const uint8_t *store, size_t store_length, uint32_t first, uint32_t second);
+
+#ifdef __cplusplus
+}
+#endif
+
+#endif

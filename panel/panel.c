@@ -1,0 +1,240 @@
+/* A sample operator panel: reads typed commands, line by line, and has the room unit carry them out. `help` lists them. */
+#include <stdint.h>
+#include <stdio.h>
+#include <string.h>
+
+#include "panel.h"
+#include "room.h"
+
+enum { LINE_BYTES = 256, COMMAND_BYTES = 5, FIRST_CAPACITY = 64 };
+
+static uint8_t store[ROOM_STORE_BYTES(ROOM_MAX_CAPACITY)];
+static uint8_t tape[ROOM_TAPE_BYTES(ROOM_MAX_CAPACITY)];
+
+static const char HELP[] =
+    "open CAPACITY                a new room, with console 0\n"
+    "fork NEW OLD                 a new console on the old one's version\n"
+    "level CONSOLE STRIP FEET     in hundreds of feet, 0 to 600\n"
+    "heading CONSOLE STRIP DEGREES\n"
+    "mark CONSOLE STRIP MARK      and unmark\n"
+    "call CONSOLE STRIP           and alert, quiet\n"
+    "merge RECEIVER GIVER         and forward\n"
+    "board CONSOLE                the console's strips\n"
+    "heads                        where every console stands\n"
+    "heard CONSOLE                how many entries it has heard\n"
+    "common FIRST SECOND          the last version that both have\n"
+    "pause FILE                   and resume\n"
+    "graph FILE                   the version graph for Graphviz\n"
+    "quit\n";
+
+/* A command of the unit by its name: its code, how many numbers follow, and whether the last of them takes 16 bits. */
+struct named_command {
+    const char *name;
+    uint8_t code;
+    int numbers;
+    int is_wide;
+};
+
+static const struct named_command COMMANDS[] = {
+    {"fork", ROOM_FORK, 2, 0},
+    {"level", ROOM_LEVEL, 3, 1},
+    {"heading", ROOM_HEADING, 3, 1},
+    {"mark", ROOM_MARK_PUT, 3, 0},
+    {"unmark", ROOM_MARK_TAKEN, 3, 0},
+    {"call", ROOM_CALL, 2, 0},
+    {"alert", ROOM_ALERT_ON, 2, 0},
+    {"quiet", ROOM_ALERT_OFF, 2, 0},
+    {"merge", ROOM_MERGE, 2, 0},
+    {"forward", ROOM_FAST_FORWARD, 2, 0},
+};
+
+/* A line that was typed: a word, then up to three numbers or a file's name. */
+struct line {
+    char word[16];
+    unsigned number[3];
+    int numbers;
+    char file[LINE_BYTES];
+};
+
+/* Says an answer in words, and whether it was 0. */
+static int say(struct room_reply reply)
+{
+    if (reply.answer == ROOM_ACCEPTED)
+        return 1;
+    printf("refused (%u): %s\n", (unsigned)reply.answer, refusal_in_words(reply.answer));
+    return 0;
+}
+
+static void say_done(struct room_reply reply)
+{
+    if (say(reply))
+        printf("done\n");
+}
+
+static void say_number(struct room_reply reply)
+{
+    if (say(reply))
+        printf("%u\n", (unsigned)reply.count);
+}
+
+/* ---- the unit's calls ---- */
+
+static void carry_out(const struct named_command *named, const struct line *line)
+{
+    uint8_t bytes[COMMAND_BYTES] = {named->code};
+    size_t length = 1;
+    for (int i = 0; i < named->numbers; i++) {
+        unsigned number = line->number[i];
+        int takes_two = named->is_wide && i == named->numbers - 1;
+        if (number > (takes_two ? 65535u : 255u)) {
+            printf("that number does not fit into the command\n");
+            return;
+        }
+        if (takes_two)
+            bytes[length++] = (uint8_t)(number >> 8);
+        bytes[length++] = (uint8_t)(number & 255u);
+    }
+    say_done(room_command(store, sizeof store, bytes, length));
+}
+
+static void show_console(unsigned console)
+{
+    uint8_t board[ROOM_BOARD_BYTES];
+    if (say(room_board(store, sizeof store, console, board, sizeof board)))
+        show_board(board);
+}
+
+static void show_heads(void)
+{
+    for (unsigned console = 0; console < ROOM_CONSOLES; console++) {
+        struct room_reply reply = room_common(store, sizeof store, console, console);
+        if (reply.answer == ROOM_ACCEPTED)
+            printf("console %u on version %u\n", console, (unsigned)reply.count);
+        else if (reply.answer != ROOM_CONSOLE_ABSENT) {
+            say(reply);
+            return;
+        }
+    }
+}
+
+/* The tape of the room in `tape`; its length, or 0 where there is none. */
+static size_t paused(void)
+{
+    struct room_reply reply = room_pause(store, sizeof store, tape, sizeof tape);
+    return say(reply) ? reply.count : 0;
+}
+
+static void pause_to(const char *name)
+{
+    size_t length = paused();
+    FILE *file = length > 0 ? fopen(name, "wb") : NULL;
+    int written = file != NULL && fwrite(tape, 1, length, file) == length;
+    int closed = file == NULL || fclose(file) == 0;
+    if (length > 0)
+        printf(written && closed ? "%zu bytes written\n" : "%zu bytes could not be written\n", length);
+}
+
+static void resume_from(const char *name)
+{
+    FILE *file = fopen(name, "rb");
+    if (file == NULL) {
+        printf("there is no such file\n");
+        return;
+    }
+    size_t length = fread(tape, 1, sizeof tape, file);
+    int is_whole = !ferror(file) && fgetc(file) == EOF;
+    fclose(file);
+    if (is_whole)
+        say_done(room_resume(tape, length, store, sizeof store));
+    else
+        printf("that file is no tape of a room\n");
+}
+
+static void graph_to(const char *name)
+{
+    size_t length = paused();
+    FILE *file = length > 0 ? fopen(name, "w") : NULL;
+    if (file != NULL) {
+        write_graph(file, tape, length);
+        printf(fclose(file) == 0 ? "graph written\n" : "the graph could not be written\n");
+    } else if (length > 0) {
+        printf("the graph could not be written\n");
+    }
+}
+
+/* ---- lines ---- */
+
+/* Takes a typed line apart; 0 where it is empty or a comment. */
+static int take_apart(const char *text, struct line *line)
+{
+    memset(line, 0, sizeof *line);
+    if (sscanf(text, "%15s", line->word) != 1 || line->word[0] == '#')
+        return 0;
+    int found = sscanf(text, "%*s %u %u %u", &line->number[0], &line->number[1], &line->number[2]);
+    line->numbers = found < 0 ? 0 : found;
+    if (sscanf(text, "%*s %255s", line->file) != 1)
+        line->file[0] = '\0';
+    return 1;
+}
+
+static int is_word(const struct line *line, const char *word, int numbers)
+{
+    return strcmp(line->word, word) == 0 && line->numbers == numbers;
+}
+
+static int is_file_word(const struct line *line, const char *word)
+{
+    return strcmp(line->word, word) == 0 && line->file[0] != '\0';
+}
+
+static int is_command(const struct line *line)
+{
+    for (size_t i = 0; i < sizeof COMMANDS / sizeof COMMANDS[0]; i++) {
+        if (is_word(line, COMMANDS[i].name, COMMANDS[i].numbers)) {
+            carry_out(&COMMANDS[i], line);
+            return 1;
+        }
+    }
+    return 0;
+}
+
+static void follow(const struct line *line)
+{
+    if (is_command(line))
+        return;
+    if (is_word(line, "open", 1))
+        say_done(room_open(line->number[0], store, sizeof store));
+    else if (is_word(line, "board", 1))
+        show_console(line->number[0]);
+    else if (is_word(line, "heads", 0))
+        show_heads();
+    else if (is_word(line, "heard", 1))
+        say_number(room_heard(store, sizeof store, line->number[0]));
+    else if (is_word(line, "common", 2))
+        say_number(room_common(store, sizeof store, line->number[0], line->number[1]));
+    else if (is_file_word(line, "pause"))
+        pause_to(line->file);
+    else if (is_file_word(line, "resume"))
+        resume_from(line->file);
+    else if (is_file_word(line, "graph"))
+        graph_to(line->file);
+    else if (is_word(line, "help", 0))
+        fputs(HELP, stdout);
+    else
+        printf("not understood; `help` lists what is\n");
+}
+
+int main(void)
+{
+    char text[LINE_BYTES];
+    struct line line;
+    say(room_open(FIRST_CAPACITY, store, sizeof store));
+    while (fgets(text, sizeof text, stdin) != NULL) {
+        if (!take_apart(text, &line))
+            continue;
+        if (strcmp(line.word, "quit") == 0)
+            break;
+        follow(&line);
+    }
+    return 0;
+}

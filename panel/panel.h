@@ -1,0 +1,18 @@
+/* The sample panel's parts: what it shows, and the version graph that it writes. */
+#ifndef PANEL_H
+#define PANEL_H
+
+#include <stddef.h>
+#include <stdint.h>
+#include <stdio.h>
+
+/* The meaning of an answer of the unit, in words. */
+const char *refusal_in_words(uint32_t answer);
+
+/* Prints the strips of a board that are not empty, as a table. */
+void show_board(const uint8_t *board);
+
+/* Writes the version graph of a pause tape as a Graphviz file. */
+void write_graph(FILE *file, const uint8_t *tape, size_t length);
+
+#endif
