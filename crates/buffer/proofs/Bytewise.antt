@@ -1,7 +1,7 @@
--- Two rows put together byte by byte: how long the result is, and each of its bytes.
+-- Two rows put together byte by byte: how long the result is, each of its bytes, and rows joined.
 -- Assumes nothing.
 use mathlib.Core.Path.{_≡_, refl, ap}
-use mathlib.Core.List.{List, [], _∷_}
+use mathlib.Core.List.{List, [], _∷_, _++_}
 use Prim.Native.Nat.{ℕ, zero, suc, _<_}
 use native.Mathlib.Nat.{suc-inj, le-of-suc-le-suc, not-suc-le-zero}
 use native.Mathlib.Omega.{arith}
@@ -22,3 +22,10 @@ module _ (f : ℕ → ℕ → ℕ) where
   bytewise-at (x ∷ s) [] i h k = absurd (not-suc-le-zero k)
   bytewise-at (x ∷ s) (y ∷ t) zero h k = refl
   bytewise-at (x ∷ s) (y ∷ t) (suc i) h k = bytewise-at s t i (le-of-suc-le-suc h) (le-of-suc-le-suc k)
+
+  pub bytewise-append : (a b x y : List ℕ) → length a ≡ length b → bytewise f (a ++ x) (b ++ y) ≡ bytewise f a b ++ bytewise f x y
+  unfolding bytewise
+  bytewise-append [] [] x y e = refl
+  bytewise-append [] (v ∷ b) x y e = absurd (omega arith)
+  bytewise-append (u ∷ a) [] x y e = absurd (omega arith)
+  bytewise-append (u ∷ a) (v ∷ b) x y e = ap (f u v ∷_) (bytewise-append a b x y (suc-inj e))

@@ -9,3 +9,6 @@ pub mod RowParts
 pub mod Rows
 pub mod Sets
 pub mod Written
+pub mod Patches
+pub mod Shared
+pub mod Ones

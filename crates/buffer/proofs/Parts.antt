@@ -1,19 +1,20 @@
 -- Parts of a list of bytes: a list stands at a place exactly when it is the part there, lists that stand one behind the other stand
--- joined, and a part is all zeros exactly when a run of zeros stands there.
+-- joined, a part is all zeros exactly when a run of zeros stands there, and a list that stands at the front was written over it.
 -- Assumes nothing.
 use mathlib.Core.Path.{_≡_, refl, sym, ap, _∙_}
 use mathlib.Core.Bool.{true}
 use mathlib.Core.List.{List, [], _∷_, _++_}
 use Prim.Native.Nat.{ℕ, zero, suc, _+_, _-_, _/_, _≤_, _<_}
+use native.Mathlib.Nat.{zero-add}
 use native.Mathlib.Decide.{decLt}
 use native.Mathlib.Omega.{arith}
 use lib.Dec.{eqb}
-use lib.ListN.{length, getD, drop, length-append, length-take, getD-replicate, List·getD-append, List·getD-eq-default}
-use lib.Seq.{getD-append-add, ext-getD}
+use lib.ListN.{length, getD, drop, length-append, length-take, length-drop, set, length-set, getD-replicate, List·getD-append, List·getD-eq-default}
+use lib.Seq.{getD-append-add, getD-drop, getD-set-same, getD-set-other, ext-getD}
 use borrow.Author.Tests.{eqb-true, eq-eqb}
 use Rattle.laws.proofs.Lists.{part-at}
 use Rattle.laws.proofs.Logic.{and-l, and-r, and-i}
-use Rattle.buffer.specs.Field.{byte, word, wordAt, zeros, part, same, allZero}
+use Rattle.buffer.specs.Field.{byte, word, wordAt, putWord, zeros, part, overwrite, same, allZero}
 use Rattle.buffer.proofs.Fields.{zeros-length, part-length, same-refl}
 use Rattle.buffer.proofs.Stands.{Stands}
 
@@ -65,6 +66,17 @@ word-stands {s} at b =
     let lo = b (at + 1) in
     stands-join (byte (wordAt s at / 256) ∷ []) (byte (wordAt s at) ∷ []) (stands-one (omega arith)) (stands-one {at = at + 1} (omega arith)) refl
 
+-- a field that was written stands at its place
+pub put-stands : (s : List ℕ) (at x : ℕ) → at + 1 < length s → Stands (putWord s at x) at (word x)
+put-stands s at x l =
+    stands-join (byte (x / 256) ∷ []) (byte x ∷ [])
+    (stands-one
+    (getD-set-other (set s at (byte (x / 256))) (at + 1) at (byte x) 0 (omega arith)
+    ∙ getD-set-same s at (byte (x / 256)) 0 (omega arith)))
+    (stands-one {at = at + 1}
+    (getD-set-same (set s at (byte (x / 256))) (at + 1) (byte x) 0 (omega (arith, length-set s at (byte (x / 256))))))
+    refl
+
 -- zeros
 pub zero-at : (xs : List ℕ) → allZero xs ≡ true → (k : ℕ) → getD xs k 0 ≡ 0
 unfolding allZero
@@ -97,3 +109,23 @@ part-zero s at n e = stands-zero at n (part-stands n e (zeros-length n))
 
 pub same-of : (xs ys : List ℕ) → xs ≡ ys → same xs ys ≡ true
 same-of xs ys e = rw e (same-refl ys)
+
+-- the bytes behind new ones at the front
+pub overwrite-behind : (new old : List ℕ) (k : ℕ) → length new ≤ k → getD (overwrite new old) k 0 ≡ getD old k 0
+overwrite-behind new old k l =
+    let at : length new + (k - length new) ≡ k = omega arith in
+    sym (ap (λ (i : ℕ). getD (overwrite new old) i 0) at)
+    ∙ getD-append-add new (drop (length new) old) (k - length new) 0
+    ∙ getD-drop (length new) old (k - length new) 0
+    ∙ ap (λ (i : ℕ). getD old i 0) at
+
+-- a list that begins with new bytes and goes on as the old one
+pub stands-overwrite : (new old s : List ℕ) → Stands s 0 new → length new ≤ length old → length s ≡ length old
+    → ((k : ℕ) → length new ≤ k → getD s k 0 ≡ getD old k 0) → s ≡ overwrite new old
+stands-overwrite new old s h fits long kept =
+    ext-getD 0 s (overwrite new old) (simp (length-append, length-drop) (omega arith))
+    (λ k l.
+    elim (decLt k (length new)) [
+      | yes b ↦ rw (zero-add k) at (h .read k b) ∙ sym (List·getD-append new (drop (length new) old) 0 k b)
+      | no b ↦ kept k (omega arith) ∙ sym (overwrite-behind new old k (omega arith))
+    ])

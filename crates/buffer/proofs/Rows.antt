@@ -2,12 +2,14 @@
 -- Assumes nothing.
 use mathlib.Core.Path.{_≡_, refl, ap, _∙_}
 use mathlib.Core.Bool.{Bool, true, false}
+use mathlib.Core.List.{List}
 use Prim.Native.Nat.{ℕ, zero, suc, _+_, _*_, _/_, _%_, _^_, _≤_, _<_}
 use native.Mathlib.Nat.{not-suc-le-zero, le-of-suc-le-suc, add-zero}
 use native.Mathlib.Omega.{arith}
+use lib.Bits.{bitOr}
 use lib.Dec.{eqb}
-use lib.ListN.{length, getD}
-use Rattle.buffer.specs.Row.{bit, rowByte, rowFrom, row, member}
+use lib.ListN.{length, getD, length-set}
+use Rattle.buffer.specs.Row.{bit, rowByte, rowFrom, row, member, withMember}
 
 pub rowFrom-length : (f : ℕ → Bool) (v n : ℕ) → length (rowFrom f v n) ≡ n
 unfolding rowFrom
@@ -60,3 +62,6 @@ member-row f n v h =
     ∙ ap (λ (k : ℕ). eqb k 1) (byte-bit f (0 + 8 * (v / 8)) (v % 8) (omega arith))
     ∙ bit-test (f (0 + 8 * (v / 8) + v % 8))
     ∙ ap f (omega arith)
+
+pub withMember-length : (s : List ℕ) (v : ℕ) → length (withMember s v) ≡ length s
+withMember-length s v = length-set s (v / 8) (bitOr (getD s (v / 8) 0) (2 ^ (v % 8)))

@@ -46,12 +46,12 @@ and-bit a b x y =
     and-step (bit a + 2 * x) (bit b + 2 * y) ∙ rw (p, q) (omega (arith, bit-and a b, bit-le a, bit-le b))
 
 -- a byte of a row, bit by bit
-abbrev nested : (ℕ → Bool) → ℕ → ℕ
+abbrev pub nested : (ℕ → Bool) → ℕ → ℕ
 nested f v =
     bit (f v) + 2 * (bit (f (v + 1)) + 2 * (bit (f (v + 2)) + 2 * (bit (f (v + 3))
     + 2 * (bit (f (v + 4)) + 2 * (bit (f (v + 5)) + 2 * (bit (f (v + 6)) + 2 * (bit (f (v + 7)) + 2 * 0)))))))
 
-nest : (f : ℕ → Bool) (v : ℕ) → rowByte f v ≡ nested f v
+pub nest : (f : ℕ → Bool) (v : ℕ) → rowByte f v ≡ nested f v
 nest f v = omega arith
 
 byte-or : (f g : ℕ → Bool) (v : ℕ) → bitOr (rowByte f v) (rowByte g v) ≡ rowByte (λ u. f u || g u) v

@@ -2,7 +2,7 @@
 -- Assumes nothing.
 use mathlib.Core.Path.{_≡_, refl, ap, ap₂, _∙_}
 use mathlib.Core.List.{List, _∷_, _++_}
-use Prim.Native.Nat.{ℕ, _+_, _*_, _/_, _<_}
+use Prim.Native.Nat.{ℕ, _+_, _*_, _/_, _≤_, _<_}
 use native.Mathlib.Nat.{zero-add}
 use native.Mathlib.Omega.{arith}
 use lib.ListN.{length, getD, length-append, List·getD-append}
@@ -30,6 +30,11 @@ stands-right {s} {at} xs ys h e =
           ∙ h .read (length xs + i) (rw length-append (omega arith))
           ∙ getD-append-add xs ys i 0;
     }
+
+-- what stands where no byte was changed stands still
+pub stands-kept : {s t : List ℕ} {at : ℕ} {xs : List ℕ} → Stands s at xs
+    → ((i : ℕ) → at ≤ i → i < at + length xs → getD t i 0 ≡ getD s i 0) → Stands t at xs
+stands-kept {at = at} h kept = record { read = λ i l. kept (at + i) (omega arith) (omega arith) ∙ h .read i l }
 
 -- the byte that stands first
 pub stands-first : {s : List ℕ} {at x : ℕ} {xs : List ℕ} → Stands s at (x ∷ xs) → getD s at 0 ≡ x

@@ -28,6 +28,10 @@ zeros n = replicate n 0
 abbrev pub part : List ℕ → ℕ → ℕ → List ℕ
 part s at n = take n (drop at s)
 
+-- the list with new elements in place of as many from a place on
+unfoldable pub withPart : List ℕ → ℕ → List ℕ → List ℕ
+withPart s at new = take at s ++ (new ++ drop (at + length new) s)
+
 -- a buffer after new bytes were written at its front: what lies beyond them is untouched
 abbrev pub overwrite : List ℕ → List ℕ → List ℕ
 overwrite new old = new ++ drop (length new) old

@@ -1,9 +1,10 @@
 // Bytes of a lent buffer: 16-bit fields, bit rows and parts. Nothing here knows the room unit.
 ghost use mathlib.Core.Path.{_≡_};
-ghost use Prim.Native.Nat.{_+_, _/_, _%_, _^_, _<_};
+ghost use Prim.Native.Nat.{_+_, _/_, _%_, _^_, _<_, _≤_};
 ghost use lib.ListN.{length};
-ghost use Rattle.buffer.specs.Field.{wordAt, putWord, same, allZero, zeros};
-ghost use Rattle.buffer.specs.Row.{member, union, intersection, withMember, noneFrom};
+ghost use Rattle.buffer.specs.Field.{wordAt, putWord, part, withPart, same, allZero, zeros};
+ghost use Rattle.buffer.specs.Row.{member, union, intersection, withMember, noneFrom, memberCount};
+ghost use Rattle.buffer.specs.Word.{longWord};
 
 // The bytes of a row of 1,024 members.
 const ROW: usize = 128;
@@ -142,6 +143,18 @@ pub fn copy(dst: &mut [u8], src: &[u8])
     }
 }
 
+// Copies n bytes of s to a place behind them.
+pub fn copy_within(s: &mut [u8], from: usize, to: usize, n: usize)
+    requires { ⌜ (from + n ≤ to) × (to + n ≤ length (now s)) ⌝ }
+    ensures { λ _. ⌜ now (s .exit) ≡ withPart (now (s .entry)) to (part (now (s .entry)) from n) ⌝ }
+{
+    let mut i = 0;
+    while i < n {
+        s[to + i] = s[from + i];
+        i += 1;
+    }
+}
+
 // Writes zeros over dst.
 pub fn clear(dst: &mut [u8])
     ensures { λ _. ⌜ now (dst .exit) ≡ zeros (length (now (dst .entry))) ⌝ }
@@ -172,4 +185,84 @@ pub fn add_member(dst: &mut [u8], v: usize)
 {
     let at = v / 8;
     dst[at] = dst[at] | bit_of(v);
+}
+
+// Writes at a place the row that stands before it, with v as a member besides.
+pub fn put_extended(s: &mut [u8], from: usize, to: usize, v: usize)
+    requires { ⌜ (from + 128 ≤ to) × (to + 128 ≤ length (now s)) × (v < 1024) ⌝ }
+    ensures { λ _. ⌜ now (s .exit) ≡ withPart (now (s .entry)) to (withMember (part (now (s .entry)) from 128) v) ⌝ }
+{
+    let end = to + ROW;
+    copy_within(s, from, to, ROW);
+    add_member(&mut s[to..end], v);
+}
+
+// Puts the members of another row and v into dst.
+fn add_extended(dst: &mut [u8], src: &[u8], v: usize)
+    requires { ⌜ (length (now dst) ≡ length (now src)) × (v / 8 < length (now dst)) ⌝ }
+    ensures { λ _. ⌜ now (dst .exit) ≡ withMember (union (now (dst .entry)) (now (src .entry))) v ⌝ }
+{
+    add_union(dst, src);
+    add_member(dst, v);
+}
+
+// Writes at a place the union of two rows that stand before it, with v as a member besides. Two parts of one slice cannot be lent at
+// once, so one of the rows is copied first.
+pub fn put_extended_union(s: &mut [u8], p: usize, q: usize, to: usize, v: usize)
+    requires { ⌜ (p + 128 ≤ to) × (q + 128 ≤ to) × (to + 128 ≤ length (now s)) × (v < 1024) ⌝ }
+    ensures { λ _. ⌜ now (s .exit) ≡ withPart (now (s .entry)) to (withMember (union (part (now (s .entry)) p 128) (part (now (s .entry)) q 128)) v) ⌝ }
+{
+    let mut other = [0u8; ROW];
+    let q_end = q + ROW;
+    copy(&mut other, &s[q..q_end]);
+    let end = to + ROW;
+    copy_within(s, p, to, ROW);
+    add_extended(&mut s[to..end], &other, v);
+}
+
+// A byte as a number of 64 bits.
+fn long(b: u8) -> u64
+    ensures { λ r. ⌜ (r ≡ b) × (r < 256) ⌝ }
+{
+    b as u64
+}
+
+// The word that eight bytes make, the first byte lowest.
+fn word_of(s: &[u8]) -> u64
+    requires { ⌜ length (now s) ≡ 8 ⌝ }
+    ensures { λ r. ⌜ r ≡ longWord (now (s .entry)) ⌝ }
+{
+    long(s[0])
+        + long(s[1]) * 0x100
+        + long(s[2]) * 0x10000
+        + long(s[3]) * 0x1000000
+        + long(s[4]) * 0x100000000
+        + long(s[5]) * 0x10000000000
+        + long(s[6]) * 0x1000000000000
+        + long(s[7]) * 0x100000000000000
+}
+
+// How many members two rows of eight bytes have in common.
+fn common_in_word(s: &[u8], t: &[u8]) -> usize
+    requires { ⌜ (length (now s) ≡ 8) × (length (now t) ≡ 8) ⌝ }
+    ensures { λ r. ⌜ (r ≡ memberCount (intersection (now (s .entry)) (now (t .entry)))) × (r ≤ 64) ⌝ }
+{
+    u64::count_ones(word_of(s) & word_of(t)) as usize
+}
+
+// How many members two rows have in common, counted a word of 64 at a time.
+pub fn common_members(s: &[u8], t: &[u8]) -> usize
+    requires { ⌜ length (now s) ≡ length (now t) ⌝ }
+    requires { ⌜ length (now s) % 8 ≡ 0 ⌝ }
+    requires { ⌜ length (now s) ≤ 128 ⌝ }
+    ensures { λ r. ⌜ (r ≡ memberCount (intersection (now (s .entry)) (now (t .entry)))) × (r ≤ 1024) ⌝ }
+{
+    let mut count = 0;
+    let mut i = 0;
+    while i < s.len() {
+        let end = i + 8;
+        count += common_in_word(&s[i..end], &t[i..end]);
+        i = end;
+    }
+    count
 }

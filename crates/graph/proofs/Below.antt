@@ -94,6 +94,16 @@ unfolding countBelow
 count-mono zero f g h = omega arith
 count-mono (suc n) f g h = omega (arith, count-mono n f g (λ k l. h k (omega arith)), weight-mono (f n) (g n) (h n (omega arith)))
 
+-- numbers that do not pass add nothing
+pub count-past : (n m : ℕ) (f : ℕ → Bool) → n ≤ m → ((k : ℕ) → n ≤ k → f k ≡ false) → countBelow m f ≡ countBelow n f
+unfolding countBelow
+count-past n zero f l h = let e : n ≡ 0 = omega arith in rw e
+count-past n (suc m) f l h =
+    elim (ℕ-discrete n (suc m)) [
+      | yes e ↦ rw e
+      | no d ↦ rw (h m (omega arith)) (omega (arith, count-past n m f (omega arith) h))
+    ]
+
 pub count-le : (n : ℕ) (f : ℕ → Bool) → countBelow n f ≤ n
 unfolding countBelow
 count-le zero f = omega arith

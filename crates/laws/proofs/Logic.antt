@@ -40,6 +40,17 @@ pub and-both : (a b c : Bool) → a && (b && c) ≡ (a && b) && (a && c)
 and-both true b c = refl
 and-both false b c = refl
 
+-- two tests of some, and the same two of one more
+pub and-pairs : (a b c d : Bool) → (a && b) && (c && d) ≡ (c && a) && (d && b)
+and-pairs true true true true = refl
+and-pairs true true true false = refl
+and-pairs true true false d = refl
+and-pairs true false true true = refl
+and-pairs true false true false = refl
+and-pairs true false false d = refl
+and-pairs false b true d = refl
+and-pairs false b false d = refl
+
 pub or-l : (a b : Bool) → a ≡ true → a || b ≡ true
 or-l true b h = refl
 or-l false b h = clash h refl

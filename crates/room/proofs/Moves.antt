@@ -48,10 +48,10 @@ after r c d = moved r c (headOf r d)
 module _ (r : Room) (s : Sound r) (c d : ℕ) (l : c < consoleCount) (q : present r d ≡ true)
     (b : present r c ≡ true → ancestor (r .versions) (head r c) (head r d) ≡ true) where
   -- each console now follows one of before: c follows d
-  now-c : Follows (after r c d) r c d
+  pub now-c : Follows (after r c d) r c d
   now-c = record { slot = head-set r c (headOf r d) (omega (arith, s .sixteen)) }
 
-  now-other : (k : ℕ) → (k ≡ c → ⊥) → Follows (after r c d) r k k
+  pub now-other : (k : ℕ) → (k ≡ c → ⊥) → Follows (after r c d) r k k
   now-other k ne = record { slot = head-kept r c (headOf r d) k ne }
 
   source : (k : ℕ) → (j : ℕ) × Follows (after r c d) r k j

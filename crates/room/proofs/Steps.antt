@@ -8,10 +8,10 @@ use mathlib.Core.List.{_∷_}
 use mathlib.Core.Logic.{inl, inr}
 use mathlib.Core.Option.{Option, Option·getD}
 use native.Mathlib.Decide.{ℕ-discrete}
-use borrow.Author.Tests.{leb-false, lt-ltb, ne-eqb, eqb-false, not-false}
-use lib.Dec.{lit<, eqb}
+use borrow.Author.Tests.{lt-ltb, ne-eqb, eqb-false, not-false}
+use lib.Dec.{eqb}
 use Rattle.board.specs.declared.Strip.{Strip}
-use Rattle.laws.proofs.Logic.{clash, decide, refuted, and-l, and-r, and-i, and-rest, implies-i2, implies-e2, or-none-l, or-none-r, not-e, not-i}
+use Rattle.laws.proofs.Logic.{clash, decide, refuted, and-l, and-r, and-i, and-rest, implies-i2, implies-e2, not-e, not-i}
 use Rattle.graph.specs.Graph.{Node, entry, merge, versionCount, ancestor, meet, isSome, isMeet, everyVersion, parentsLower, mergeHasBase}
 use Rattle.graph.specs.Below.{everyBelow, someBelow, highestBelow}
 use Rattle.graph.proofs.Below.{at, of, some-at, some-of}
@@ -22,46 +22,44 @@ use Rattle.command.specs.declared.Console.{Console}
 use Rattle.command.specs.declared.Command.{Command}
 use Rattle.command.specs.declared.Command.the-variants.{Fork, Entry, Merge, FastForward}
 use Rattle.command.specs.Code.{consoleCount}
-use Rattle.command.proofs.Refusals.{none-applies}
-use Rattle.command.proofs.Ranges.{InRange}
+use Rattle.command.specs.Decoding.{InRange}
 use Rattle.room.specs.Room.{Room, present, head, common, fresh}
-use Rattle.room.specs.Sound.{isCapacity, headsMeet, allBehindHeads, soundRoom}
-use Rattle.room.specs.Step.{absent, behind, apart, splits, someThirdSplits, stepRefusal, grown, step}
+use Rattle.room.specs.Sound.{isCapacity, entryInRange, headsMeet, allBehindHeads, soundRoom}
+use Rattle.room.specs.Step.{behind, apart, splits, someThirdSplits, stepRefusal, grown, step}
+use Rattle.room.proofs.Accepted.{fork-accepted, forward-accepted, entry-accepted, merge-accepted}
 use Rattle.room.proofs.Sound.{Sound, present-console, present-head, meets-of, sound-facts, facts-sound}
 use Rattle.room.proofs.Moves.{there, number, new-head, new-number, kept, moved-sound, grown-sound, grown-meets}
 use Rattle.room.proofs.NewMeets.{entry-meet, merge-meet-receiver, merge-meet-giver, merge-meet-ordered}
 
-head-named : (r : Room) → Sound r → (c : ℕ) → present r c ≡ true → head r c < versionCount (r .versions)
+pub head-named : (r : Room) → Sound r → (c : ℕ) → present r c ≡ true → head r c < versionCount (r .versions)
 head-named r s c p = s .named c (head r c) (present-head r c p)
 
 fork-sound : (r : Room) → Sound r → (new old : Console) → InRange (Fork new old) → stepRefusal r (Fork new old) ≡ 0 → Sound (step r (Fork new old))
-unfolding stepRefusal step
+unfolding step
 fork-sound r s new old range h =
-    let t = none-applies _ h in
-    let q : present r (old .0) ≡ true = not-false _ (t .0 (lit< tt)) in
-    let free : present r (new .0) ≡ false = t .1 (lit< tt) .0 (lit< tt) in
-    moved-sound r s (new .0) (old .0) (range .0) q (λ p. clash p free)
+    let may = fork-accepted r new old h in
+    moved-sound r s (new .0) (old .0) (range .0) (may .0) (may .1)
 
 forward-sound : (r : Room) → Sound r → (a b : Console) → InRange (FastForward a b) → stepRefusal r (FastForward a b) ≡ 0 → Sound (step r (FastForward a b))
-unfolding stepRefusal step
+unfolding step
 forward-sound r s a b range h =
-    let t = none-applies _ h in
-    let both = t .0 (lit< tt) in
-    let q : present r (b .0) ≡ true = not-false _ (or-none-r (absent r (a .0)) _ both) in
-    let ahead : not (behind r (a .0) (b .0)) ≡ false = t .1 (lit< tt) .1 (lit< tt) .0 (lit< tt) in
-    moved-sound r s (a .0) (b .0) (range .0) q (λ p. not-false _ ahead)
+    let may = forward-accepted r a b h in
+    moved-sound r s (a .0) (b .0) (range .0) (may .0) (may .1)
+
+-- an entry on the head of a present console, where a version is left
+pub entry-grown : (r : Room) → Sound r → (c code k x : ℕ) → present r c ≡ true → entryInRange (r .versions) (entry (head r c) code k x) ≡ true
+    → versionCount (r .versions) < r .capacity → Sound (grown r c (entry (head r c) code k x))
+entry-grown r s c code k x p range left =
+    grown-sound r s c p (entry (head r c) code k x) (lt-ltb _ _ (head-named r s c p)) refl range sole
+    (λ d q ne. let m = s .meets c d p q in (m .0, entry-meet code k x (head-named r s d q) (m .1)))
+    left
 
 entry-sound : (r : Room) → Sound r → (c : Console) (code : ℕ) (k : Strip) (x : ℕ) → InRange (Entry c code k x) → stepRefusal r (Entry c code k x) ≡ 0
     → Sound (step r (Entry c code k x))
-unfolding stepRefusal step
+unfolding step
 entry-sound r s c code k x range h =
-    let t = none-applies _ h in
-    let p : present r (c .0) ≡ true = not-false _ (t .0 (lit< tt)) in
-    let left : versionCount (r .versions) < r .capacity = leb-false _ _ (t .1 (lit< tt) .0 (lit< tt)) in
-    let n : Node = entry (head r (c .0)) code (k .0) x in
-    grown-sound r s (c .0) p n (lt-ltb _ _ (head-named r s (c .0) p)) refl (range .1) sole
-    (λ d q ne. let m = s .meets (c .0) d p q in (m .0, entry-meet code (k .0) x (head-named r s d q) (m .1)))
-    left
+    let may = entry-accepted r c code k x h in
+    entry-grown r s (c .0) code (k .0) x (may .0) (range .1) (may .1)
 
 -- the meet of two present consoles is their common version
 pub common-meet : (r : Room) (c d : ℕ) {m : ℕ} → Meet (r .versions) (head r c) (head r d) m → common r c d ≡ m
@@ -133,7 +131,7 @@ module _ (r : Room) (s : Sound r) (a b : ℕ) (pa : present r a ≡ true) (pb : 
       (meet-behind _ (head r b) (versionCount (r .versions))
       (ancestor-above (r .versions) (head r b) giver (ancestor-self (r .versions) (head r b) (head-named r s b pb))))
 
-  meeting : someThirdSplits r a b ≡ false → (d : ℕ) → present r d ≡ true → (d ≡ a → ⊥)
+  pub meeting : someThirdSplits r a b ≡ false → (d : ℕ) → present r d ≡ true → (d ≡ a → ⊥)
       → (m : ℕ) × Meet (merge (head r a) (head r b) ∷ r .versions) (versionCount (r .versions)) (head r d) m
   meeting h d pd na =
       elim (ℕ-discrete d b) [
@@ -143,7 +141,7 @@ module _ (r : Room) (s : Sound r) (a b : ℕ) (pa : present r a ≡ true) (pb : 
             (refuted _ (λ t. clash (some-of consoleCount (splits r a b) d (present-console r d (s .sixteen) pd) t) h))
       ]
 
-  merge-grown : someThirdSplits r a b ≡ false → versionCount (r .versions) < r .capacity → Sound (grown r a (merge (head r a) (head r b)))
+  pub merge-grown : someThirdSplits r a b ≡ false → versionCount (r .versions) < r .capacity → Sound (grown r a (merge (head r a) (head r b)))
   merge-grown h left =
       grown-sound r s a pa (merge (head r a) (head r b)) merge-lower merge-based refl receiver (meeting h) left
 
@@ -192,15 +190,10 @@ seventeen-exact r h a b pa pb ahead back =
     ]
 
 merge-sound : (r : Room) → Sound r → (a b : Console) → InRange (Merge a b) → stepRefusal r (Merge a b) ≡ 0 → Sound (step r (Merge a b))
-unfolding stepRefusal step
+unfolding step
 merge-sound r s a b range h =
-    let t = none-applies _ h in
-    let both = t .0 (lit< tt) in
-    let fourteen = t .1 (lit< tt) in
-    let fifteen = fourteen .1 (lit< tt) in
-    let seventeen = fifteen .1 (lit< tt) in
-    merge-grown r s (a .0) (b .0) (not-false _ (or-none-l _ _ both)) (not-false _ (or-none-r (absent r (a .0)) _ both))
-    (fourteen .0 (lit< tt)) (fifteen .0 (lit< tt)) (seventeen .0 (lit< tt)) (leb-false _ _ (seventeen .1 (lit< tt) .0 (lit< tt)))
+    let may = merge-accepted r a b h in
+    merge-grown r s (a .0) (b .0) (may .receiver) (may .giver) (may .ahead) (may .back) (may .unsplit) (may .left)
 
 -- each accepted command takes a sound room to a sound room
 pub step-sound : (r : Room) (c : Command) → soundRoom r ≡ true → InRange c → stepRefusal r c ≡ 0 → soundRoom (step r c) ≡ true

@@ -1,0 +1,78 @@
+-- `buffer::common_members` meets its contract. The loop's invariant: the members before `i` have been counted, `i` being a whole number of words. The
+-- measure is what is left of the length.
+-- Assumes nothing.
+use Prim.Native.Nat.{_+_, _-_}
+use mathlib.Core.Path.{_≡_}
+use native.Mathlib.Omega.{arith}
+use lib.ListN.{length}
+use Rattle.buffer.proofs.Ones.{Counted, counted-none, counted-more, counted-all}
+use Rattle.buffer.proofs.common_members.Statement.{statement}
+use Rattle.buffer.proofs.common_members.Tie as tie
+
+abbrev Inv-loop : tie.InvT-loop
+Inv-loop s t count₀ i₀ count i = Counted s t count i
+
+abbrev μ-loop : tie.MeasureT-loop
+μ-loop s t count₀ i₀ count i = length s - i
+
+loop-holds : tie.Need-loop-holds Inv-loop μ-loop
+loop-holds c = let p = c .before .before .pre in counted-none (c .before .before .args .s .now) (c .before .before .args .t .now) (p .0) (p .1 .0) (p .1 .1)
+
+add-end : tie.Need-add-end Inv-loop μ-loop
+add-end c = omega arith
+
+sub-common-in-word : tie.Need-sub-common-in-word Inv-loop μ-loop
+sub-common-in-word c = omega arith
+
+part-common-in-word-start : tie.Need-part-common-in-word-start Inv-loop μ-loop
+part-common-in-word-start c = omega arith
+
+part-common-in-word-end : tie.Need-part-common-in-word-end Inv-loop μ-loop
+part-common-in-word-end c = omega arith
+
+sub-common-in-word-2 : tie.Need-sub-common-in-word-2 Inv-loop μ-loop
+sub-common-in-word-2 c = omega arith
+
+part-common-in-word-start-2 : tie.Need-part-common-in-word-start-2 Inv-loop μ-loop
+part-common-in-word-start-2 c = omega arith
+
+part-common-in-word-end-2 : tie.Need-part-common-in-word-end-2 Inv-loop μ-loop
+part-common-in-word-end-2 c = omega arith
+
+common-in-word-requires : tie.Need-common-in-word-requires Inv-loop μ-loop
+common-in-word-requires c κs = omega arith
+
+add-count : tie.Need-add-count Inv-loop μ-loop
+add-count c = omega arith
+
+loop-less : tie.Need-loop-less Inv-loop μ-loop
+loop-less c = omega arith
+
+loop-again : tie.Need-loop-again Inv-loop μ-loop
+loop-again c =
+    let l = c .before .before .before .before .loop in
+    let e : l .i + 8 - l .i ≡ 8 = omega arith in
+    counted-more (l .inv) (omega arith) (rw e at (c .common-in-word .ensures .0)) (c .common-in-word .ensures .1)
+
+returns : tie.Need-returns Inv-loop μ-loop
+returns c = counted-all (c .before .loop .inv) (omega arith)
+
+pub common-members-spec : {M : Type 1} → statement M
+common-members-spec =
+    tie.close
+    (tie.spec
+    Inv-loop
+    μ-loop
+    loop-holds
+    add-end
+    sub-common-in-word
+    part-common-in-word-start
+    part-common-in-word-end
+    sub-common-in-word-2
+    part-common-in-word-start-2
+    part-common-in-word-end-2
+    common-in-word-requires
+    add-count
+    loop-less
+    loop-again
+    returns)
