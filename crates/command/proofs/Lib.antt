@@ -1,3 +1,7 @@
 pub mod Refusals
 pub mod Limits
 pub mod Ranges
+pub mod Carried
+pub mod Shapes
+pub mod Decodes
+pub mod Encoded

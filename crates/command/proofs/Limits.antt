@@ -5,13 +5,19 @@ use mathlib.Core.Path.{_≡_}
 use mathlib.Core.Bool.{Bool, true, false, cond, _&&_}
 use native.Mathlib.Omega.{arith}
 use lib.Dec.{eqb, leb, ltb}
-use borrow.Author.Tests.{eqb-true, leb-true, ltb-true}
-use Rattle.laws.proofs.Logic.{and-l, and-r}
+use borrow.Author.Tests.{eqb-true, leb-true, ltb-true, le-leb}
+use Rattle.laws.proofs.Logic.{and-l, and-r, and-i, refuted}
 use Rattle.board.specs.Board.{stripCount}
 use Rattle.command.specs.Code.{markCount, within, isEntryCode, isStrip, isOperand}
 
 pub within-true : (low high x : ℕ) → within low high x ≡ true → (low ≤ x) × (x ≤ high)
 within-true low high x h = (leb-true low x (and-l _ _ h), leb-true x high (and-r (leb low x) _ h))
+
+pub within-i : (low high x : ℕ) → low ≤ x → x ≤ high → within low high x ≡ true
+within-i low high x p q = and-i _ _ (le-leb low x p) (le-leb x high q)
+
+pub within-false : (low high x : ℕ) → (low ≤ x → x ≤ high → ⊥) → within low high x ≡ false
+within-false low high x h = refuted _ (λ t. h (within-true low high x t .0) (within-true low high x t .1))
 
 -- whichever range an operand must be in, it is at most 600
 pub operand-below : (code x : ℕ) → isOperand code x ≡ true → x ≤ 600

@@ -14,18 +14,8 @@ use Rattle.command.specs.declared.Command.the-variants.{Fork, Entry, Mer
 use Rattle.command.specs.declared.Decoded.the-variants.{Whole, Refused}
 use Rattle.command.specs.Code.{consoleCount, isEntryCode, isConsole, isStrip, isOperand}
 use Rattle.command.specs.Decode.{codeIn, operandsIn, commandRefusal, commandOf, decode}
+use Rattle.command.specs.Decoding.{TwoConsoles, InRange}
 use Rattle.command.proofs.Refusals.{none-applies}
-
--- two different consoles
-abbrev pub TwoConsoles : ℕ → ℕ → Type 0
-TwoConsoles c d = (c < consoleCount) × (d < consoleCount) × (c ≡ d → ⊥)
-
-abbrev pub InRange : Command → Type 0
-InRange (Fork new old) = TwoConsoles (new .0) (old .0)
-InRange (Entry console code strip operand) =
-    (console .0 < consoleCount) × (isEntryCode code && isStrip (strip .0) && isOperand code operand ≡ true)
-InRange (Merge receiver giver) = TwoConsoles (receiver .0) (giver .0)
-InRange (FastForward receiver giver) = TwoConsoles (receiver .0) (giver .0)
 
 -- the tests 3 to 6 of a command of this code
 record Passed (code : ℕ) (o : Operands) : Type 0 where
@@ -78,14 +68,19 @@ ranges code o p false true v e = two code o p e
 ranges code o p false false true e = two code o p e
 ranges code o p false false false e = two code o p e
 
-whole : (s : List ℕ) (c : Command) (t : Bool) → eqb (commandRefusal s) 0 ≡ t
-    → cond t (Whole (commandOf (codeIn s) (operandsIn s))) (Refused (commandRefusal s)) ≡ Whole c → InRange c
-unfolding commandOf
-whole s c true e h =
-    let same : commandOf (codeIn s) (operandsIn s) ≡ c = cc in
-    subst InRange same (ranges (codeIn s) (operandsIn s) (passed s (eqb-true _ _ e)) _ (eqb (codeIn s) 0x01) (eqb (codeIn s) 0x09) refl)
-whole s c false e h = absurd (let z : _≡_ {A = ℕ} 0 1 = cc in omega arith)
+-- a whole command: nothing is refused, and the command is that of the code and the operands
+told : (s : List ℕ) (c : Command) (t : Bool) → eqb (commandRefusal s) 0 ≡ t
+    → cond t (Whole (commandOf (codeIn s) (operandsIn s))) (Refused (commandRefusal s)) ≡ Whole c
+    → (commandRefusal s ≡ 0) × (commandOf (codeIn s) (operandsIn s) ≡ c)
+told s c true e h = (eqb-true _ _ e, cc)
+told s c false e h = absurd (let z : _≡_ {A = ℕ} 0 1 = cc in omega arith)
+
+pub whole-told : (s : List ℕ) (c : Command) → decode s ≡ Whole c → (commandRefusal s ≡ 0) × (commandOf (codeIn s) (operandsIn s) ≡ c)
+unfolding decode
+whole-told s c h = told s c _ refl h
 
 pub decode-range : (s : List ℕ) (c : Command) → decode s ≡ Whole c → InRange c
-unfolding decode
-decode-range s c h = whole s c _ refl h
+unfolding commandOf
+decode-range s c h =
+    let w = whole-told s c h in
+    subst InRange (w .1) (ranges (codeIn s) (operandsIn s) (passed s (w .0)) _ (eqb (codeIn s) 0x01) (eqb (codeIn s) 0x09) refl)

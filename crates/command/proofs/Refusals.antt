@@ -1,4 +1,4 @@
--- Where no refusal is given, the case of none is there.
+-- Which refusal of a list is given; where none is, the case of none is there.
 -- Assumes nothing.
 use Prim.Native.Nat.{ℕ, _<_}
 use mathlib.Core.Path.{_≡_, refl}
@@ -7,6 +7,20 @@ use mathlib.Core.Bool.{Bool, true, false}
 use mathlib.Core.List.{List, [], _∷_}
 use native.Mathlib.Omega.{arith}
 use Rattle.command.specs.Refusal.{_when_, firstRefusal}
+
+-- a refusal whose case is there is given, and one whose case is not leaves the later ones
+pub given-here : (number : ℕ) (case : Bool) (later : List (ℕ × Bool)) → case ≡ true → number ≡ firstRefusal (number when case ∷ later)
+unfolding firstRefusal
+given-here number case later h = rw h
+
+pub given-later : (number : ℕ) (case : Bool) (later : List (ℕ × Bool)) (given : ℕ) → case ≡ false → given ≡ firstRefusal later
+    → given ≡ firstRefusal (number when case ∷ later)
+unfolding firstRefusal
+given-later number case later given h e = rw h e
+
+pub given-none : 0 ≡ firstRefusal []
+unfolding firstRefusal
+given-none = refl
 
 -- where none is given, the first's case is not there, and none of the later ones is given
 pub none-given : (number : ℕ) (case : Bool) (later : List (ℕ × Bool)) → number ≢ 0 → firstRefusal (number when case ∷ later) ≡ 0

@@ -1,3 +1,4 @@
 pub mod Refusal
 pub mod Code
 pub mod Decode
+pub mod Decoding

@@ -1,6 +1,9 @@
 // Commands: the lengths and operand widths of codes, and the commands that byte strings decode to.
 use board::Strip;
 
+pub mod decoder;
+pub mod numbers;
+
 // The number of a console.
 pub struct Console(pub usize);
 
