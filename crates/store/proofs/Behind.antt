@@ -29,7 +29,7 @@ or-false : (a b : Bool) → b ≡ false → a || b ≡ a
 or-false true b h = refl
 or-false false b h = h
 
-empty-row : zeros rowSize ≡ row (λ v. false) rowSize
+pub empty-row : zeros rowSize ≡ row (λ v. false) rowSize
 unfolding rowFrom
 empty-row = refl
 

@@ -77,6 +77,13 @@ stands-in-rows {s} {at} r c (suc n) (suc k) h l =
     (stands-in-rows {at = at + 32} r (suc c) n k
     (stands-right (commonFields r c 0 16) (commonTable r (suc c) n) h (rw commonFields-length)) (omega arith))
 
+-- a field of a table that stands anywhere
+pub table-field : {s : List ℕ} (r : Room) (at : ℕ) → Stands s at (commonTable r 0 consoleCount) → (c d : ℕ) → c < consoleCount → d < consoleCount
+    → Stands s (at + 2 * (consoleCount * c + d)) (word (commonField r c d))
+table-field {s} r at h c d i j =
+    subst₂ (λ (k e : ℕ). Stands s k (word (commonField r c e))) (omega arith) (zero-add d)
+    (stands-in-row r c 0 16 d (rw zero-add at (stands-in-rows r 0 16 c h i)) j)
+
 stands-in-blocks : {s : List ℕ} {at : ℕ} (g : Graph) (n v : ℕ) → Stands s at (blocks g n) → v < n
     → Stands s (at + blockSize * v) (block g v)
 unfolding blocks
@@ -86,6 +93,30 @@ stands-in-blocks {s} {at} g (suc n) v h l =
       | yes e ↦ rw e (stands-right (blocks g n) (block g n) h (rw blocks-length))
       | no ne ↦ stands-in-blocks g n v (stands-left (blocks g n) (block g n) h) (omega arith)
     ]
+
+-- the parts of a block that stands
+module _ {s : List ℕ} (g : Graph) (v : ℕ) (h : Stands s (blockAt v) (block g v)) where
+  abbrev lineage : List ℕ
+  lineage = row (λ u. ancestor g u v) rowSize
+
+  abbrev note : List ℕ
+  note = nodeBytes g (nodeOf g v)
+
+  stands-ahead : Stands s (blockAt v) (note ++ lineage)
+  unfolding block
+  stands-ahead = stands-left (note ++ lineage) (boardOf g v) h
+
+  pub block-record : Stands s (blockAt v) (nodeBytes g (nodeOf g v))
+  block-record = stands-left note lineage stands-ahead
+
+  pub block-row : Stands s (rowAt v) (row (λ u. ancestor g u v) rowSize)
+  block-row = stands-right note lineage stands-ahead (rw nodeBytes-length)
+
+  pub block-board : Stands s (boardAt v) (boardOf g v)
+  unfolding block
+  block-board =
+      stands-right (note ++ lineage) (boardOf g v) h
+      (simp (length-append, nodeBytes-length, rowFrom-length) (omega arith))
 
 -- the start of a header, up to the row of the entry versions; that row; the table
 abbrev start : Room → List ℕ
@@ -135,9 +166,7 @@ module _ {s : List ℕ} (r : Room) (h : Stands s 0 (encode r)) where
 
   -- the field of two consoles
   pub stands-common : (c d : ℕ) → c < consoleCount → d < consoleCount → Stands s (commonAt c d) (word (commonField r c d))
-  stands-common c d i j =
-      subst₂ (λ (at e : ℕ). Stands s at (word (commonField r c e))) (omega arith) (zero-add d)
-      (stands-in-row r c 0 16 d (rw zero-add at (stands-in-rows r 0 16 c stands-table i)) j)
+  stands-common = table-field r commonsAt stands-table
 
   -- the block of a version, and what it is made of
   pub stands-block : (v : ℕ) → v < versionCount (r .versions) → Stands s (blockAt v) (block (r .versions) v)
@@ -146,24 +175,11 @@ module _ {s : List ℕ} (r : Room) (h : Stands s 0 (encode r)) where
       (stands-right (header r) (filled r) stands-used (rw header-length)) l
 
   module _ (v : ℕ) (l : v < versionCount (r .versions)) where
-    abbrev lineage : List ℕ
-    lineage = row (λ u. ancestor (r .versions) u v) rowSize
-
-    abbrev note : List ℕ
-    note = nodeBytes (r .versions) (nodeOf (r .versions) v)
-
-    stands-ahead : Stands s (blockAt v) (note ++ lineage)
-    unfolding block
-    stands-ahead = stands-left (note ++ lineage) (boardOf (r .versions) v) (stands-block v l)
-
     pub stands-record : Stands s (blockAt v) (nodeBytes (r .versions) (nodeOf (r .versions) v))
-    stands-record = stands-left note lineage stands-ahead
+    stands-record = block-record (r .versions) v (stands-block v l)
 
     pub stands-row : Stands s (rowAt v) (row (λ u. ancestor (r .versions) u v) rowSize)
-    stands-row = stands-right note lineage stands-ahead (rw nodeBytes-length)
+    stands-row = block-row (r .versions) v (stands-block v l)
 
     pub stands-board : Stands s (boardAt v) (boardOf (r .versions) v)
-    unfolding block
-    stands-board =
-        stands-right (note ++ lineage) (boardOf (r .versions) v) (stands-block v l)
-        (simp (length-append, nodeBytes-length, rowFrom-length) (omega arith))
+    stands-board = block-board (r .versions) v (stands-block v l)

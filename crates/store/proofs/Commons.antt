@@ -52,7 +52,7 @@ field-of r c d h =
       both = λ p q. let m = h p q in rw (p, q, common-meet r c d (m .1)) (omega arith, m .1);
     }
 
-field-sym : {r : Room} {c d z : ℕ} → Field r c d z → Field r d c z
+pub field-sym : {r : Room} {c d z : ℕ} → Field r c d z → Field r d c z
 field-sym f = record { away = λ a. f .away (λ p q. a q p); both = λ p q. let k = f .both q p in (k .0, meet-sym (k .1)) }
 
 -- the two fields of two consoles are one
@@ -69,7 +69,7 @@ module _ (s : List ℕ) (r : Room) (heads : (c : ℕ) → c < consoleCount → h
       go zero = refl
       go (suc v) = refl
 
-  present-is : (c : ℕ) → c < consoleCount → present r c ≡ not (eqb (commonIn s c c) 0)
+  pub present-is : (c : ℕ) → c < consoleCount → present r c ≡ not (eqb (commonIn s c c) 0)
   present-is c l = ap isSome (heads c l) ∙ go (commonIn s c c)
     where
       go : (x : ℕ) → isSome (headFrom x) ≡ not (eqb x 0)

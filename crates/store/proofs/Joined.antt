@@ -17,7 +17,7 @@ use Rattle.command.specs.Code.{consoleCount}
 use Rattle.room.specs.Room.{Room}
 use Rattle.room.specs.Boards.{boardOf}
 use Rattle.store.specs.Layout.{headerSize, rowSize, blockSize, capacityAt, countAt, entriesAt, commonsAt, commonsEnd, commonAt, blockAt, rowAt, boardAt, commonField, commonFields, commonTable, header, nodeBytes, block, blocks, encode}
-use Rattle.store.proofs.Blocks.{commonFields-length, commonTable-length, header-length, nodeBytes-length, blocks-length, stands-header}
+use Rattle.store.proofs.Blocks.{commonFields-length, commonTable-length, header-length, nodeBytes-length, blocks-length, stands-header, stands-capacity, stands-count, stands-entries, stands-common, stands-block}
 use Rattle.store.proofs.Lineage.{lineage}
 
 stands-none : {s : List ℕ} {at : ℕ} → Stands s at []
@@ -87,9 +87,9 @@ abbrev used : Room → List ℕ
 used r = header r ++ blocks (r .versions) (versionCount (r .versions))
 
 module _ {s : List ℕ} (r : Room) where
-  join-commons : ((c d : ℕ) → c < consoleCount → d < consoleCount → Stands s (commonAt c d) (word (commonField r c d)))
-      → Stands s commonsAt (table r)
-  join-commons h =
+  pub join-commons : (at : ℕ) → ((c d : ℕ) → c < consoleCount → d < consoleCount → Stands s (at + 2 * (consoleCount * c + d)) (word (commonField r c d)))
+      → Stands s at (commonTable r 0 consoleCount)
+  join-commons at h =
       join-table r 0 16
       (λ c i. join-fields r (0 + c) 0 16
       (λ d j. rw (zero-add c, zero-add d) (subst (λ (k : ℕ). Stands s k (word (commonField r c d))) (omega arith) (h c d i j))))
@@ -103,7 +103,7 @@ module _ {s : List ℕ} (r : Room) where
       (stands-join (word (r .capacity)) (word (versionCount (r .versions)) ++ gap) (p .capacity)
       (stands-join (word (versionCount (r .versions))) gap (p .count) (p .gap) refl) refl)
       (p .entries) refl)
-      (join-commons (p .commons)) (simp rowFrom-length))
+      (join-commons commonsAt (p .commons)) (simp rowFrom-length))
       (p .rest) (simp (length-append, rowFrom-length, commonTable-length))
 
   pub join-encode : Placed s r → Stands s 0 (encode r)
@@ -136,3 +136,17 @@ module _ {s : List ℕ} (r : Room) where
     stands-free =
         stands-right (used r) (zeros (blockSize * (r .capacity - versionCount (r .versions)))) h
         (simp (length-append, header-length, blocks-length) (omega arith))
+
+    -- each part in its place again
+    pub placed : Placed s r
+    placed =
+        record {
+          capacity = stands-capacity r h;
+          count = stands-count r h;
+          gap = stands-gap;
+          entries = stands-entries r h;
+          commons = stands-common r h;
+          rest = stands-rest;
+          versions = stands-block r h;
+          free = stands-free;
+        }

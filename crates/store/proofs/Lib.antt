@@ -9,13 +9,16 @@ pub mod Notes
 pub mod Told
 pub mod Versions
 pub mod Commons
+pub mod Moved
 pub mod Behind
 pub mod Joined
 pub mod Checks
 pub mod Passes
+pub mod Whole
 pub mod Holds
 pub mod Checked
 pub mod Judged
 pub mod Heads
 pub mod Full
 pub mod VersionTests
+pub mod Overwritten

@@ -7,45 +7,17 @@ use mathlib.Core.List.{List}
 use native.Mathlib.Omega.{arith}
 use native.Mathlib.Decide.{ℕ-discrete}
 use native.Mathlib.Numerals.{add-one}
-use lib.Dec.{eqb, leb, ltb}
+use lib.Dec.{eqb, ltb}
 use lib.ListN.{getD}
-use borrow.Author.Tests.{ltb-true, leb-true, eq-eqb, ne-eqb}
+use borrow.Author.Tests.{ltb-true, eq-eqb, ne-eqb}
 use Rattle.laws.proofs.Logic.{and-l, and-r, and-i, clash, refuted}
 use Rattle.buffer.specs.Field.{wordAt, zeros, part, same, allZero}
 use Rattle.buffer.specs.Row.{member, withMember, union, intersection}
 use Rattle.board.specs.Board.{stripCount, enter, mergeBoard}
-use Rattle.command.specs.Code.{isEntryCode, isStrip, isOperand, within}
+use Rattle.command.specs.Code.{isEntryCode, isStrip, isOperand}
+use Rattle.command.proofs.Carried.{operand-mark, operand-unmark}
 use Rattle.store.specs.Layout.{nodeSize, rowSize, blockAt, nodeCodeAt, nodeStripAt, nodeOperandAt, nodeParentAt, nodeGiverAt, nodeBaseAt}
 use Rattle.store.specs.Check.{rowPart, boardPart, entriesPart, rootRight, entryRight, mergeRight, versionRight, versionsRight}
-
--- what an entry of each code may carry
-pub operand-level : (code x : ℕ) → code ≡ 2 → leb x 600 ≡ isOperand code x
-unfolding isOperand
-operand-level code x h = rw h
-
-pub operand-heading : (code x : ℕ) → code ≡ 3 → leb x 360 ≡ isOperand code x
-unfolding isOperand
-operand-heading code x h = rw h
-
-pub operand-mark : (code x : ℕ) → code ≡ 4 → ltb x 16 ≡ isOperand code x
-unfolding isOperand
-operand-mark code x h = rw h
-
-pub operand-unmark : (code x : ℕ) → code ≡ 5 → ltb x 16 ≡ isOperand code x
-unfolding isOperand
-operand-unmark code x h = rw h
-
-outside : (code : ℕ) → (code ≡ 4 → ⊥) → (code ≡ 5 → ⊥) → within 4 5 code ≡ false
-outside code a b =
-    refuted (within 4 5 code)
-    (λ h.
-    let low : 4 ≤ code = leb-true 4 code (and-l (leb 4 code) (leb code 5) h) in
-    let high : code ≤ 5 = leb-true code 5 (and-r (leb 4 code) (leb code 5) h) in
-    omega arith)
-
-pub operand-none : (code x : ℕ) → (code ≡ 2 → ⊥) → (code ≡ 3 → ⊥) → (code ≡ 4 → ⊥) → (code ≡ 5 → ⊥) → eqb x 0 ≡ isOperand code x
-unfolding isOperand
-operand-none code x a b c d = rw (ne-eqb code 2 a, ne-eqb code 3 b, outside code c d)
 
 -- what the ranges of an entry say
 module _ (v p code strip operand : ℕ) (r : Bool) (e : r ≡ isEntryCode code && isStrip strip && isOperand code operand && ltb p v) (t : r ≡ true) where

@@ -162,7 +162,7 @@ module _ (s : List ℕ) (g : Graph) (small : versionCount g < maxCapacity) (h : 
       go false k = next-entry k
 
 -- version 0 alone
-root-line : withMember (zeros rowSize) 0 ≡ shown [] 0 .line
+pub root-line : withMember (zeros rowSize) 0 ≡ shown [] 0 .line
 unfolding ancestor rowFrom
 root-line = refl
 

@@ -9,17 +9,8 @@ ghost use Rattle.buffer.specs.Field.{same};
 ghost use Rattle.buffer.specs.Row.{rowByte, row, union, intersection};
 ghost use Rattle.graph.specs.Below.{everyBelow};
 ghost use Rattle.command.specs.Code.{consoleCount};
-ghost use Rattle.store.specs.Layout.{headerSize, rowSize, blockAt};
+ghost use Rattle.store.specs.Layout.{rowSize, blockAt};
 ghost use Rattle.store.specs.Check.{rowPart, commonIn, pairRight, consoleRight, behindHeads};
-
-// The field of two consoles in the table of commons.
-fn common_in(s: &[u8], c: usize, d: usize) -> usize
-    requires { ⌜ headerSize ≤ length (now s) ⌝ }
-    requires { ⌜ (c < consoleCount) × (d < consoleCount) ⌝ }
-    ensures { λ r. ⌜ (r ≡ commonIn (now (s .entry)) c d) × (r < 65536) ⌝ }
-{
-    buffer::word_at(s, places::common_at(c, d))
-}
 
 // Whether the row of version m is the intersection of the rows of u and v.
 fn rows_meet(s: &[u8], m: usize, u: usize, v: usize) -> bool
@@ -66,13 +57,13 @@ fn pair_right(s: &[u8], n: usize, c: usize, d: usize) -> bool
     requires { ⌜ (commonIn (now s) c c ≤ n) × (commonIn (now s) d d ≤ n) ⌝ }
     ensures { λ r. ⌜ r ≡ pairRight (now (s .entry)) n c d ⌝ }
 {
-    let m = common_in(s, c, d);
-    let other = common_in(s, d, c);
+    let m = places::common_in(s, c, d);
+    let other = places::common_in(s, d, c);
     if other != m {
         return false;
     }
-    let u = common_in(s, c, c);
-    let v = common_in(s, d, d);
+    let u = places::common_in(s, c, c);
+    let v = places::common_in(s, d, d);
     meet_right(s, n, m, u, v)
 }
 
@@ -83,7 +74,7 @@ fn console_right(s: &[u8], n: usize, c: usize) -> bool
     requires { ⌜ ((k : ℕ) → k < c → commonIn (now s) k k ≤ n) ⌝ }
     ensures { λ r. ⌜ r ≡ consoleRight (now (s .entry)) n c ⌝ }
 {
-    let own = common_in(s, c, c);
+    let own = places::common_in(s, c, c);
     if n < own {
         return false;
     }
@@ -144,7 +135,7 @@ fn full_byte(n: usize, k: usize) -> u8
 }
 
 // Whether acc is the row of all versions below n.
-fn is_full(acc: &[u8], n: usize) -> bool
+pub fn is_full(acc: &[u8], n: usize) -> bool
     requires { ⌜ length (now acc) ≡ rowSize ⌝ }
     ensures { λ r. ⌜ r ≡ same (now (acc .entry)) (row (λ v. ltb v n) rowSize) ⌝ }
 {
@@ -163,7 +154,7 @@ pub fn behind_right(s: &[u8], n: usize) -> bool
 {
     let mut acc = [0u8; places::ROW];
     for c in 0..places::CONSOLES {
-        let field = common_in(s, c, c);
+        let field = places::common_in(s, c, c);
         add_head(&mut acc, s, field);
     }
     is_full(&acc, n)

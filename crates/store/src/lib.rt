@@ -1,5 +1,5 @@
 // The store: a room in the bytes of a lent buffer.
-mod consoles;
+pub mod consoles;
 pub mod judge;
-mod places;
+pub mod places;
 mod version;

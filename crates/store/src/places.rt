@@ -2,9 +2,10 @@
 ghost use mathlib.Core.Path.{_≡_};
 ghost use Prim.Native.Nat.{suc, _<_, _≤_};
 ghost use lib.ListN.{length};
+ghost use Rattle.board.specs.Board.{boardSize};
 ghost use Rattle.command.specs.Code.{consoleCount};
-ghost use Rattle.store.specs.Layout.{rowSize, blockAt, commonAt};
-ghost use Rattle.store.specs.Check.{rowPart};
+ghost use Rattle.store.specs.Layout.{headerSize, rowSize, blockAt, commonAt};
+ghost use Rattle.store.specs.Check.{rowPart, boardPart, entriesPart, commonIn};
 
 // Sizes in bytes; COMMONS is where the table of commons starts, CONSOLES the number of consoles.
 pub const HEADER: usize = 4096;
@@ -36,12 +37,41 @@ pub fn common_at(c: usize, d: usize) -> usize
     COMMONS + 2 * (CONSOLES * c + d)
 }
 
+// The field of two consoles in the table of commons.
+pub fn common_in(s: &[u8], c: usize, d: usize) -> usize
+    requires { ⌜ headerSize ≤ length (now s) ⌝ }
+    requires { ⌜ (c < consoleCount) × (d < consoleCount) ⌝ }
+    ensures { λ r. ⌜ (r ≡ commonIn (now (s .entry)) c d) × (r < 65536) ⌝ }
+{
+    buffer::word_at(s, common_at(c, d))
+}
+
 // The row of a version whose block lies in the bytes.
 pub fn row_of(s: &[u8], v: usize) -> &[u8]
     requires { ⌜ blockAt (suc v) ≤ length (now s) ⌝ }
     ensures { λ r. ⌜ (now r ≡ rowPart (now (s .entry)) v) × (length (now r) ≡ rowSize) ⌝ }
 {
     let at = HEADER + BLOCK * v + NODE;
+    let end = at + ROW;
+    &s[at..end]
+}
+
+// The board of a version.
+pub fn board_of(s: &[u8], v: usize) -> &[u8]
+    requires { ⌜ (v < 1024) × (blockAt (suc v) ≤ length (now s)) ⌝ }
+    ensures { λ r. ⌜ (now r ≡ boardPart (now (s .entry)) v) × (length (now r) ≡ boardSize) ⌝ }
+{
+    let at = HEADER + BLOCK * v + NODE + ROW;
+    let end = at + BOARD;
+    &s[at..end]
+}
+
+// The row of the entry versions.
+pub fn entries_of(s: &[u8]) -> &[u8]
+    requires { ⌜ headerSize ≤ length (now s) ⌝ }
+    ensures { λ r. ⌜ (now r ≡ entriesPart (now (s .entry))) × (length (now r) ≡ rowSize) ⌝ }
+{
+    let at = ENTRIES;
     let end = at + ROW;
     &s[at..end]
 }

@@ -1,10 +1,11 @@
 // The test of the versions of a store: each version's block against the blocks of its parents and its base.
 use crate::places::BLOCK;
 use crate::places::BOARD;
-use crate::places::ENTRIES;
 use crate::places::HEADER;
 use crate::places::NODE;
 use crate::places::ROW;
+use crate::places::board_of;
+use crate::places::entries_of;
 use crate::places::row_of;
 use board::Strip;
 use board::is_entered;
@@ -16,6 +17,9 @@ use buffer::is_intersection;
 use buffer::is_zero;
 use buffer::wide;
 use buffer::word_at;
+use command::numbers::is_entry_code;
+use command::numbers::is_operand;
+use command::numbers::is_strip;
 ghost use mathlib.Core.Path.{_≡_};
 ghost use mathlib.Core.Bool.{not, _&&_};
 ghost use Prim.Native.Nat.{suc, _+_, _-_, _<_, _≤_};
@@ -23,30 +27,10 @@ ghost use lib.Dec.{eqb, ltb};
 ghost use lib.ListN.{length, getD};
 ghost use Rattle.buffer.specs.Field.{part, same, allZero, zeros};
 ghost use Rattle.buffer.specs.Row.{member, withMember, union, intersection};
-ghost use Rattle.board.specs.Board.{boardSize, stripCount, enter, mergeBoard};
+ghost use Rattle.board.specs.Board.{stripCount, enter, mergeBoard};
 ghost use Rattle.command.specs.Code.{isEntryCode, isStrip, isOperand};
-ghost use Rattle.store.specs.Layout.{headerSize, nodeSize, rowSize, blockAt, nodeStripAt, nodeGiverAt, nodeBaseAt};
+ghost use Rattle.store.specs.Layout.{nodeSize, rowSize, blockAt, nodeStripAt, nodeGiverAt, nodeBaseAt};
 ghost use Rattle.store.specs.Check.{rowPart, boardPart, entriesPart, rootRight, entryRight, mergeRight, versionRight, versionsRight};
-
-// The board of a version.
-fn board_of(s: &[u8], v: usize) -> &[u8]
-    requires { ⌜ (v < 1024) × (blockAt (suc v) ≤ length (now s)) ⌝ }
-    ensures { λ r. ⌜ (now r ≡ boardPart (now (s .entry)) v) × (length (now r) ≡ boardSize) ⌝ }
-{
-    let at = HEADER + BLOCK * v + NODE + ROW;
-    let end = at + BOARD;
-    &s[at..end]
-}
-
-// The row of the entry versions.
-fn entries_of(s: &[u8]) -> &[u8]
-    requires { ⌜ headerSize ≤ length (now s) ⌝ }
-    ensures { λ r. ⌜ (now r ≡ entriesPart (now (s .entry))) × (length (now r) ≡ rowSize) ⌝ }
-{
-    let at = ENTRIES;
-    let end = at + ROW;
-    &s[at..end]
-}
 
 // Whether the n bytes from a place on are 0.
 fn zero_part(s: &[u8], at: usize, n: usize) -> bool
@@ -103,37 +87,11 @@ fn merge_board_right(s: &[u8], v: usize, p: usize, q: usize, l: usize) -> bool
     )
 }
 
-// Whether a code makes an entry version.
-fn is_entry_code(code: usize) -> bool
-    ensures { λ r. ⌜ r ≡ isEntryCode code ⌝ }
-{
-    (2 <= code) & (code <= 8)
-}
-
-// Whether an entry of a code may carry a number.
-fn is_operand(code: usize, x: usize) -> bool
-    ensures { λ r. ⌜ r ≡ isOperand code x ⌝ }
-{
-    if code == 2 {
-        return x <= 600;
-    }
-    if code == 3 {
-        return x <= 360;
-    }
-    if code == 4 {
-        return x < 16;
-    }
-    if code == 5 {
-        return x < 16;
-    }
-    x == 0
-}
-
 // Whether the numbers of an entry are in their ranges.
 fn entry_ranges(v: usize, p: usize, code: usize, strip: usize, operand: usize) -> bool
     ensures { λ r. ⌜ r ≡ isEntryCode code && isStrip strip && isOperand code operand && ltb p v ⌝ }
 {
-    is_entry_code(code) & (strip < 32) & is_operand(code, operand) & (p < v)
+    is_entry_code(code) & is_strip(strip) & is_operand(code, operand) & (p < v)
 }
 
 // Whether the parts of an entry's block are right, its numbers being in their ranges.

@@ -1,4 +1,4 @@
--- `store::version::board_of` meets its contract.
+-- `store::places::board_of` meets its contract.
 -- Assumes nothing.
 use Prim.Native.Nat.{_+_, _-_}
 use mathlib.Core.Path.{_≡_, refl}
@@ -8,8 +8,8 @@ use borrow.Author.Needs.{needs}
 use Rattle.buffer.proofs.Fields.{part-length}
 use Rattle.board.specs.Board.{boardSize}
 use Rattle.store.specs.Layout.{boardAt}
-use Rattle.store.proofs.version.board_of.Statement.{statement}
-use Rattle.store.proofs.version.board_of.Tie as tie
+use Rattle.store.proofs.places.board_of.Statement.{statement}
+use Rattle.store.proofs.places.board_of.Tie as tie
 
 mul-at : tie.Need-mul-at
 mul-at c = search needs

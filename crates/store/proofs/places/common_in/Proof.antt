@@ -1,10 +1,10 @@
--- `store::consoles::common_in` meets its contract: the field at the place of the two consoles.
+-- `store::places::common_in` meets its contract: the field at the place of the two consoles.
 -- Assumes nothing.
 use mathlib.Core.Path.{ap, _∙_}
 use native.Mathlib.Omega.{arith}
 use Rattle.buffer.specs.Field.{wordAt}
-use Rattle.store.proofs.consoles.common_in.Statement.{statement}
-use Rattle.store.proofs.consoles.common_in.Tie as tie
+use Rattle.store.proofs.places.common_in.Statement.{statement}
+use Rattle.store.proofs.places.common_in.Tie as tie
 
 common-at-requires : tie.Need-common-at-requires
 common-at-requires c κs = omega arith

@@ -1,0 +1,37 @@
+-- `query::heard_count` meets its contract.
+-- Assumes nothing.
+use mathlib.Core.Path.{_∙_}
+use borrow.Author.Needs.{needs}
+use Rattle.store.proofs.Whole.{whole-header, whole-block}
+use Rattle.query.proofs.Heard.{heard-answer}
+use Rattle.query.proofs.heard_count.Statement.{statement}
+use Rattle.query.proofs.heard_count.Tie as tie
+
+head-of-requires : tie.Need-head-of-requires
+head-of-requires c κs = search needs
+
+entries-of-requires : tie.Need-entries-of-requires
+entries-of-requires c κs = whole-header (c .before .before .args .s .now) (c .before .before .pre .0)
+
+row-of-requires : tie.Need-row-of-requires
+row-of-requires c κs =
+    let start = c .before .before .before in
+    whole-block (start .args .s .now) (start .pre .0) (c .before .head-of .result .0) (c .before .head-of .ensures .1)
+
+common-members-requires : tie.Need-common-members-requires
+common-members-requires c κs = search needs
+
+returns : tie.Need-returns
+returns c =
+    let start = c .before .before .before .before .before in
+    let h = c .before .before .before .head-of in
+    let e = c .common-members .ensures in (
+      rw (c .before .before .entries-of .ensures .0, c .before .row-of .ensures .0) at (e .0)
+          ∙ heard-answer (start .args .s .now) (start .pre .0) (start .args .c .0) (h .result .0) (h .ensures .0) (h .ensures .1),
+      e .1,
+    )
+
+pub heard-count-spec : {M : Type 1} → statement M
+heard-count-spec =
+    tie.close
+    (tie.spec head-of-requires entries-of-requires row-of-requires common-members-requires returns)

@@ -1,0 +1,81 @@
+-- What bytes that hold a sound store show: the room read off them is sound, its encoding stands at their front, each version's block is
+-- whole, and the fields of the table are the meets of the heads.
+-- Assumes nothing.
+use mathlib.Core.Path.{_≡_, sym, _∙_, ap, subst}
+use mathlib.Core.Bool.{true}
+use mathlib.Core.List.{List}
+use Prim.Native.Nat.{ℕ, suc, _≤_, _<_}
+use native.Mathlib.Omega.{arith}
+use lib.ListN.{length}
+use borrow.Author.Tests.{leb-true}
+use Rattle.laws.proofs.Logic.{and-l, and-r}
+use Rattle.buffer.specs.Row.{row, member}
+use Rattle.buffer.proofs.Rows.{rowFrom-length, member-row}
+use Rattle.buffer.proofs.Stands.{Stands, stands-front}
+use Rattle.buffer.proofs.Parts.{stands-part}
+use Rattle.board.specs.Board.{boardSize}
+use Rattle.graph.specs.Graph.{versionCount, isEntry, ancestor}
+use Rattle.command.specs.Code.{consoleCount}
+use Rattle.room.specs.Sound.{maxCapacity}
+use Rattle.room.proofs.Sound.{Sound, sound-facts}
+use Rattle.room.proofs.Lengths.{boardOf-length}
+use Rattle.store.specs.Layout.{headerSize, rowSize, storeSize, blockAt, encode, roomIn, holdsStore}
+use Rattle.store.specs.Check.{entriesPart, commonIn}
+use Rattle.store.proofs.Ranges.{Ranges, ranges}
+use Rattle.store.proofs.Blocks.{stands-entries, stands-record, stands-row, stands-board}
+use Rattle.store.proofs.Reading.{common-read}
+use Rattle.store.proofs.RoundTrip.{holds-sound, holds-front}
+use Rattle.store.proofs.Told.{Held}
+use Rattle.store.proofs.Commons.{Field, field-of, field-named}
+use Rattle.store.proofs.Checks.{own-heads}
+
+module _ (s : List ℕ) (t : holdsStore s ≡ true) where
+  pub whole-sound : Sound (roomIn s)
+  whole-sound = sound-facts (roomIn s) (holds-sound s t)
+
+  pub whole-ranges : Ranges (roomIn s)
+  whole-ranges = ranges (roomIn s) (holds-sound s t)
+
+  pub whole-front : Stands s 0 (encode (roomIn s))
+  whole-front = subst (λ (u : List ℕ). Stands u 0 (encode (roomIn s))) (sym (holds-front s t)) (stands-front (encode (roomIn s)) _)
+
+  pub whole-long : storeSize (roomIn s .capacity) ≤ length s
+  unfolding holdsStore roomIn
+  whole-long = leb-true _ _ (search (and-l, and-r))
+
+  pub whole-header : headerSize ≤ length s
+  whole-header = omega (arith, whole-long)
+
+  pub whole-small : versionCount (roomIn s .versions) ≤ maxCapacity
+  whole-small = let k = whole-ranges in omega arith
+
+  pub whole-block : (v : ℕ) → v < versionCount (roomIn s .versions) → blockAt (suc v) ≤ length s
+  whole-block v l = let k = whole-ranges in omega (arith, whole-long)
+
+  pub whole-entries : entriesPart s ≡ row (isEntry (roomIn s .versions)) rowSize
+  whole-entries =
+      stands-part rowSize (stands-entries (roomIn s) whole-front) (rowFrom-length (isEntry (roomIn s .versions)) 0 rowSize) (omega (arith, whole-header))
+
+  pub whole-held : Held s (roomIn s .versions)
+  whole-held =
+      let g = roomIn s .versions in
+      record {
+        lower = whole-sound .lower;
+        based = whole-sound .based;
+        ranged = whole-sound .ranged;
+        told = λ v l.
+            let k = whole-small in
+            let n = whole-block v l in
+            record {
+              note = stands-record (roomIn s) whole-front v l;
+              line = stands-part rowSize (stands-row (roomIn s) whole-front v l) (rowFrom-length (λ u. ancestor g u v) 0 rowSize) (omega arith);
+              board = stands-part boardSize (stands-board (roomIn s) whole-front v l) (boardOf-length g v) (omega arith);
+              listed = ap (λ (e : List ℕ). member e v) whole-entries ∙ member-row (isEntry g) rowSize v (omega arith);
+            };
+      }
+
+  pub whole-fields : (c d : ℕ) → c < consoleCount → d < consoleCount → Field (roomIn s) c d (commonIn s c d)
+  whole-fields c d i j = rw (common-read s (roomIn s) whole-front whole-ranges c d i j) (field-of (roomIn s) c d (whole-sound .meets c d))
+
+  pub whole-low : (c : ℕ) → c < consoleCount → commonIn s c c ≤ versionCount (roomIn s .versions)
+  whole-low c l = field-named s (roomIn s) (own-heads s) whole-small whole-held c l (whole-fields c c l l)
