@@ -1,0 +1,245 @@
+-- A store in which a version was appended and counted, and whose console moved to it, is the encoding of the room that grew by it.
+-- Assumes nothing.
+use Prim.Native.Nat.{ℕ, suc, _+_, _-_, _*_, _≤_, _<_}
+use mathlib.Core.Path.{_≡_, refl, sym, ap, ap₂, _∙_}
+use mathlib.Core.Bool.{true, false, _&&_}
+use mathlib.Core.List.{List, _∷_}
+use native.Mathlib.Decide.{ℕ-discrete}
+use native.Mathlib.Numerals.{add-one}
+use native.Mathlib.Omega.{arith}
+use lib.ListN.{length, getD, getD-replicate}
+use lib.Dec.{ltb}
+use borrow.Author.Tests.{lt-ltb}
+use Rattle.laws.proofs.Logic.{and-i}
+use Rattle.buffer.specs.Field.{word, putWord, zeros, overwrite}
+use Rattle.buffer.proofs.Fields.{zeros-length}
+use Rattle.buffer.proofs.Rows.{rowFrom-length}
+use Rattle.buffer.proofs.Parts.{put-stands}
+use Rattle.buffer.proofs.Stands.{Stands, stands-kept}
+use Rattle.buffer.proofs.Writes.{put-length, put-other}
+use Rattle.board.specs.Board.{stripCount}
+use Rattle.graph.specs.Graph.{Graph, Node, entry, merge, versionCount, isEntry, baseOf}
+use Rattle.command.specs.Code.{consoleCount, isEntryCode, isStrip, isOperand}
+use Rattle.room.specs.Room.{Room, present, head, common}
+use Rattle.room.specs.Sound.{maxCapacity}
+use Rattle.room.specs.Step.{behind, someThirdSplits, grown}
+use Rattle.room.proofs.Sound.{Sound, facts-sound}
+use Rattle.room.proofs.Steps.{head-named, entry-grown, merge-grown}
+use Rattle.store.specs.Layout.{headerSize, rowSize, blockSize, countAt, entriesAt, commonsAt, commonsEnd, commonAt, blockAt, commonField, encode, roomIn, holdsStore}
+use Rattle.store.specs.Check.{commonIn}
+use Rattle.store.proofs.Joined.{Placed, placed, join-encode}
+use Rattle.store.proofs.Moved.{commonField-sym, grown-self, grown-other, entry-row, entry-column, merge-row, merge-column}
+use Rattle.store.proofs.Overwritten.{overwritten}
+use Rattle.store.proofs.Reading.{common-read}
+use Rattle.store.proofs.VersionTests.{range-mark, range-unmark}
+use Rattle.store.proofs.Whole.{whole-sound, whole-ranges, whole-front, whole-long, whole-header}
+use Rattle.update.specs.Append.{withEntry, withMerge}
+use Rattle.update.specs.Commons.{joinedCommons, putHead}
+use Rattle.update.proofs.AppendedBlocks.{Standing, Grew, entry-grew, merge-grew}
+use Rattle.update.proofs.JoinedTable.{table-kept, table-length, table-stands}
+
+-- an entry in range puts or takes one of the 16 marks
+pub marks-small : (code strip operand : ℕ) → isEntryCode code && isStrip strip && isOperand code operand ≡ true
+    → (code ≡ 4 → operand < 16) × (code ≡ 5 → operand < 16)
+marks-small code strip operand h =
+    let all = and-i (isEntryCode code && isStrip strip && isOperand code operand) (ltb 0 1) h refl in
+    (range-mark 1 0 code strip operand _ refl all, range-unmark 1 0 code strip operand _ refl all)
+
+pub in-range : (code strip operand : ℕ) → isEntryCode code ≡ true → strip < stripCount → isOperand code operand ≡ true
+    → isEntryCode code && isStrip strip && isOperand code operand ≡ true
+in-range code strip operand a b c = and-i _ _ (and-i _ _ a (lt-ltb strip stripCount b)) c
+
+-- the base of a merge of two consoles is their common version
+common-base : (r : Room) (c d : ℕ) → common r c d ≡ baseOf (r .versions) (head r c) (head r d)
+unfolding common
+common-base r c d = refl
+
+-- the unused blocks, of which the first ones are used
+pub free-later : {s u : List ℕ} (n m capacity : ℕ) → n ≤ m → m ≤ capacity → Stands s (blockAt n) (zeros (blockSize * (capacity - n)))
+    → ((k : ℕ) → blockAt m ≤ k → getD u k 0 ≡ getD s k 0) → Stands u (blockAt m) (zeros (blockSize * (capacity - m)))
+free-later {s} n m capacity a l h kept =
+    record {
+      read = λ i b.
+          let small : i < blockSize * (capacity - m) = rw zeros-length at b in
+          let there : blockSize * (m - n) + i < blockSize * (capacity - n) = omega arith in
+          kept (blockAt m + i) (omega arith)
+          ∙ ap (λ (k : ℕ). getD s k 0) (omega arith)
+          ∙ h .read (blockSize * (m - n) + i) (rw zeros-length there)
+          ∙ getD-replicate (blockSize * (capacity - n)) (blockSize * (m - n) + i) 0 0 there
+          ∙ sym (getD-replicate (blockSize * (capacity - m)) i 0 0 small);
+    }
+
+-- a store that holds fewer versions than it may
+module _ (s : List ℕ) (t : holdsStore s ≡ true) (left : versionCount (roomIn s .versions) < roomIn s .capacity) where
+  abbrev r : Room
+  r = roomIn s
+
+  abbrev g : Graph
+  g = r .versions
+
+  abbrev n : ℕ
+  n = versionCount g
+
+  pub left-small : versionCount (roomIn s .versions) < maxCapacity
+  left-small = let k = whole-ranges s t in omega arith
+
+  pub left-fits : blockAt (suc (versionCount (roomIn s .versions))) ≤ length s
+  left-fits = omega (arith, whole-long s t)
+
+  parts : Placed s r
+  parts = placed r (whole-front s t)
+
+  left-standing : Standing s g
+  left-standing = record { versions = parts .versions; entries = parts .entries }
+
+  -- a version was appended, and counted
+  module _ (a : List ℕ) (m : Node) (grew : Grew s a g m) where
+    abbrev counted : List ℕ
+    counted = putWord a countAt (suc n)
+
+    -- no byte of the count, of the row of entries, or of the new block
+    abbrev Old : ℕ → Type 0
+    Old k =
+        (countAt ≤ k → k < countAt + 2 → ⊥) × (entriesAt ≤ k → k < commonsAt → ⊥) × (blockAt n ≤ k → k < blockAt (suc n) → ⊥)
+
+    counted-long : length counted ≡ length s
+    counted-long = put-length a countAt (suc n) ∙ grew .long
+
+    count-kept : (k : ℕ) → (countAt ≤ k → k < countAt + 2 → ⊥) → getD counted k 0 ≡ getD a k 0
+    count-kept k o = put-other a countAt (suc n) k (λ e. o (omega arith) (omega arith)) (λ e. o (omega arith) (omega arith))
+
+    counted-kept : (k : ℕ) → Old k → getD counted k 0 ≡ getD s k 0
+    counted-kept k o = count-kept k (o .0) ∙ grew .kept k (o .2) (λ x y. o .1 x (omega arith))
+
+    counted-commons : (j k : ℕ) → j < consoleCount → k < consoleCount → Stands counted (commonAt j k) (word (commonField r j k))
+    counted-commons j k jl kl = stands-kept (parts .commons j k jl kl) (λ i x y. counted-kept i (omega arith))
+
+    counted-read : (j k : ℕ) → j < consoleCount → k < consoleCount → commonIn counted j k ≡ commonField r j k
+    counted-read j k jl kl =
+        ap₂ (λ (x y : ℕ). x * 256 + y) (counted-kept (commonAt j k) (omega arith)) (counted-kept (commonAt j k + 1) (omega arith))
+        ∙ common-read s r (whole-front s t) (whole-ranges s t) j k jl kl
+
+    -- and the console moved to it: only the table changed
+    grown-store : (u : List ℕ) (c : ℕ) → Sound (grown r c m) → length u ≡ length counted
+        → ((k : ℕ) → (commonsAt ≤ k → k < commonsEnd → ⊥) → getD u k 0 ≡ getD counted k 0)
+        → ((j k : ℕ) → j < consoleCount → k < consoleCount → Stands u (commonAt j k) (word (commonField (grown r c m) j k)))
+        → u ≡ overwrite (encode (grown r c m)) s
+    grown-store u c sound long table commons =
+        let same : (k : ℕ) → Old k → (commonsAt ≤ k → k < commonsEnd → ⊥) → getD u k 0 ≡ getD s k 0 =
+        λ k o b. table k b ∙ counted-kept k o in
+        let stays : (k : ℕ) → (countAt ≤ k → k < countAt + 2 → ⊥) → (commonsAt ≤ k → k < commonsEnd → ⊥) → getD u k 0 ≡ getD a k 0 =
+        λ k o b. table k b ∙ count-kept k o in
+        let header = left-fits in
+        let whole = grew .long in
+        let wide = rowFrom-length (isEntry (m ∷ g)) 0 rowSize in
+        overwritten s u (grown r c m) (facts-sound (grown r c m) sound)
+        (join-encode (grown r c m)
+        (record {
+          capacity = stands-kept (parts .capacity) (λ i x y. same i (omega arith) (omega arith));
+          count = stands-kept (put-stands a countAt (suc n) (omega arith)) (λ i x y. table i (omega arith));
+          gap = stands-kept (parts .gap) (λ i x y. same i (omega arith) (omega arith));
+          entries = stands-kept (grew .standing .entries) (λ i x y. stays i (omega arith) (omega arith));
+          commons = commons;
+          rest = stands-kept (parts .rest) (λ i x y. same i (omega (arith, zeros-length (headerSize - commonsEnd))) (omega arith));
+          versions = λ v l. stands-kept (grew .standing .versions v l) (λ i x y. stays i (omega arith) (omega arith));
+          free = free-later n (suc n) (r .capacity) (omega arith) left (parts .free) (λ k l. same k (omega arith) (omega arith));
+        }))
+        (whole-long s t) (long ∙ counted-long) (λ k l. same k (omega arith) (omega arith))
+
+  -- a present console
+  module _ (c : ℕ) (cl : c < consoleCount) (p : present (roomIn s) c ≡ true) where
+    -- an entry on it: the common versions of the console with the others stay
+    module _ (code strip operand : ℕ) (range : isEntryCode code && isStrip strip && isOperand code operand ≡ true) where
+      abbrev e : Node
+      e = entry (head r c) code strip operand
+
+      abbrev written : List ℕ
+      written = withEntry s n (head r c) code strip operand
+
+      written-grew : Grew s written g e
+      written-grew =
+          entry-grew s g left-standing (whole-sound s t .lower) left-small left-fits (head r c) code strip operand (head-named r (whole-sound s t) c p)
+
+      abbrev now-counted : List ℕ
+      now-counted = putWord written countAt (suc n)
+
+      abbrev after : List ℕ
+      after = putHead now-counted c (suc n)
+
+      field-kept : (j k : ℕ) → j < consoleCount → k < consoleCount → (commonAt j k ≡ commonAt c c → ⊥) → commonField (grown r c e) j k ≡ commonField r j k
+          → Stands after (commonAt j k) (word (commonField (grown r c e) j k))
+      field-kept j k jl kl apart same =
+          rw same
+          (stands-kept (counted-commons written e written-grew j k jl kl)
+          (λ i x y. put-other now-counted (commonAt c c) (suc n) i (omega arith) (omega arith)))
+
+      entry-commons : (j k : ℕ) → j < consoleCount → k < consoleCount → Stands after (commonAt j k) (word (commonField (grown r c e) j k))
+      entry-commons j k jl kl =
+          let sound = whole-sound s t in
+          let fits = left-fits in
+          let long = counted-long written e written-grew in
+          elim (ℕ-discrete j c) [
+            | yes f ↦
+                elim (ℕ-discrete k c) [
+                  | yes h ↦ rw (f, h, grown-self r sound c p e) (put-stands now-counted (commonAt c c) (suc n) (omega arith))
+                  | no kc ↦ field-kept j k jl kl (omega arith) (rw f (entry-row r sound c p code strip operand k kc))
+                ]
+            | no jc ↦
+                field-kept j k jl kl (omega arith)
+                (elim (ℕ-discrete k c) [
+                  | yes h ↦ rw h (entry-column r sound c p code strip operand j jc ∙ commonField-sym r sound c j)
+                  | no kc ↦ grown-other r sound c p e j k jc kc
+                ])
+          ]
+
+      -- as the code does it, with n the number of versions and h the head
+      pub entered-store : (a b u : List ℕ) (n h : ℕ) → n ≡ versionCount (roomIn s .versions) → h ≡ head (roomIn s) c
+          → a ≡ withEntry s n h code strip operand → b ≡ putWord a countAt (n + 1) → u ≡ putHead b c (n + 1)
+          → u ≡ overwrite (encode (grown (roomIn s) c (entry (head (roomIn s) c) code strip operand))) s
+      entered-store a b u n h en eh ea eb eu =
+          rw (eu, eb, ea, add-one, en, eh)
+          (grown-store written e written-grew (putHead now-counted c (suc (versionCount g))) c (entry-grown r (whole-sound s t) c code strip operand p range left)
+          (put-length now-counted (commonAt c c) (suc (versionCount g)))
+          (λ k o. put-other now-counted (commonAt c c) (suc (versionCount g)) k (λ x. o (omega arith) (omega arith)) (λ x. o (omega arith) (omega arith)))
+          entry-commons)
+
+    -- a merge of another console into it: its common versions with the others are the later of its own and the giver's
+    module _ (d : ℕ) (dl : d < consoleCount) (q : present (roomIn s) d ≡ true) (ahead : behind (roomIn s) d c ≡ false) (back : behind (roomIn s) c d ≡ false)
+        (split : someThirdSplits (roomIn s) c d ≡ false) where
+      abbrev m : Node
+      m = merge (head r c) (head r d)
+
+      abbrev joined : List ℕ
+      joined = withMerge s n (head r c) (head r d) (common r c d)
+
+      joined-grew : Grew s joined g m
+      joined-grew =
+          merge-grew s g left-standing (whole-sound s t .lower) left-small left-fits (head r c) (head r d) (common r c d)
+          (head-named r (whole-sound s t) c p) (head-named r (whole-sound s t) d q) (common-base r c d)
+
+      abbrev joined-counted : List ℕ
+      joined-counted = putWord joined countAt (suc n)
+
+      header-left : headerSize ≤ length joined-counted
+      header-left = omega (arith, counted-long joined m joined-grew, whole-header s t)
+
+      pub merged-store : (a b e u : List ℕ) (n h k l : ℕ) → n ≡ versionCount (roomIn s .versions) → h ≡ head (roomIn s) c → k ≡ head (roomIn s) d
+          → l ≡ common (roomIn s) c d → a ≡ withMerge s n h k l → b ≡ putWord a countAt (n + 1) → e ≡ joinedCommons b c d consoleCount
+          → u ≡ putHead e c (n + 1) → u ≡ overwrite (encode (grown (roomIn s) c (merge (head (roomIn s) c) (head (roomIn s) d)))) s
+      merged-store a b e u n h k l en eh ek el ea eb ee eu =
+          let sound = whole-sound s t in
+          let new = suc (versionCount g) in
+          rw (eu, ee, eb, ea, add-one, en, eh, ek, el)
+          (grown-store joined m joined-grew (putHead (joinedCommons joined-counted c d consoleCount) c new) c (merge-grown r sound c d p q ahead back split left)
+          (table-length joined-counted c d cl dl new header-left)
+          (λ i o.
+          table-kept joined-counted c d cl dl new header-left i
+          (λ j jl. (
+            λ x. o (omega arith) (omega arith),
+            λ x. o (omega arith) (omega arith),
+            λ x. o (omega arith) (omega arith),
+            λ x. o (omega arith) (omega arith),
+          )))
+          (table-stands joined-counted c d cl dl new header-left (commonField r) (commonField (grown r c m)) (counted-commons joined m joined-grew)
+          (counted-read joined m joined-grew) (grown-self r sound c p m) (merge-row r sound c d p q ahead back split)
+          (merge-column r sound c d p q ahead back split) (grown-other r sound c p m)))

@@ -1,0 +1,68 @@
+-- A store whose table of common versions was changed for a console that moved to another's head is the encoding of the room after the move.
+-- Assumes nothing.
+use mathlib.Core.Path.{_≡_, sym, _∙_}
+use mathlib.Core.Bool.{true}
+use mathlib.Core.List.{List}
+use Prim.Native.Nat.{ℕ, _≤_, _<_}
+use native.Mathlib.Omega.{arith}
+use lib.ListN.{length, getD}
+use Rattle.buffer.specs.Field.{overwrite}
+use Rattle.buffer.proofs.Rows.{rowFrom-length}
+use Rattle.buffer.proofs.Stands.{stands-kept}
+use Rattle.graph.specs.Graph.{ancestor, isEntry}
+use Rattle.command.specs.Code.{consoleCount}
+use Rattle.room.specs.Room.{Room, headOf, present, head}
+use Rattle.room.specs.Step.{moved}
+use Rattle.room.proofs.Sound.{facts-sound}
+use Rattle.room.proofs.Moves.{moved-sound}
+use Rattle.store.specs.Layout.{rowSize, commonsAt, commonsEnd, commonField, encode, roomIn, holdsStore}
+use Rattle.store.specs.Check.{commonIn}
+use Rattle.store.proofs.Joined.{Placed, placed, join-encode}
+use Rattle.store.proofs.Moved.{moved-self, moved-row, moved-column, moved-other}
+use Rattle.store.proofs.Overwritten.{overwritten}
+use Rattle.store.proofs.Reading.{common-read}
+use Rattle.store.proofs.Whole.{whole-sound, whole-ranges, whole-front, whole-long, whole-header}
+use Rattle.update.specs.Commons.{joinedCommons, putHead}
+use Rattle.update.proofs.JoinedTable.{table-kept, table-length, table-stands}
+
+module _ (s : List ℕ) (t : holdsStore s ≡ true) (c d : ℕ) (cl : c < consoleCount) (dl : d < consoleCount) (q : present (roomIn s) d ≡ true)
+    (b : present (roomIn s) c ≡ true → ancestor (roomIn s .versions) (head (roomIn s) c) (head (roomIn s) d) ≡ true) where
+  abbrev after : Room
+  after = moved (roomIn s) c (headOf (roomIn s) d)
+
+  abbrev changed : List ℕ
+  changed = putHead (joinedCommons s c d consoleCount) c (commonIn s d d)
+
+  read : (j k : ℕ) → j < consoleCount → k < consoleCount → commonIn s j k ≡ commonField (roomIn s) j k
+  read = common-read s (roomIn s) (whole-front s t) (whole-ranges s t)
+
+  -- bytes before and behind the table stay
+  before : (i : ℕ) → i < commonsAt → getD changed i 0 ≡ getD s i 0
+  before i l = table-kept s c d cl dl (commonIn s d d) (whole-header s t) i (λ k kl. omega arith)
+
+  behind : (i : ℕ) → commonsEnd ≤ i → getD changed i 0 ≡ getD s i 0
+  behind i l = table-kept s c d cl dl (commonIn s d d) (whole-header s t) i (λ k kl. omega arith)
+
+  moved-placed : Placed changed after
+  moved-placed =
+      let r = roomIn s in
+      let sound = whole-sound s t in
+      let p = placed r (whole-front s t) in
+      record {
+        capacity = stands-kept (p .capacity) (λ i _ l. before i (omega arith));
+        count = stands-kept (p .count) (λ i _ l. before i (omega arith));
+        gap = stands-kept (p .gap) (λ i _ l. before i (omega arith));
+        entries = stands-kept (p .entries) (λ i _ l. before i (omega (arith, rowFrom-length (isEntry (r .versions)) 0 rowSize)));
+        commons = table-stands s c d cl dl (commonIn s d d) (whole-header s t) (commonField r) (commonField after)
+            (p .commons) read
+            (moved-self r sound c d cl q b ∙ sym (read d d dl dl))
+            (moved-row r sound c d cl q b) (moved-column r sound c d cl q b) (moved-other r sound c d cl q b);
+        rest = stands-kept (p .rest) (λ i l _. behind i l);
+        versions = λ v l. stands-kept (p .versions v l) (λ i m _. behind i (omega arith));
+        free = stands-kept (p .free) (λ i m _. behind i (omega arith));
+      }
+
+  pub moved-store : changed ≡ overwrite (encode after) s
+  moved-store =
+      overwritten s changed after (facts-sound after (moved-sound (roomIn s) (whole-sound s t) c d cl q b)) (join-encode after moved-placed)
+      (whole-long s t) (table-length s c d cl dl (commonIn s d d) (whole-header s t)) (λ i l. behind i (omega arith))

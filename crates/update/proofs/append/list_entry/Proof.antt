@@ -1,0 +1,50 @@
+-- `update::append::list_entry` meets its contract.
+-- Assumes nothing.
+use native.Mathlib.Omega.{arith}
+use mathlib.Core.Path.{refl}
+use denote.Ref.{now}
+use Rattle.buffer.specs.Row.{withMember}
+use Rattle.buffer.proofs.Fields.{part-length}
+use Rattle.store.specs.Layout.{rowSize, entriesAt}
+use Rattle.store.specs.Check.{entriesPart}
+use Rattle.buffer.proofs.Patches.{put-lent}
+use Rattle.update.proofs.Appended.{member-keeps}
+use Rattle.update.proofs.append.list_entry.Statement.{statement}
+use Rattle.update.proofs.append.list_entry.Tie as tie
+
+add-end : tie.Need-add-end
+add-end c = omega arith
+
+sub-add-member : tie.Need-sub-add-member
+sub-add-member c = omega arith
+
+part-add-member-start : tie.Need-part-add-member-start
+part-add-member-start c = omega arith
+
+part-add-member-end : tie.Need-part-add-member-end
+part-add-member-end c = omega arith
+
+add-member-requires : tie.Need-add-member-requires
+add-member-requires c κs = omega arith
+
+same-length : tie.Need-same-length
+same-length c = omega arith
+
+returns : tie.Need-returns
+returns c =
+    let start = c .before .before .before .before .before in
+    let s = now (start .args .s) in
+    put-lent s _ (withMember (entriesPart s) (start .args .n)) entriesAt entriesAt rowSize refl (c .before .before .add-member .ensures)
+    (member-keeps rowSize (start .args .n) (entriesPart s) (part-length s entriesAt rowSize (omega arith)))
+
+pub list-entry-spec : {M : Type 1} → statement M
+list-entry-spec =
+    tie.close
+    (tie.spec
+    add-end
+    sub-add-member
+    part-add-member-start
+    part-add-member-end
+    add-member-requires
+    same-length
+    returns)

@@ -1,0 +1,52 @@
+-- `update::append::put_entry_note` meets its contract.
+-- Assumes nothing.
+use native.Mathlib.Omega.{arith}
+use denote.Ref.{now}
+use Rattle.store.specs.Layout.{nodeSize}
+use Rattle.update.specs.Append.{entryNote}
+use Rattle.buffer.proofs.Patches.{put-lent}
+use Rattle.update.proofs.Appended.{entryNote-length}
+use Rattle.update.proofs.append.put_entry_note.Statement.{statement}
+use Rattle.update.proofs.append.put_entry_note.Tie as tie
+
+block-at-requires : tie.Need-block-at-requires
+block-at-requires c κs = omega arith
+
+add-end : tie.Need-add-end
+add-end c = omega arith
+
+sub-write-entry : tie.Need-sub-write-entry
+sub-write-entry c = omega arith
+
+part-write-entry-start : tie.Need-part-write-entry-start
+part-write-entry-start c = omega arith
+
+part-write-entry-end : tie.Need-part-write-entry-end
+part-write-entry-end c = omega arith
+
+write-entry-requires : tie.Need-write-entry-requires
+write-entry-requires c κs = omega arith
+
+same-length : tie.Need-same-length
+same-length c = omega arith
+
+returns : tie.Need-returns
+returns c =
+    let start = c .before .before .before .before .before .before in
+    let note = start .args in
+    put-lent (now (note .s)) _ (entryNote (note .p) (note .code) (note .strip) (note .operand)) _ _ nodeSize
+    (c .before .before .before .before .block-at .ensures) (c .before .before .write-entry .ensures)
+    (entryNote-length (note .p) (note .code) (note .strip) (note .operand))
+
+pub put-entry-note-spec : {M : Type 1} → statement M
+put-entry-note-spec =
+    tie.close
+    (tie.spec
+    block-at-requires
+    add-end
+    sub-write-entry
+    part-write-entry-start
+    part-write-entry-end
+    write-entry-requires
+    same-length
+    returns)

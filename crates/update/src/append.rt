@@ -1,0 +1,198 @@
+// Appends a version to a store in place: its node, its row and its board, into the block behind the last one. Only the header and the
+// blocks up to the new one need to be there, whatever stands in the new one.
+use board::Strip;
+use board::enter_board;
+use board::merge_board;
+use buffer::add_member;
+use buffer::add_union;
+use buffer::clear;
+use buffer::copy;
+use buffer::copy_within;
+use buffer::put_word;
+use graph::Version;
+use store::places::BLOCK;
+use store::places::BOARD;
+use store::places::ENTRIES;
+use store::places::HEADER;
+use store::places::NODE;
+use store::places::ROW;
+use store::places::board_of;
+use store::places::row_of;
+ghost use mathlib.Core.Path.{_≡_};
+ghost use Prim.Native.Nat.{suc, _/_, _<_, _≤_};
+ghost use lib.ListN.{length, set};
+ghost use Rattle.buffer.specs.Field.{byte, withPart};
+ghost use Rattle.buffer.specs.Row.{withMember, union};
+ghost use Rattle.board.specs.Board.{stripCount, enter, mergeBoard};
+ghost use Rattle.store.specs.Layout.{headerSize, nodeSize, entriesAt, blockAt, rowAt, boardAt};
+ghost use Rattle.store.specs.Check.{rowPart, boardPart, entriesPart};
+ghost use Rattle.update.specs.Append.{entryNote, mergeNote, withEntry, withMerge};
+
+// The place of the block of a version.
+fn block_at(v: usize) -> usize
+    requires { ⌜ v < 1024 ⌝ }
+    ensures { λ r. ⌜ r ≡ blockAt v ⌝ }
+{
+    HEADER + BLOCK * v
+}
+
+// The place of the row of a version.
+fn row_at(v: usize) -> usize
+    requires { ⌜ v < 1024 ⌝ }
+    ensures { λ r. ⌜ r ≡ rowAt v ⌝ }
+{
+    block_at(v) + NODE
+}
+
+// The place of the board of a version.
+fn board_at(v: usize) -> usize
+    requires { ⌜ v < 1024 ⌝ }
+    ensures { λ r. ⌜ r ≡ boardAt v ⌝ }
+{
+    row_at(v) + ROW
+}
+
+// Writes the lowest 8 bits of a number at a place.
+fn put_byte(s: &mut [u8], at: usize, x: usize)
+    requires { ⌜ at < length (now s) ⌝ }
+    ensures { λ _. ⌜ now (s .exit) ≡ set (now (s .entry)) at (byte x) ⌝ }
+{
+    s[at] = (x % 256) as u8;
+}
+
+// Writes the node of an entry, all of its bytes.
+fn write_entry(note: &mut [u8], p: usize, code: usize, strip: usize, operand: usize)
+    requires { ⌜ length (now note) ≡ nodeSize ⌝ }
+    ensures { λ _. ⌜ now (note .exit) ≡ entryNote p code strip operand ⌝ }
+{
+    clear(note);
+    put_byte(note, 0, code);
+    put_byte(note, 1, strip);
+    put_word(note, 2, operand);
+    put_word(note, 4, p);
+}
+
+// Writes the node of a merge, all of its bytes.
+fn write_merge(note: &mut [u8], p: usize, q: usize, l: usize)
+    requires { ⌜ length (now note) ≡ nodeSize ⌝ }
+    ensures { λ _. ⌜ now (note .exit) ≡ mergeNote p q l ⌝ }
+{
+    clear(note);
+    put_byte(note, 0, 9);
+    put_word(note, 4, p);
+    put_word(note, 6, q);
+    put_word(note, 8, l);
+}
+
+// Puts the node of an entry into the block of version n.
+fn put_entry_note(s: &mut [u8], n: usize, p: usize, code: usize, strip: usize, operand: usize)
+    requires { ⌜ (n < 1024) × (blockAt (suc n) ≤ length (now s)) ⌝ }
+    ensures { λ _. ⌜ now (s .exit) ≡ withPart (now (s .entry)) (blockAt n) (entryNote p code strip operand) ⌝ }
+{
+    let at = block_at(n);
+    let end = at + NODE;
+    write_entry(&mut s[at..end], p, code, strip, operand);
+}
+
+// Puts the node of a merge into the block of version n.
+fn put_merge_note(s: &mut [u8], n: usize, p: usize, q: usize, l: usize)
+    requires { ⌜ (n < 1024) × (blockAt (suc n) ≤ length (now s)) ⌝ }
+    ensures { λ _. ⌜ now (s .exit) ≡ withPart (now (s .entry)) (blockAt n) (mergeNote p q l) ⌝ }
+{
+    let at = block_at(n);
+    let end = at + NODE;
+    write_merge(&mut s[at..end], p, q, l);
+}
+
+// Puts the row of an entry: its parent's, with the version besides.
+fn put_entry_row(s: &mut [u8], n: usize, p: usize)
+    requires { ⌜ (p < n) × (n < 1024) × (blockAt (suc n) ≤ length (now s)) ⌝ }
+    ensures { λ _. ⌜ now (s .exit) ≡ withPart (now (s .entry)) (rowAt n) (withMember (rowPart (now (s .entry)) p) n) ⌝ }
+{
+    let at = row_at(n);
+    let end = at + ROW;
+    copy_within(s, row_at(p), at, ROW);
+    add_member(&mut s[at..end], n);
+}
+
+// Puts the board of an entry: its parent's, with the entry made on it.
+fn put_entry_board(s: &mut [u8], n: usize, p: usize, code: usize, strip: Strip, operand: usize)
+    requires { ⌜ (p < n) × (n < 1024) × (blockAt (suc n) ≤ length (now s)) ⌝ }
+    requires { ⌜ (strip .0 < stripCount) × (code ≡ 0x04 → operand < 16) × (code ≡ 0x05 → operand < 16) ⌝ }
+    ensures { λ _. ⌜ now (s .exit) ≡ withPart (now (s .entry)) (boardAt n) (enter code (strip .0) operand (boardPart (now (s .entry)) p)) ⌝ }
+{
+    let at = board_at(n);
+    let end = at + BOARD;
+    copy_within(s, board_at(p), at, BOARD);
+    enter_board(&mut s[at..end], code, strip, operand);
+}
+
+// Puts version n among the entries.
+fn list_entry(s: &mut [u8], n: usize)
+    requires { ⌜ (n < 1024) × (headerSize ≤ length (now s)) ⌝ }
+    ensures { λ _. ⌜ now (s .exit) ≡ withPart (now (s .entry)) entriesAt (withMember (entriesPart (now (s .entry))) n) ⌝ }
+{
+    let at = ENTRIES;
+    let end = at + ROW;
+    add_member(&mut s[at..end], n);
+}
+
+// Writes version n, an entry on version p.
+pub fn append_entry(s: &mut [u8], n: Version, p: Version, code: usize, strip: Strip, operand: usize)
+    requires { ⌜ (p .0 < n .0) × (n .0 < 1024) × (blockAt (suc (n .0)) ≤ length (now s)) ⌝ }
+    requires { ⌜ (strip .0 < stripCount) × (code ≡ 0x04 → operand < 16) × (code ≡ 0x05 → operand < 16) ⌝ }
+    ensures { λ _. ⌜ now (s .exit) ≡ withEntry (now (s .entry)) (n .0) (p .0) code (strip .0) operand ⌝ }
+{
+    put_entry_note(s, n.0, p.0, code, strip.0, operand);
+    put_entry_row(s, n.0, p.0);
+    put_entry_board(s, n.0, p.0, code, strip, operand);
+    list_entry(s, n.0);
+}
+
+// Puts the members of another row and the number n into a row.
+fn join_row(row: &mut [u8], other: &[u8], n: usize)
+    requires { ⌜ (length (now row) ≡ length (now other)) × (n / 8 < length (now row)) ⌝ }
+    ensures { λ _. ⌜ now (row .exit) ≡ withMember (union (now (row .entry)) (now (other .entry))) n ⌝ }
+{
+    add_union(row, other);
+    add_member(row, n);
+}
+
+// Puts the row of a merge: its parents', with the version besides.
+fn put_merge_row(s: &mut [u8], n: usize, p: usize, q: usize)
+    requires { ⌜ (p < n) × (q < n) × (n < 1024) × (blockAt (suc n) ≤ length (now s)) ⌝ }
+    ensures { λ _. ⌜ now (s .exit) ≡ withPart (now (s .entry)) (rowAt n) (withMember (union (rowPart (now (s .entry)) p) (rowPart (now (s .entry)) q)) n) ⌝ }
+{
+    let mut given = [0u8; ROW];
+    copy(&mut given, row_of(s, q));
+    let at = row_at(n);
+    let end = at + ROW;
+    copy_within(s, row_at(p), at, ROW);
+    join_row(&mut s[at..end], &given, n);
+}
+
+// Puts the board of a merge of q into p over the base l. Two parts of one slice cannot be lent at once, so the three boards are copied first.
+fn put_merge_board(s: &mut [u8], n: usize, p: usize, q: usize, l: usize)
+    requires { ⌜ (p < n) × (q < n) × (l < n) × (n < 1024) × (blockAt (suc n) ≤ length (now s)) ⌝ }
+    ensures { λ _. ⌜ now (s .exit) ≡ withPart (now (s .entry)) (boardAt n) (mergeBoard (boardPart (now (s .entry)) l) (boardPart (now (s .entry)) p) (boardPart (now (s .entry)) q)) ⌝ }
+{
+    let mut base = [0u8; BOARD];
+    copy(&mut base, board_of(s, l));
+    let mut mine = [0u8; BOARD];
+    copy(&mut mine, board_of(s, p));
+    let mut given = [0u8; BOARD];
+    copy(&mut given, board_of(s, q));
+    let at = board_at(n);
+    let end = at + BOARD;
+    merge_board(&mut s[at..end], &base, &mine, &given);
+}
+
+// Writes version n, a merge of version q into version p with the base l.
+pub fn append_merge(s: &mut [u8], n: Version, p: Version, q: Version, l: Version)
+    requires { ⌜ (p .0 < n .0) × (q .0 < n .0) × (l .0 < n .0) × (n .0 < 1024) × (blockAt (suc (n .0)) ≤ length (now s)) ⌝ }
+    ensures { λ _. ⌜ now (s .exit) ≡ withMerge (now (s .entry)) (n .0) (p .0) (q .0) (l .0) ⌝ }
+{
+    put_merge_note(s, n.0, p.0, q.0, l.0);
+    put_merge_row(s, n.0, p.0, q.0);
+    put_merge_board(s, n.0, p.0, q.0, l.0);
+}

@@ -1,0 +1,87 @@
+// The table of common versions changed in place when a console moves.
+use buffer::put_word;
+use command::Console;
+use store::places::CONSOLES;
+use store::places::common_at;
+use store::places::common_in;
+ghost use mathlib.Core.Path.{_≡_};
+ghost use mathlib.Core.Bool.{true};
+ghost use Prim.Native.Nat.{max, _<_, _≤_};
+ghost use lib.ListN.{length};
+ghost use Rattle.buffer.specs.Field.{putWord, overwrite};
+ghost use Rattle.graph.specs.Graph.{ancestor};
+ghost use Rattle.command.specs.Code.{consoleCount};
+ghost use Rattle.room.specs.Room.{headOf, present, head};
+ghost use Rattle.room.specs.Step.{moved};
+ghost use Rattle.store.specs.Layout.{headerSize, commonAt, encode, roomIn, holdsStore};
+ghost use Rattle.update.specs.Commons.{putCommon, joinedCommon, joinedCommons};
+
+// The higher of two fields.
+fn higher(x: usize, y: usize) -> usize
+    ensures { λ r. ⌜ r ≡ max x y ⌝ }
+{
+    if x < y {
+        return y;
+    }
+    x
+}
+
+// Writes the field of two consoles at both of its places.
+fn put_common(s: &mut [u8], c: usize, k: usize, field: usize)
+    requires { ⌜ headerSize ≤ length (now s) ⌝ }
+    requires { ⌜ (c < consoleCount) × (k < consoleCount) ⌝ }
+    ensures { λ _. ⌜ now (s .exit) ≡ putCommon (now (s .entry)) c k field ⌝ }
+{
+    put_word(s, common_at(c, k), field);
+    put_word(s, common_at(k, c), field);
+}
+
+// Gives console c what d has in common with k, where that is later than what c has.
+fn join_common(s: &mut [u8], c: usize, d: usize, k: usize)
+    requires { ⌜ headerSize ≤ length (now s) ⌝ }
+    requires { ⌜ (c < consoleCount) × (d < consoleCount) × (k < consoleCount) ⌝ }
+    ensures { λ _. ⌜ now (s .exit) ≡ joinedCommon (now (s .entry)) c d k ⌝ }
+{
+    if k == c {
+        return;
+    }
+    let field = higher(common_in(s, c, k), common_in(s, d, k));
+    put_common(s, c, k, field);
+}
+
+// Gives console c, at each other console, the later of its own common version and that of d.
+pub fn join_commons(s: &mut [u8], c: Console, d: Console)
+    requires { ⌜ headerSize ≤ length (now s) ⌝ }
+    requires { ⌜ (c .0 < consoleCount) × (d .0 < consoleCount) ⌝ }
+    ensures { λ _. ⌜ now (s .exit) ≡ joinedCommons (now (s .entry)) (c .0) (d .0) consoleCount ⌝ }
+{
+    let receiver = c.0;
+    let giver = d.0;
+    for k in 0..CONSOLES {
+        join_common(s, receiver, giver, k);
+    }
+}
+
+// Writes the field of a console with itself, which is 1 more than its head.
+pub fn put_head(s: &mut [u8], c: Console, field: usize)
+    requires { ⌜ headerSize ≤ length (now s) ⌝ }
+    requires { ⌜ c .0 < consoleCount ⌝ }
+    ensures { λ _. ⌜ now (s .exit) ≡ putWord (now (s .entry)) (commonAt (c .0) (c .0)) field ⌝ }
+{
+    let at = c.0;
+    put_word(s, common_at(at, at), field);
+}
+
+// Gives console c the head of console d: a fork or a fast-forward.
+pub fn move_console(s: &mut [u8], c: Console, d: Console)
+    requires { ⌜ holdsStore (now s) ≡ true ⌝ }
+    requires { ⌜ (c .0 < consoleCount) × (d .0 < consoleCount) ⌝ }
+    requires { ⌜ (c .0 ≡ d .0 → ⊥) ⌝ }
+    requires { ⌜ present (roomIn (now s)) (d .0) ≡ true ⌝ }
+    requires { ⌜ (present (roomIn (now s)) (c .0) ≡ true → ancestor (roomIn (now s) .versions) (head (roomIn (now s)) (c .0)) (head (roomIn (now s)) (d .0)) ≡ true) ⌝ }
+    ensures { λ _. ⌜ now (s .exit) ≡ overwrite (encode (moved (roomIn (now (s .entry))) (c .0) (headOf (roomIn (now (s .entry))) (d .0)))) (now (s .entry)) ⌝ }
+{
+    let field = common_in(s, d.0, d.0);
+    join_commons(s, c, d);
+    put_head(s, c, field);
+}

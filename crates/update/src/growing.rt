@@ -1,0 +1,63 @@
+// The commands that make a version: an entry on a console's head, and a merge of one console into another.
+use crate::append::append_entry;
+use crate::append::append_merge;
+use crate::commons::join_commons;
+use crate::commons::put_head;
+use board::Strip;
+use buffer::put_word;
+use command::Console;
+use graph::Version;
+use query::common_of;
+use query::head_of;
+use query::version_count;
+ghost use mathlib.Core.Path.{_≡_};
+ghost use mathlib.Core.Bool.{true, false};
+ghost use Prim.Native.Nat.{_<_};
+ghost use Rattle.buffer.specs.Field.{overwrite};
+ghost use Rattle.board.specs.Board.{stripCount};
+ghost use Rattle.graph.specs.Graph.{entry, merge, versionCount};
+ghost use Rattle.command.specs.Code.{consoleCount, isEntryCode, isOperand};
+ghost use Rattle.room.specs.Room.{present, head};
+ghost use Rattle.room.specs.Step.{behind, someThirdSplits, grown};
+ghost use Rattle.store.specs.Layout.{encode, roomIn, holdsStore};
+
+// The place of the number of versions.
+const COUNT: usize = 2;
+
+// Makes an entry on a console's head.
+pub fn enter(s: &mut [u8], c: Console, code: usize, strip: Strip, operand: usize)
+    requires { ⌜ holdsStore (now s) ≡ true ⌝ }
+    requires { ⌜ (c .0 < consoleCount) × (strip .0 < stripCount) ⌝ }
+    requires { ⌜ (isEntryCode code ≡ true) × (isOperand code operand ≡ true) ⌝ }
+    requires { ⌜ present (roomIn (now s)) (c .0) ≡ true ⌝ }
+    requires { ⌜ versionCount (roomIn (now s) .versions) < roomIn (now s) .capacity ⌝ }
+    ensures { λ _. ⌜ now (s .exit) ≡ overwrite (encode (grown (roomIn (now (s .entry))) (c .0) (entry (head (roomIn (now (s .entry))) (c .0)) code (strip .0) operand))) (now (s .entry)) ⌝ }
+{
+    let n = version_count(s);
+    let p = head_of(s, c);
+    append_entry(s, Version(n), p, code, strip, operand);
+    let count = n + 1;
+    put_word(s, COUNT, count);
+    put_head(s, c, count);
+}
+
+// Merges console d into console c.
+pub fn merge(s: &mut [u8], c: Console, d: Console)
+    requires { ⌜ holdsStore (now s) ≡ true ⌝ }
+    requires { ⌜ (c .0 < consoleCount) × (d .0 < consoleCount) ⌝ }
+    requires { ⌜ (present (roomIn (now s)) (c .0) ≡ true) × (present (roomIn (now s)) (d .0) ≡ true) ⌝ }
+    requires { ⌜ (behind (roomIn (now s)) (d .0) (c .0) ≡ false) × (behind (roomIn (now s)) (c .0) (d .0) ≡ false) ⌝ }
+    requires { ⌜ someThirdSplits (roomIn (now s)) (c .0) (d .0) ≡ false ⌝ }
+    requires { ⌜ versionCount (roomIn (now s) .versions) < roomIn (now s) .capacity ⌝ }
+    ensures { λ _. ⌜ now (s .exit) ≡ overwrite (encode (grown (roomIn (now (s .entry))) (c .0) (merge (head (roomIn (now (s .entry))) (c .0)) (head (roomIn (now (s .entry))) (d .0))))) (now (s .entry)) ⌝ }
+{
+    let n = version_count(s);
+    let p = head_of(s, c);
+    let q = head_of(s, d);
+    let l = common_of(s, c, d);
+    append_merge(s, Version(n), p, q, l);
+    let count = n + 1;
+    put_word(s, COUNT, count);
+    join_commons(s, c, d);
+    put_head(s, c, count);
+}

@@ -1,0 +1,5 @@
+// Changes to the bytes of a store, each in place.
+pub mod append;
+pub mod commons;
+pub mod growing;
+pub mod open;
