@@ -1,0 +1,6 @@
+// Commands on a store: the refusals by the state in their order, and what an accepted command changes.
+pub mod commands;
+pub mod moves;
+pub mod refusals;
+pub mod third;
+pub mod versions;
