@@ -4,3 +4,7 @@ pub mod Heads
 pub mod Reading
 pub mod Written
 pub mod RoundTrip
+pub mod Places
+pub mod Located
+pub mod PlaceCell
+pub mod Scans

@@ -88,7 +88,7 @@ Begins : ℕ → List ℕ → Type 0
 Begins c t = (t ≡ recordBytes (recordFor c t) ++ drop (lengthOf (shapeOf c)) t) × Fits (recordFor c t)
 
 -- no other code is a record's
-unknown : (c : ℕ) (o : Operands) → c ≢ 0x20 → c ≢ 0x21 → c ≢ 0x22 → c ≢ 0x23 → c ≢ 0x24 → recordFrom c o ≡ Broken
+pub unknown : (c : ℕ) (o : Operands) → c ≢ 0x20 → c ≢ 0x21 → c ≢ 0x22 → c ≢ 0x23 → c ≢ 0x24 → recordFrom c o ≡ Broken
 unfolding recordFrom
 unknown c o n₀ n₁ n₂ n₃ n₄ = simp (ne-eqb c 0x20 n₀, ne-eqb c 0x21 n₁, ne-eqb c 0x22 n₂, ne-eqb c 0x23 n₃, ne-eqb c 0x24 n₄)
 

@@ -1,2 +1,3 @@
 pub mod Record
 pub mod Tape
+pub mod Reader

@@ -3,6 +3,9 @@ use board::Strip;
 use command::Console;
 use graph::Version;
 
+pub mod reader;
+pub mod scan;
+
 // A record of the tape; Broken stands for what is none (a code that is no record's, or too few bytes) and is refused with 7.
 pub enum Record {
     Start {

@@ -1,0 +1,276 @@
+-- The scan of a tape counts what reading it gives: what the scan says of the rest of a tape is what `readOn` says of it.
+-- Assumes nothing.
+use Prim.Native.Nat.{ℕ, zero, suc, _+_, _-_, _≤_, _<_}
+use mathlib.Core.Path.{_≡_, refl, sym, _∙_, ap}
+use mathlib.Core.Logic.{inl, inr}
+use mathlib.Core.Bool.{Bool, true, false, cond}
+use mathlib.Core.List.{List, []}
+use mathlib.Core.Option.{none, some}
+use native.Mathlib.Omega.{arith}
+use lib.Dec.{eqb, ltb}
+use lib.ListN.{length, getD, drop, length-drop, drop-of-length-le}
+use lib.Seq.{drop-drop}
+use borrow.Author.Tests.{eq-eqb, ne-eqb, eqb-true, le-ltb, ltb-false}
+use Rattle.laws.proofs.Logic.{decide, bool-ext, cond-true, cond-false}
+use Rattle.command.specs.declared.Operands.{Operands}
+use Rattle.command.specs.Code.{shapeOf, lengthOf}
+use Rattle.graph.specs.Graph.{Node, entry, merge}
+use Rattle.tape.specs.declared.Record.{Record}
+use Rattle.tape.specs.declared.Record.the-variants.{Start, Entry, Merge, Head, End, Broken}
+use Rattle.tape.specs.declared.scan.Scanned.{Scanned}
+use Rattle.tape.specs.declared.scan.Scanned.the-variants as scanned-is
+use Rattle.tape.specs.Record.{recordIn, recordLength, recordFrom}
+use Rattle.tape.specs.Tape.{Content, Stage, inVersions, inHeads, goOn, finish, refuse, afterRecord, readOn, readFrom, contentOf, withVersion, withHead}
+use Rattle.tape.specs.Reader.{placeAfter, scannedOf, kindOf, scanOn}
+use Rattle.tape.proofs.Records.{unknown}
+use Rattle.tape.proofs.Reading.{read-step}
+
+-- a record that is there takes at least a byte, and is there whole
+lengthless : (c : ℕ) (o : Operands) → lengthOf (shapeOf c) ≡ 0 → recordFrom c o ≡ Broken
+unfolding shapeOf lengthOf
+lengthless c o h =
+    unknown c o (λ e. let z = rw e at h in omega arith) (λ e. let z = rw e at h in omega arith) (λ e. let z = rw e at h in omega arith)
+    (λ e. let z = rw e at h in omega arith) (λ e. let z = rw e at h in omega arith)
+
+-- what the place past a record is, where a record is there
+record Past (t : List ℕ) : Type 0 where
+  whole : recordLength t ≤ length t
+  long : 0 < recordLength t
+
+past : (t : List ℕ) → (recordIn t ≡ Broken → ⊥) → Past t
+unfolding recordIn
+past t there =
+    elim (decide (ltb (length t) (recordLength t))) [
+      | inl s ↦ absurd (there (cond-true _ _ _ s))
+      | inr l ↦ record {
+        whole = ltb-false _ _ l;
+        long = nonzero (recordLength t) (λ z. there (cond-false _ _ _ l ∙ lengthless (getD t 0 0) _ z));
+      }
+    ]
+  where
+    nonzero : (n : ℕ) → (n ≡ 0 → ⊥) → 0 < n
+    nonzero n h = omega arith
+
+-- a record that the scan does not refuse is there
+there : (x : Record) (heads : ℕ) → (kindOf x heads ≡ 0 → ⊥) → x ≡ Broken → ⊥
+unfolding kindOf
+there x heads h e = h (rw e)
+
+-- one step of the scan, by what the record at the front is to it
+module _ (k capacity versions heads : ℕ) (rest : List ℕ) (kind : ℕ) (e : kind ≡ kindOf (recordIn rest) heads) where
+  scan-refused : kind ≡ 0 → scanOn (suc k) capacity versions heads rest ≡ scanned-is.Broken
+  unfolding scanOn
+  scan-refused z = rw (← e, z)
+
+  scan-ended : kind ≡ 3
+      → scanOn (suc k) capacity versions heads rest
+      ≡ cond (eqb (length rest) (recordLength rest)) (scanned-is.Whole capacity versions heads) scanned-is.Broken
+  unfolding scanOn
+  scan-ended z = rw (← e, z)
+
+  scan-more : (kind ≡ 0 → ⊥) → (kind ≡ 3 → ⊥)
+      → scanOn (suc k) capacity versions heads rest
+      ≡ scanOn k capacity (versions + (2 - kind)) (heads + (kind - 1)) (drop (recordLength rest) rest)
+  unfolding scanOn
+  scan-more z f = rw (← e, ne-eqb kind 0 z, ne-eqb kind 3 f)
+
+-- at the end of the tape there is no record
+scan-nothing : (k capacity versions heads : ℕ) → scanOn k capacity versions heads [] ≡ scanned-is.Broken
+unfolding scanOn recordIn recordFrom shapeOf lengthOf kindOf
+scan-nothing zero capacity versions heads = refl
+scan-nothing (suc k) capacity versions heads = refl
+
+-- the stage of reading goes by whether a head was read
+abbrev Staged : Stage → Content → Type 0
+Staged inVersions t = length (t .heads) ≡ 0
+Staged inHeads t = 0 < length (t .heads)
+
+-- what the scan makes of a content that was read so far and the rest
+abbrev scanFrom : ℕ → Content → List ℕ → Scanned
+scanFrom k t rest = scanOn k (t .capacity) (length (t .versions)) (length (t .heads)) rest
+
+abbrev Scans : ℕ → Type 0
+Scans k = (stage : Stage) (t : Content) (rest : List ℕ) → Staged stage t → scannedOf (readOn k stage t rest) ≡ scanFrom k t rest
+
+module _ (k : ℕ) (later : Scans k) (stage : Stage) (t : Content) (rest : List ℕ) where
+  abbrev Agree : Type 0
+  Agree = scannedOf (readOn (suc k) stage t rest) ≡ scanFrom (suc k) t rest
+
+  refuses : afterRecord stage t (recordIn rest) ≡ refuse → 0 ≡ kindOf (recordIn rest) (length (t .heads)) → Agree
+  refuses a e = ap scannedOf (read-step k stage t rest refuse a) ∙ sym (scan-refused k _ _ _ rest 0 e refl)
+
+  finishes : afterRecord stage t (recordIn rest) ≡ finish → 3 ≡ kindOf (recordIn rest) (length (t .heads)) → Agree
+  finishes a e =
+      ap scannedOf (read-step k stage t rest finish a) ∙ answer (eqb (length rest) (recordLength rest)) ∙ sym (scan-ended k _ _ _ rest 3 e refl)
+    where
+      answer : (b : Bool)
+          → scannedOf (cond b (some t) none) ≡ cond b (scanned-is.Whole (t .capacity) (length (t .versions)) (length (t .heads))) scanned-is.Broken
+      answer true = refl
+      answer false = refl
+
+  goes-version : (n : Node) → afterRecord stage t (recordIn rest) ≡ goOn inVersions (withVersion t n)
+      → 1 ≡ kindOf (recordIn rest) (length (t .heads)) → length (t .heads) ≡ 0 → Agree
+  goes-version n a e none-yet =
+      ap scannedOf (read-step k stage t rest (goOn inVersions (withVersion t n)) a) ∙ later inVersions (withVersion t n) _ none-yet
+      ∙ counts ∙ sym (scan-more k _ _ _ rest 1 e (omega arith) (omega arith))
+    where
+      counts : scanOn k (t .capacity) (suc (length (t .versions))) (length (t .heads)) (drop (recordLength rest) rest)
+          ≡ scanOn k (t .capacity) (length (t .versions) + (2 - 1)) (length (t .heads) + (1 - 1)) (drop (recordLength rest) rest)
+      counts =
+          let v : suc (length (t .versions)) ≡ length (t .versions) + (2 - 1) = omega arith in
+          let h : length (t .heads) ≡ length (t .heads) + (1 - 1) = omega arith in cc
+
+  goes-head : (c v : ℕ) → afterRecord stage t (recordIn rest) ≡ goOn inHeads (withHead t c v)
+      → 2 ≡ kindOf (recordIn rest) (length (t .heads)) → Agree
+  goes-head c v a e =
+      ap scannedOf (read-step k stage t rest (goOn inHeads (withHead t c v)) a) ∙ later inHeads (withHead t c v) _ (omega arith)
+      ∙ counts ∙ sym (scan-more k _ _ _ rest 2 e (omega arith) (omega arith))
+    where
+      counts : scanOn k (t .capacity) (length (t .versions)) (suc (length (t .heads))) (drop (recordLength rest) rest)
+          ≡ scanOn k (t .capacity) (length (t .versions) + (2 - 2)) (length (t .heads) + (2 - 1)) (drop (recordLength rest) rest)
+      counts =
+          let n : length (t .versions) ≡ length (t .versions) + (2 - 2) = omega arith in
+          let h : suc (length (t .heads)) ≡ length (t .heads) + (2 - 1) = omega arith in cc
+
+agrees : (k : ℕ) → Scans k → (stage : Stage) (t : Content) (rest : List ℕ) (x : Record) → recordIn rest ≡ x → Staged stage t
+    → scannedOf (readOn (suc k) stage t rest) ≡ scanFrom (suc k) t rest
+unfolding afterRecord kindOf
+agrees k later inVersions t rest (Start capacity) e st = refuses k later inVersions t rest (rw e) (rw e)
+agrees k later inVersions t rest (Entry parent code strip operand) e st =
+    goes-version k later inVersions t rest (entry (parent .0) code (strip .0) operand) (rw e) (rw (e, st)) st
+agrees k later inVersions t rest (Merge receiver giver) e st =
+    goes-version k later inVersions t rest (merge (receiver .0) (giver .0)) (rw e) (rw (e, st)) st
+agrees k later inVersions t rest (Head console version) e st = goes-head k later inVersions t rest (console .0) (version .0) (rw e) (rw e)
+agrees k later inVersions t rest End e st = refuses k later inVersions t rest (rw e) (rw (e, st))
+agrees k later inVersions t rest Broken e st = refuses k later inVersions t rest (rw e) (rw e)
+agrees k later inHeads t rest (Start capacity) e st = refuses k later inHeads t rest (rw e) (rw e)
+agrees k later inHeads t rest (Entry parent code strip operand) e st =
+    refuses k later inHeads t rest (rw e) (rw (e, ne-eqb (length (t .heads)) 0 (omega arith)))
+agrees k later inHeads t rest (Merge receiver giver) e st =
+    refuses k later inHeads t rest (rw e) (rw (e, ne-eqb (length (t .heads)) 0 (omega arith)))
+agrees k later inHeads t rest (Head console version) e st = goes-head k later inHeads t rest (console .0) (version .0) (rw e) (rw e)
+agrees k later inHeads t rest End e st = finishes k later inHeads t rest (rw e) (rw (e, ne-eqb (length (t .heads)) 0 (omega arith)))
+agrees k later inHeads t rest Broken e st = refuses k later inHeads t rest (rw e) (rw e)
+
+scans : (k : ℕ) → Scans k
+unfolding readOn scanOn
+scans zero stage t rest st = refl
+scans (suc k) stage t rest st = agrees k (scans k) stage t rest (recordIn rest) refl st
+
+-- the scan of a whole tape
+pub scan-started : (t : List ℕ) (capacity next : ℕ) (x : Record) → x ≡ recordIn t → x ≡ Start capacity → next ≡ placeAfter t 0 → (r : Scanned)
+    → r ≡ scanOn (length t) capacity 0 0 (drop next t) → r ≡ scannedOf (contentOf t)
+unfolding contentOf
+scan-started t capacity next x e start n r h =
+    let there : recordIn t ≡ Start capacity = sym e ∙ start in
+    let place : next ≡ recordLength t = n ∙ ahead t (past t (λ b. different capacity (sym there ∙ b))) in
+    h ∙ ap (λ (k : ℕ). scanOn (length t) capacity 0 0 (drop k t)) place
+    ∙ sym (scans (length t) inVersions (record { capacity = capacity; versions = []; heads = [] }) (drop (recordLength t) t) refl)
+    ∙ ap (λ (y : Record). scannedOf (readFrom (length t) (drop (recordLength t) t) y)) (sym there)
+  where
+    different : (capacity : ℕ) → Start capacity ≡ Broken → ⊥
+    different capacity d = let z : _≡_ {A = ℕ} 0 1 = cc in omega arith
+
+    ahead : (t : List ℕ) → Past t → placeAfter t 0 ≡ recordLength t
+    ahead t p = rw (le-ltb (length t) (recordLength t) (p .whole)) (omega arith)
+
+-- a record that does not start a tape
+abbrev pub NoStart : Record → Type 0
+NoStart (Start capacity) = ⊥
+NoStart (Entry parent code strip operand) = Unit {0}
+NoStart (Merge receiver giver) = Unit {0}
+NoStart (Head console version) = Unit {0}
+NoStart End = Unit {0}
+NoStart Broken = Unit {0}
+
+pub scan-unstarted : (t : List ℕ) (x y : Record) → x ≡ recordIn t → x ≡ y → NoStart y → scanned-is.Broken ≡ scannedOf (contentOf t)
+unfolding contentOf
+scan-unstarted t x y e f no-start = rw (← e, f) (none-read y no-start)
+  where
+    none-read : (y : Record) → NoStart y → scanned-is.Broken ≡ scannedOf (readFrom (length t) (drop (recordLength t) t) y)
+    none-read (Start capacity) n = absurd n
+    none-read (Entry parent code strip operand) n = refl
+    none-read (Merge receiver giver) n = refl
+    none-read (Head console version) n = refl
+    none-read End n = refl
+    none-read Broken n = refl
+
+small : (b : Bool) (m n : ℕ) → m ≤ 3 → n ≤ 3 → cond b m n ≤ 3
+small true m n h l = h
+small false m n h l = l
+
+-- what a record is to the scan is one of four
+pub kind-small : (x : Record) (heads : ℕ) → kindOf x heads ≤ 3
+unfolding kindOf
+kind-small (Start capacity) heads = omega arith
+kind-small (Entry parent code strip operand) heads = small (eqb heads 0) 1 0 (omega arith) (omega arith)
+kind-small (Merge receiver giver) heads = small (eqb heads 0) 1 0 (omega arith) (omega arith)
+kind-small (Head console version) heads = omega arith
+kind-small End heads = small (eqb heads 0) 0 3 (omega arith) (omega arith)
+kind-small Broken heads = omega arith
+
+-- the loop: what is left to scan, with what was counted, is what was to scan at the start
+pub record Scanning (t : List ℕ) (start capacity at versions heads : ℕ) : Type 0 where
+  pub within : at ≤ length t
+  pub passed : versions + heads ≤ at
+  pub same : scanOn (length t) capacity 0 0 (drop start t) ≡ scanOn (length t - (versions + heads)) capacity versions heads (drop at t)
+
+pub scanning-starts : (t : List ℕ) (start capacity : ℕ) → start ≤ length t → Scanning t start capacity start 0 0
+scanning-starts t start capacity h = record { within = h; passed = omega arith; same = ap (λ (k : ℕ). scanOn k capacity 0 0 (drop start t)) (omega arith) }
+
+module _ (t : List ℕ) (start capacity at versions heads : ℕ) (i : Scanning t start capacity at versions heads) where
+  -- no byte is left
+  pub scanning-out : length t ≤ at → scanned-is.Broken ≡ scanOn (length t) capacity 0 0 (drop start t)
+  scanning-out h = sym (i .same ∙ rw (drop-of-length-le t h) (scan-nothing _ capacity versions heads))
+
+  module _ (more : at < length t) (x : Record) (e : x ≡ recordIn (drop at t)) (kind : ℕ) (is : kind ≡ kindOf x heads) where
+    fuel : length t - (versions + heads) ≡ suc (length t - suc (versions + heads))
+    fuel = let p = i .passed in omega arith
+
+    sort : kind ≡ kindOf (recordIn (drop at t)) heads
+    sort = rw e at is
+
+    step : (y : Scanned) → scanOn (suc (length t - suc (versions + heads))) capacity versions heads (drop at t) ≡ y
+        → scanOn (length t) capacity 0 0 (drop start t) ≡ y
+    step y h = i .same ∙ ap (λ (k : ℕ). scanOn k capacity versions heads (drop at t)) fuel ∙ h
+
+    pub scanning-refused : kind ≡ 0 → scanned-is.Broken ≡ scanOn (length t) capacity 0 0 (drop start t)
+    scanning-refused z = sym (step _ (scan-refused _ _ _ _ _ kind sort z))
+
+    module _ (unrefused : kind ≡ 0 → ⊥) (next : ℕ) (n : next ≡ placeAfter t at) where
+      here : Past (drop at t)
+      here = past (drop at t) (there (recordIn (drop at t)) heads (λ z. unrefused (sort ∙ z)))
+
+      ahead : next ≡ at + recordLength (drop at t)
+      ahead = n ∙ rw (le-ltb (length (drop at t)) (recordLength (drop at t)) (here .whole))
+
+      pub scanning-forth : at < next
+      scanning-forth = omega (arith, ahead, here .long)
+
+      pub scanning-ended : kind ≡ 3 → (y : Scanned) → y ≡ cond (eqb next (length t)) (scanned-is.Whole capacity versions heads) scanned-is.Broken
+          → y ≡ scanOn (length t) capacity 0 0 (drop start t)
+      scanning-ended z y h =
+          h ∙ ap (λ (b : Bool). cond b (scanned-is.Whole capacity versions heads) scanned-is.Broken) last ∙ sym (step _ (scan-ended _ _ _ _ _ kind sort z))
+        where
+          last : eqb next (length t) ≡ eqb (length (drop at t)) (recordLength (drop at t))
+          last =
+              bool-ext _ _
+              (λ p. eq-eqb (length (drop at t)) (recordLength (drop at t)) (omega (arith, eqb-true next (length t) p, ahead, length-drop at t)))
+              (λ p. eq-eqb next (length t) (omega (arith, eqb-true (length (drop at t)) (recordLength (drop at t)) p, ahead, length-drop at t, i .within)))
+
+      pub scanning-more : (kind ≡ 3 → ⊥) → next ≤ length t → Scanning t start capacity next (versions + (2 - kind)) (heads + (kind - 1))
+      scanning-more f w = record {
+        within = w;
+        passed = omega (arith, i .passed, scanning-forth, bound);
+        same = step _ (scan-more _ _ _ _ _ kind sort unrefused f ∙ on);
+      }
+        where
+          bound : kind ≤ 3
+          bound = rw is (kind-small x heads)
+
+          on : scanOn (length t - suc (versions + heads)) capacity (versions + (2 - kind)) (heads + (kind - 1)) (drop (recordLength (drop at t)) (drop at t))
+              ≡ scanOn (length t - (versions + (2 - kind) + (heads + (kind - 1)))) capacity (versions + (2 - kind)) (heads + (kind - 1)) (drop next t)
+          on =
+              let k : length t - suc (versions + heads) ≡ length t - (versions + (2 - kind) + (heads + (kind - 1))) = omega (arith, bound) in
+              let d : drop (recordLength (drop at t)) (drop at t) ≡ drop next t = drop-drop (recordLength (drop at t)) at t ∙ ap (λ (m : ℕ). drop m t) (sym ahead) in
+              cc

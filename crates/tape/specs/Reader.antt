@@ -1,0 +1,65 @@
+-- "The reading place moves past one whole record at a time."
+use Prim.Native.Nat.{ℕ, zero, suc, _+_, _-_, _*_}
+use mathlib.Core.Bool.{cond}
+use mathlib.Core.List.{List}
+use mathlib.Core.Option.{Option, none, some}
+use lib.Dec.{eqb, ltb}
+use lib.ListN.{length, getD, drop}
+use Rattle.graph.specs.Graph.{Graph, Node, merge}
+use Rattle.tape.specs.declared.Record.{Record}
+use Rattle.tape.specs.declared.Record.the-variants as record-is
+use Rattle.tape.specs.declared.scan.Scanned.{Scanned}
+use Rattle.tape.specs.declared.scan.Scanned.the-variants.{Whole, Broken}
+use Rattle.tape.specs.Record.{recordIn, recordLength}
+use Rattle.tape.specs.Tape.{Content, versionRecords}
+
+-- the place past the record at a place; where no whole record stands there, the place itself
+abbrev pub placeAfter : List ℕ → ℕ → ℕ
+placeAfter t at = cond (ltb (length (drop at t)) (recordLength (drop at t))) at (at + recordLength (drop at t))
+
+-- the first k versions after version 0 of a graph, the newest first
+abbrev pub firstVersions : ℕ → Graph → Graph
+firstVersions k g = drop (length g - k) g
+
+-- the node of version suc k, for where there is one
+abbrev pub nextNode : Graph → ℕ → Node
+nextNode g k = getD g (length g - suc k) (merge 0 0)
+
+-- the first j heads of a tape, the last first
+abbrev pub firstHeads : ℕ → List (ℕ × ℕ) → List (ℕ × ℕ)
+firstHeads j heads = drop (length heads - j) heads
+
+-- console and version of head number j, from the front of the tape, for where there is one
+abbrev pub nextHead : List (ℕ × ℕ) → ℕ → ℕ × ℕ
+nextHead heads j = getD heads (length heads - suc j) (0, 0)
+
+-- the place of the record of version suc k
+abbrev pub versionPlace : Graph → ℕ → ℕ
+versionPlace g k = 3 + length (versionRecords (firstVersions k g))
+
+-- the place of the head record number j
+abbrev pub headPlace : Content → ℕ → ℕ
+headPlace t j = versionPlace (t .versions) (length (t .versions)) + 4 * j
+
+-- the scan's answer: the tape's capacity, and how many versions and heads it has, where it "is such a sequence of whole records"
+abbrev pub scannedOf : Option Content → Scanned
+scannedOf none = Broken
+scannedOf (some t) = Whole (t .capacity) (length (t .versions)) (length (t .heads))
+
+-- what a record is to the scan after so many heads: 0 one that may not stand there, 1 a version, 2 a head, 3 the end
+unfoldable pub kindOf : Record → ℕ → ℕ
+kindOf (record-is.Start capacity) heads = 0
+kindOf (record-is.Entry parent code strip operand) heads = cond (eqb heads 0) 1 0
+kindOf (record-is.Merge receiver giver) heads = cond (eqb heads 0) 1 0
+kindOf (record-is.Head console version) heads = 2
+kindOf record-is.End heads = cond (eqb heads 0) 0 3
+kindOf record-is.Broken heads = 0
+
+-- the scan of the rest of a tape, with so many versions and heads behind it; the first number bounds the records, as in `readOn`
+unfoldable pub scanOn : ℕ → ℕ → ℕ → ℕ → List ℕ → Scanned
+scanOn zero capacity versions heads rest = Broken
+scanOn (suc k) capacity versions heads rest =
+    let kind : ℕ = kindOf (recordIn rest) heads in
+    let on : Scanned = scanOn k capacity (versions + (2 - kind)) (heads + (kind - 1)) (drop (recordLength rest) rest) in
+    cond (eqb kind 0) Broken
+    (cond (eqb kind 3) (cond (eqb (length rest) (recordLength rest)) (Whole capacity versions heads) Broken) on)
