@@ -1,0 +1,4 @@
+pub mod Grown
+pub mod Piled
+pub mod Pieces
+pub mod Tapes

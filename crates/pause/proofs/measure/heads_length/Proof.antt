@@ -1,0 +1,52 @@
+-- `pause::measure::heads_length` meets its contract. The loop's invariant is `Counted`: the sum is the length of the head records before c.
+-- Assumes nothing.
+use native.Mathlib.Omega.{arith}
+use Prim.Native.Nat.{_-_}
+use Rattle.command.specs.Code.{consoleCount}
+use Rattle.pause.specs.Pieces.{headPieces}
+use Rattle.pause.proofs.Piled.{Counted, counted-none, counted-more, counted-all}
+use Rattle.pause.proofs.Pieces.{head-pieces}
+use Rattle.pause.proofs.measure.heads_length.Statement.{statement}
+use Rattle.pause.proofs.measure.heads_length.Tie as tie
+
+abbrev Inv-loop : tie.InvT-loop
+Inv-loop s sum₀ c₀ sum c = Counted (headPieces s) consoleCount c sum
+
+abbrev μ-loop : tie.MeasureT-loop
+μ-loop s sum₀ c₀ sum c = consoleCount - c
+
+loop-holds : tie.Need-loop-holds Inv-loop μ-loop
+loop-holds c = counted-none (head-pieces (c .before .args .s .now)) consoleCount
+
+head-length-requires : tie.Need-head-length-requires Inv-loop μ-loop
+head-length-requires c κs = omega arith
+
+add-sum : tie.Need-add-sum Inv-loop μ-loop
+add-sum c = omega arith
+
+add-c : tie.Need-add-c Inv-loop μ-loop
+add-c c = omega arith
+
+loop-less : tie.Need-loop-less Inv-loop μ-loop
+loop-less c = omega arith
+
+loop-again : tie.Need-loop-again Inv-loop μ-loop
+loop-again c =
+    counted-more (head-pieces (c .before .before .before .before .args .s .now)) (c .before .before .loop .inv) (c .before .loop-test .taken) (c .head-length .ensures .0) (c .head-length .ensures .1)
+
+returns : tie.Need-returns Inv-loop μ-loop
+returns c = counted-all (c .before .loop .inv) (omega arith)
+
+pub heads-length-spec : {M : Type 1} → statement M
+heads-length-spec =
+    tie.close
+    (tie.spec
+    Inv-loop
+    μ-loop
+    loop-holds
+    head-length-requires
+    add-sum
+    add-c
+    loop-less
+    loop-again
+    returns)

@@ -1,0 +1,47 @@
+-- `pause::record::put_merge` meets its contract.
+-- Assumes nothing.
+use native.Mathlib.Omega.{arith}
+use mathlib.Core.List.{[], _∷_}
+use Rattle.buffer.specs.Field.{word}
+use Rattle.tape.specs.Record.{recordBytes}
+use Rattle.pause.proofs.Grown.{grown-one, grown-more}
+use Rattle.pause.proofs.record.put_merge.Statement.{statement}
+use Rattle.pause.proofs.record.put_merge.Tie as tie
+
+put-byte-requires : tie.Need-put-byte-requires
+put-byte-requires c κs = omega arith
+
+add-put-field : tie.Need-add-put-field
+add-put-field c = omega arith
+
+put-field-requires : tie.Need-put-field-requires
+put-field-requires c κs = omega arith
+
+add-put-field-2 : tie.Need-add-put-field-2
+add-put-field-2 c = omega arith
+
+put-field-requires-2 : tie.Need-put-field-requires-2
+put-field-requires-2 c κs = omega arith
+
+same-length : tie.Need-same-length
+same-length c = omega arith
+
+returns : tie.Need-returns
+unfolding recordBytes
+returns c =
+    let a = c .before .before .before .before .before .before .before .before .before .before .before .before .before .args in
+    let g1 = grown-one {new = 0x22 ∷ []} (c .before .before .before .before .before .before .before .before .before .before .put-byte .ensures) (omega arith) in
+    let g2 = grown-more (word (a .receiver)) g1 (c .before .before .before .before .before .before .put-field .ensures) (omega arith) (omega arith) in
+    (grown-more (word (a .giver)) g2 (c .before .before .put-field2 .ensures) (omega arith) (omega arith)) .reads
+
+pub put-merge-spec : {M : Type 1} → statement M
+put-merge-spec =
+    tie.close
+    (tie.spec
+    put-byte-requires
+    add-put-field
+    put-field-requires
+    add-put-field-2
+    put-field-requires-2
+    same-length
+    returns)

@@ -1,0 +1,50 @@
+-- `pause::tape_length` meets its contract.
+-- Assumes nothing.
+use native.Mathlib.Omega.{arith}
+use Prim.Native.Nat.{_-_}
+use Rattle.store.proofs.Whole.{whole-header, whole-block}
+use Rattle.pause.proofs.Tapes.{tape-size}
+use Rattle.pause.proofs.tape_length.Statement.{statement}
+use Rattle.pause.proofs.tape_length.Tie as tie
+
+version-count-requires : tie.Need-version-count-requires
+version-count-requires c κs = c .before .pre
+
+sub-versions-length : tie.Need-sub-versions-length
+sub-versions-length c = omega arith
+
+versions-length-requires : tie.Need-versions-length-requires
+versions-length-requires c κs =
+    let s = c .before .before .args .s .now in
+    (omega arith, whole-block s (c .before .before .pre) (c .version-count .result - 1) (omega arith))
+
+add-result : tie.Need-add-result
+add-result c = omega arith
+
+heads-length-requires : tie.Need-heads-length-requires
+heads-length-requires c κs = whole-header (c .before .before .before .args .s .now) (c .before .before .before .pre)
+
+add-result-2 : tie.Need-add-result-2
+add-result-2 c = omega arith
+
+add-result-3 : tie.Need-add-result-3
+add-result-3 c = omega arith
+
+returns : tie.Need-returns
+returns c =
+    let s = c .before .before .before .before .args .s .now in
+    let n = c .before .before .version-count .result - 1 in
+    omega (arith, tape-size s n (omega arith))
+
+pub tape-length-spec : {M : Type 1} → statement M
+tape-length-spec =
+    tie.close
+    (tie.spec
+    version-count-requires
+    sub-versions-length
+    versions-length-requires
+    add-result
+    heads-length-requires
+    add-result-2
+    add-result-3
+    returns)

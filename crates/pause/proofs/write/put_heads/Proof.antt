@@ -1,0 +1,54 @@
+-- `pause::write::put_heads` meets its contract. The loop's invariant is `Piled`: the head records before c are written.
+-- Assumes nothing.
+use native.Mathlib.Omega.{arith}
+use Prim.Native.Nat.{_-_}
+use Rattle.command.specs.Code.{consoleCount}
+use Rattle.pause.specs.Pieces.{headPieces}
+use Rattle.pause.proofs.Piled.{Piled, piled-none, piled-fits, piled-more, piled-all}
+use Rattle.pause.proofs.Pieces.{head-pieces}
+use Rattle.pause.proofs.write.put_heads.Statement.{statement}
+use Rattle.pause.proofs.write.put_heads.Tie as tie
+
+abbrev Inv-loop : tie.InvT-loop
+Inv-loop s tape₀ from at₀ c₀ tape at c = Piled (headPieces s) tape₀ from consoleCount c at tape
+
+abbrev μ-loop : tie.MeasureT-loop
+μ-loop s tape₀ from at₀ c₀ tape at c = consoleCount - c
+
+loop-holds : tie.Need-loop-holds Inv-loop μ-loop
+loop-holds c = piled-none (head-pieces (c .before .before .args .s .now)) _ _ consoleCount (c .before .before .pre .1)
+
+put-console-requires : tie.Need-put-console-requires Inv-loop μ-loop
+put-console-requires c κs =
+    ((omega arith, omega arith), piled-fits (head-pieces (c .before .before .before .before .before .args .s .now)) (c .before .before .loop .inv) (c .before .loop-test .taken))
+
+add-c : tie.Need-add-c Inv-loop μ-loop
+add-c c = omega arith
+
+loop-less : tie.Need-loop-less Inv-loop μ-loop
+loop-less c = omega arith
+
+loop-again : tie.Need-loop-again Inv-loop μ-loop
+loop-again c =
+    let call = c .before .before in
+    piled-more (head-pieces (call .before .before .before .before .before .before .args .s .now)) (call .before .before .before .loop .inv) (call .before .before .loop-test .taken) (call .put-console .ensures .0) (call .put-console .ensures .1)
+
+same-length : tie.Need-same-length Inv-loop μ-loop
+same-length c = c .before .loop .inv .grown .kept
+
+returns : tie.Need-returns Inv-loop μ-loop
+returns c = piled-all (c .before .loop .inv) (omega arith)
+
+pub put-heads-spec : {M : Type 1} → statement M
+put-heads-spec =
+    tie.close
+    (tie.spec
+    Inv-loop
+    μ-loop
+    loop-holds
+    put-console-requires
+    add-c
+    loop-less
+    loop-again
+    same-length
+    returns)

@@ -1,0 +1,57 @@
+-- `pause::write::put_versions` meets its contract. The loop's invariant is `Piled`: the first k records are written.
+-- Assumes nothing.
+use native.Mathlib.Omega.{arith}
+use Prim.Native.Nat.{_-_}
+use Rattle.pause.specs.Pieces.{versionPieces}
+use Rattle.pause.proofs.Piled.{Piled, piled-none, piled-fits, piled-more, piled-all}
+use Rattle.pause.proofs.Pieces.{version-pieces}
+use Rattle.pause.proofs.write.put_versions.Statement.{statement}
+use Rattle.pause.proofs.write.put_versions.Tie as tie
+
+abbrev Inv-loop : tie.InvT-loop
+Inv-loop s n tape₀ from at₀ k₀ tape at k = Piled (versionPieces s) tape₀ from n k at tape
+
+abbrev μ-loop : tie.MeasureT-loop
+μ-loop s n tape₀ from at₀ k₀ tape at k = n - k
+
+loop-holds : tie.Need-loop-holds Inv-loop μ-loop
+loop-holds c = piled-none (version-pieces (c .before .before .args .s .now)) _ _ _ (c .before .before .pre .1)
+
+add-put-version : tie.Need-add-put-version Inv-loop μ-loop
+add-put-version c = omega arith
+
+put-version-requires : tie.Need-put-version-requires Inv-loop μ-loop
+put-version-requires c κs =
+    ((omega arith, omega arith), piled-fits (version-pieces (c .before .before .before .before .before .args .s .now)) (c .before .before .loop .inv) (c .before .loop-test .taken))
+
+add-k : tie.Need-add-k Inv-loop μ-loop
+add-k c = omega arith
+
+loop-less : tie.Need-loop-less Inv-loop μ-loop
+loop-less c = omega arith
+
+loop-again : tie.Need-loop-again Inv-loop μ-loop
+loop-again c =
+    let call = c .before .before in
+    piled-more (version-pieces (call .before .before .before .before .before .before .args .s .now)) (call .before .before .before .loop .inv) (call .before .before .loop-test .taken) (call .put-version .ensures .0) (call .put-version .ensures .1)
+
+same-length : tie.Need-same-length Inv-loop μ-loop
+same-length c = c .before .loop .inv .grown .kept
+
+returns : tie.Need-returns Inv-loop μ-loop
+returns c = piled-all (c .before .loop .inv) (omega arith)
+
+pub put-versions-spec : {M : Type 1} → statement M
+put-versions-spec =
+    tie.close
+    (tie.spec
+    Inv-loop
+    μ-loop
+    loop-holds
+    add-put-version
+    put-version-requires
+    add-k
+    loop-less
+    loop-again
+    same-length
+    returns)
