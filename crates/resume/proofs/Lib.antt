@@ -1,0 +1,17 @@
+pub mod Follows
+pub mod Passed
+pub mod Highest
+pub mod Meets
+pub mod Grown
+pub mod VersionsWritten
+pub mod StoreWritten
+pub mod Appendable
+pub mod TableSteps
+pub mod HeadSlots
+pub mod HeadMeets
+pub mod HeadRows
+pub mod Reread
+pub mod Parents
+pub mod HeadsJudged
+pub mod RoomJudged
+pub mod Resumes

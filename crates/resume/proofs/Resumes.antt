@@ -1,0 +1,80 @@
+-- The answer of resume, test by test in their order, and the lent buffer with it.
+-- Assumes nothing.
+use mathlib.Core.Path.{_≡_, refl, sym, ap, _∙_}
+use mathlib.Core.Bool.{true, false}
+use mathlib.Core.List.{List}
+use mathlib.Core.Option.{Option, none, some}
+use Prim.Native.Nat.{ℕ, _≤_, _<_}
+use native.Mathlib.Omega.{arith}
+use lib.Dec.{eqb}
+use lib.ListN.{length}
+use borrow.Author.Tests.{ne-eqb, eq-eqb, lt-ltb, le-ltb}
+use Rattle.laws.proofs.Logic.{cond-true, cond-false}
+use Rattle.buffer.specs.Field.{overwrite}
+use Rattle.command.specs.Refusal.{firstRefusal}
+use Rattle.room.specs.Sound.{isCapacity, soundRoom}
+use Rattle.store.specs.Layout.{storeSize, encode}
+use Rattle.tape.specs.declared.scan.Scanned.{Scanned}
+use Rattle.tape.specs.declared.scan.Scanned.the-variants.{Whole, Broken}
+use Rattle.tape.specs.Tape.{Content, roomOf, inRange}
+use Rattle.tape.specs.Reader.{scannedOf}
+use Rattle.resume.specs.Content.{told}
+use Rattle.resume.specs.Resumed.{resumeRefusal, resumedStore}
+
+-- what is answered, and what stands in the buffer then
+abbrev pub Resumed : Option Content → List ℕ → ℕ → List ℕ → Type 0
+Resumed o old n new = (n ≡ resumeRefusal o old) × (new ≡ resumedStore o old)
+
+-- of what a tape says, told in another way
+pub said-of : {o same : Option Content} (old : List ℕ) {new : List ℕ} {n : ℕ} → o ≡ same → Resumed same old n new → Resumed o old n new
+said-of old e h = rw e h
+
+-- a refusal leaves the buffer as it was
+refused : (o : Option Content) (old : List ℕ) (n : ℕ) → 0 < n → n ≡ resumeRefusal o old → Resumed o old n old
+unfolding resumedStore
+refused o old n l e = (e, sym (cond-false _ _ _ (ap (λ (k : ℕ). eqb k 0) (sym e) ∙ ne-eqb n 0 (omega arith))))
+
+pub no-tape : (old : List ℕ) → Resumed none old 7 old
+unfolding resumeRefusal
+no-tape old = refused none old 7 (omega arith) refl
+
+module _ (t : Content) (old : List ℕ) where
+  pub no-capacity : isCapacity (t .capacity) ≡ false → Resumed (some t) old 8 old
+  unfolding resumeRefusal firstRefusal
+  no-capacity a = refused (some t) old 8 (omega arith) (rw a)
+
+  module _ (a : isCapacity (t .capacity) ≡ true) where
+    pub out-of-range : inRange t ≡ false → Resumed (some t) old 9 old
+    unfolding resumeRefusal firstRefusal
+    out-of-range b = refused (some t) old 9 (omega arith) (rw (a, b))
+
+    module _ (b : inRange t ≡ true) where
+      pub unsound : soundRoom (roomOf t) ≡ false → Resumed (some t) old 10 old
+      unfolding resumeRefusal firstRefusal
+      unsound c = refused (some t) old 10 (omega arith) (rw (a, b, c))
+
+      module _ (c : soundRoom (roomOf t) ≡ true) where
+        pub too-short : length old < storeSize (t .capacity) → Resumed (some t) old 19 old
+        unfolding resumeRefusal firstRefusal
+        too-short l = refused (some t) old 19 (omega arith) (rw (a, b, c, lt-ltb (length old) (storeSize (t .capacity)) l))
+
+        pub resumed : storeSize (t .capacity) ≤ length old → {new : List ℕ} → new ≡ overwrite (encode (roomOf t)) old → Resumed (some t) old 0 new
+        unfolding resumeRefusal firstRefusal resumedStore
+        resumed l e =
+            let zero : 0 ≡ resumeRefusal (some t) old = rw (a, b, c, le-ltb (length old) (storeSize (t .capacity)) l) in
+            (zero, e ∙ sym (cond-true _ _ _ (eq-eqb (resumeRefusal (some t) old) 0 (sym zero))))
+
+-- what the scan says
+pub record Read (o : Option Content) (capacity versions heads : ℕ) : Type 0 where
+  pub whole : o ≡ some (told o)
+  pub capacity-is : capacity ≡ told o .capacity
+  pub versions-are : versions ≡ length (told o .versions)
+  pub heads-are : heads ≡ length (told o .heads)
+
+pub scan-read : (o : Option Content) {x : Scanned} {capacity versions heads : ℕ} → x ≡ scannedOf o → x ≡ Whole capacity versions heads → Read o capacity versions heads
+scan-read none e f = absurd (let z : _≡_ {A = ℕ} 0 1 = cc in omega arith)
+scan-read (some t) e f = record { whole = refl; capacity-is = cc; versions-are = cc; heads-are = cc }
+
+pub scan-broken : (o : Option Content) {x : Scanned} → x ≡ scannedOf o → x ≡ Broken → o ≡ none
+scan-broken none e f = refl
+scan-broken (some t) e f = absurd (let z : _≡_ {A = ℕ} 0 1 = cc in omega arith)

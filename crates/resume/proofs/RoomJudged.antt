@@ -1,0 +1,104 @@
+-- The room of a tape in range is sound exactly when the parents of each merge have a base, every two heads have a meet, and every version
+-- stands behind a head.
+-- Assumes nothing.
+use mathlib.Core.Path.{_≡_, refl, sym, ap, _∙_}
+use mathlib.Core.Bool.{Bool, true, false, _&&_}
+use mathlib.Core.List.{List, [], _∷_}
+use mathlib.Core.Option.{Option, none, some}
+use Prim.Native.Nat.{ℕ, _≤_}
+use native.Mathlib.Decide.{ℕ-discrete}
+use native.Mathlib.Omega.{arith}
+use lib.Dec.{leb, ltb}
+use lib.ListN.{length, getD}
+use lib.Seq.{getD-set-same, getD-set-other}
+use borrow.Author.Tests.{eqb-true, eq-eqb, leb-true, lt-ltb}
+use Rattle.laws.proofs.Logic.{clash, and-l, and-r}
+use Rattle.graph.specs.Graph.{Graph, versionCount, isSome, everyVersion, parentsLower, mergeHasBase}
+use Rattle.graph.proofs.Below.{of}
+use Rattle.command.specs.Code.{consoleCount, isConsole}
+use Rattle.room.specs.Room.{headOf}
+use Rattle.room.specs.Sound.{isCapacity, entryInRange, namesVersion, headsNameVersions, headsMeet, allBehindHeads, soundRoom}
+use Rattle.tape.specs.Tape.{Content, headSlots, roomOf, consolesRise, headsNamed, inRange}
+use Rattle.resume.proofs.HeadSlots.{headField, heads-diagonal, slots-length}
+
+-- what is in range of a tape's content
+pub record Ranged (t : Content) : Type 0 where
+  pub count : versionCount (t .versions) ≤ t .capacity
+  pub lower : everyVersion parentsLower (t .versions) ≡ true
+  pub ranged : everyVersion entryInRange (t .versions) ≡ true
+  pub rise : consolesRise (t .heads) ≡ true
+  pub named : headsNamed (t .versions) (t .heads) ≡ true
+
+pub in-range : (t : Content) → inRange t ≡ true → Ranged t
+in-range t h =
+    record {
+      count = leb-true (versionCount (t .versions)) (t .capacity) (search (and-l, and-r) depth 8);
+      lower = search (and-l, and-r) depth 8;
+      ranged = search (and-l, and-r) depth 8;
+      rise = search (and-l, and-r) depth 8;
+      named = search (and-l, and-r) depth 8;
+    }
+
+pub range-small : (t : Content) → isCapacity (t .capacity) ≡ true → Ranged t → versionCount (t .versions) ≤ 1024
+range-small t cap k =
+    let c = k .count in
+    omega (arith, leb-true (t .capacity) 1024 (and-r (leb 1 (t .capacity)) (leb (t .capacity) 1024) cap))
+
+-- console 0 is there
+first-present : (heads : List (ℕ × ℕ)) → consolesRise heads ≡ true → isSome (getD (headSlots heads) 0 none) ≡ true
+unfolding consolesRise headSlots
+first-present [] h = clash h refl
+first-present (x ∷ []) h =
+    ap isSome
+    (ap (λ (c : ℕ). getD (headSlots (x ∷ [])) c none) (sym (eqb-true (x .0) 0 h))
+    ∙ getD-set-same (headSlots []) (x .0) (some (x .1)) none (omega (arith, slots-length [], eqb-true (x .0) 0 h)))
+first-present (x ∷ (b ∷ rest)) h =
+    let before = headSlots (b ∷ rest) in
+    elim (ℕ-discrete 0 (x .0)) [
+      | yes e ↦
+          ap isSome
+          (ap (λ (c : ℕ). getD (headSlots (x ∷ (b ∷ rest))) c none) e
+          ∙ getD-set-same before (x .0) (some (x .1)) none (omega (arith, slots-length (b ∷ rest))))
+      | no d ↦
+          ap isSome (getD-set-other before (x .0) 0 (some (x .1)) none d)
+          ∙ first-present (b ∷ rest) (and-r (ltb (b .0) (x .0) && isConsole (x .0)) (consolesRise (b ∷ rest)) h)
+    ]
+
+named-field : (g : Graph) (o : Option ℕ) → headField o ≤ versionCount g → namesVersion g o ≡ true
+named-field g none l = refl
+named-field g (some v) l = lt-ltb v (versionCount g) l
+
+-- a chain of tests of which seven pass
+rest-passes : (b m h : Bool) → (true && b && true && true && m && true && h && true && true && true) ≡ b && m && h
+rest-passes false m h = refl
+rest-passes true false h = refl
+rest-passes true true false = refl
+rest-passes true true true = refl
+
+module _ (t : Content) (cap : isCapacity (t .capacity) ≡ true) (range : inRange t ≡ true) where
+  heads-name : headsNameVersions (roomOf t) ≡ true
+  heads-name =
+      let k = in-range t range in
+      let d = heads-diagonal t (k .rise) (k .named) in
+      of consoleCount (λ c. namesVersion (t .versions) (headOf (roomOf t) c)) (λ c l. named-field (t .versions) (headOf (roomOf t) c) (d .named c l))
+
+  pub room-judged : soundRoom (roomOf t) ≡ (everyVersion mergeHasBase (t .versions) && headsMeet (roomOf t) && allBehindHeads (roomOf t))
+  unfolding soundRoom
+  room-judged =
+      let k = in-range t range in
+      let sixteen = eq-eqb (length (headSlots (t .heads))) consoleCount (slots-length (t .heads)) in
+      let fits : leb (versionCount (t .versions)) (t .capacity) ≡ true = search (and-l, and-r) depth 8 in
+      rw (k .lower, sixteen, heads-name, first-present (t .heads) (k .rise), cap, fits, k .ranged)
+      (rest-passes (everyVersion mergeHasBase (t .versions)) (headsMeet (roomOf t)) (allBehindHeads (roomOf t)))
+
+  -- by the first of the three that fails, or by the last
+  module _ {based : Bool} (eb : based ≡ everyVersion mergeHasBase (t .versions)) where
+    pub versions-fail : based ≡ false → false ≡ soundRoom (roomOf t)
+    versions-fail h = sym (room-judged ∙ rw (sym eb ∙ h))
+
+    module _ (ok : based ≡ true) {met : Bool} (em : met ≡ headsMeet (roomOf t)) where
+      pub heads-fail : met ≡ false → false ≡ soundRoom (roomOf t)
+      heads-fail h = sym (room-judged ∙ rw (sym eb ∙ ok, sym em ∙ h))
+
+      pub behind-decides : met ≡ true → {last : Bool} → last ≡ allBehindHeads (roomOf t) → last ≡ soundRoom (roomOf t)
+      behind-decides h e = e ∙ sym (room-judged ∙ rw (sym eb ∙ ok, sym em ∙ h))

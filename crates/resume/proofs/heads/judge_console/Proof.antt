@@ -1,0 +1,73 @@
+-- `resume::heads::judge_console` meets its contract. The loop's invariant: the pairs of `c` with the consoles before `d` are written.
+-- Assumes nothing.
+use Prim.Native.Nat.{_-_}
+use native.Mathlib.Omega.{arith}
+use Rattle.resume.proofs.TableSteps.{Paired, paired-none, paired-own, paired-more, paired-all}
+use Rattle.resume.proofs.heads.judge_console.Statement.{statement}
+use Rattle.resume.proofs.heads.judge_console.Tie as tie
+
+abbrev Inv-loop : tie.InvT-loop
+Inv-loop rows table₀ c ok₀ d₀ table ok d = Paired rows table₀ c d table ok
+
+abbrev μ-loop : tie.MeasureT-loop
+μ-loop rows table₀ c ok₀ d₀ table ok d = c - d
+
+loop-holds : tie.Need-loop-holds Inv-loop μ-loop
+loop-holds c = paired-none _ _ _ (c .before .before .pre .1 .0)
+
+field-in-requires : tie.Need-field-in-requires Inv-loop μ-loop
+field-in-requires c κs = omega arith
+
+field-in-requires-2 : tie.Need-field-in-requires-2 Inv-loop μ-loop
+field-in-requires-2 c κs = omega arith
+
+judge-pair-requires : tie.Need-judge-pair-requires Inv-loop μ-loop
+judge-pair-requires c κs =
+    let turn = c .before .before .before .before .before .before in
+    let start = turn .before .before .before in
+    let a = start .args in
+    let own = start .pre .1 .1 .1 in
+    let n = start .pre .1 .1 .0 in
+    let p = turn .loop .inv in
+    let d = turn .loop .d in
+    let x = paired-own p n (a .c) n in
+    let y = paired-own p n d (omega arith) in
+    omega (arith, x, y, own (a .c) n, own d (omega arith))
+
+add-d : tie.Need-add-d Inv-loop μ-loop
+add-d c = omega arith
+
+loop-less : tie.Need-loop-less Inv-loop μ-loop
+loop-less c = omega arith
+
+loop-again : tie.Need-loop-again Inv-loop μ-loop
+loop-again c =
+    let call = c .before .before in
+    let second = call .before .before in
+    let first = second .before .before in
+    let turn = first .before .before in
+    let start = turn .before .before .before .before in
+    paired-more (turn .before .loop .inv) (start .pre .1 .1 .0) (turn .loop-test .taken) (first .field-in .ensures .0) (second .field-in2 .ensures .0)
+    (call .judge-pair .ensures .0) (call .judge-pair .ensures .1)
+
+same-length : tie.Need-same-length Inv-loop μ-loop
+same-length c = omega arith
+
+returns : tie.Need-returns Inv-loop μ-loop
+returns c = let turn = c .before in paired-all (turn .loop .inv) (turn .before .before .before .pre .1 .1 .0) (c .loop-test .left)
+
+pub judge-console-spec : {M : Type 1} → statement M
+judge-console-spec =
+    tie.close
+    (tie.spec
+    Inv-loop
+    μ-loop
+    loop-holds
+    field-in-requires
+    field-in-requires-2
+    judge-pair-requires
+    add-d
+    loop-less
+    loop-again
+    same-length
+    returns)

@@ -1,0 +1,54 @@
+-- `resume::heads::judge_table` meets its contract. The loop's invariant: the pairs of the consoles before `c` are written.
+-- Assumes nothing.
+use Prim.Native.Nat.{_-_}
+use native.Mathlib.Omega.{arith}
+use Rattle.command.specs.Code.{consoleCount}
+use Rattle.resume.proofs.TableSteps.{Tabled, tabled-none, tabled-own, tabled-more, tabled-all}
+use Rattle.resume.proofs.heads.judge_table.Statement.{statement}
+use Rattle.resume.proofs.heads.judge_table.Tie as tie
+
+abbrev Inv-loop : tie.InvT-loop
+Inv-loop rows table₀ ok₀ c₀ table ok c = Tabled rows table₀ c table ok
+
+abbrev μ-loop : tie.MeasureT-loop
+μ-loop rows table₀ ok₀ c₀ table ok c = consoleCount - c
+
+loop-holds : tie.Need-loop-holds Inv-loop μ-loop
+loop-holds c = tabled-none _ _ (c .before .before .pre .1 .0)
+
+judge-console-requires : tie.Need-judge-console-requires Inv-loop μ-loop
+judge-console-requires c κs =
+    let turn = c .before .before in
+    let own = turn .before .before .before .pre .1 .1 in
+    (omega arith, (omega arith, (omega arith, λ k l. omega (arith, tabled-own (turn .loop .inv) k l, own k l))))
+
+add-c : tie.Need-add-c Inv-loop μ-loop
+add-c c = omega arith
+
+loop-less : tie.Need-loop-less Inv-loop μ-loop
+loop-less c = omega arith
+
+loop-again : tie.Need-loop-again Inv-loop μ-loop
+loop-again c =
+    let call = c .before .before in
+    tabled-more (call .before .before .before .loop .inv) (omega arith) (call .judge-console .ensures .0) (call .judge-console .ensures .1)
+
+same-length : tie.Need-same-length Inv-loop μ-loop
+same-length c = omega arith
+
+returns : tie.Need-returns Inv-loop μ-loop
+returns c = tabled-all (c .before .loop .inv) (c .loop-test .left)
+
+pub judge-table-spec : {M : Type 1} → statement M
+judge-table-spec =
+    tie.close
+    (tie.spec
+    Inv-loop
+    μ-loop
+    loop-holds
+    judge-console-requires
+    add-c
+    loop-less
+    loop-again
+    same-length
+    returns)

@@ -1,0 +1,108 @@
+-- `resume::heads::put_head` meets its contract.
+-- Assumes nothing.
+use native.Mathlib.Omega.{arith}
+use native.Mathlib.Numerals.{add-one}
+use mathlib.Core.Path.{ap, _∙_}
+use Rattle.buffer.specs.Field.{putWord}
+use Rattle.resume.specs.Heads.{fieldAt}
+use Rattle.resume.proofs.Parents.{head-bounds}
+use borrow.Author.Needs.{needs}
+use Rattle.resume.proofs.heads.put_head.Statement.{statement}
+use Rattle.resume.proofs.heads.put_head.Tie as tie
+
+enum-known-tape-record : tie.Need-enum-known-tape-record
+enum-known-tape-record c = omega arith
+
+enum-known-tape-record-2 : tie.Need-enum-known-tape-record-2
+enum-known-tape-record-2 c = omega arith
+
+enum-known-tape-record-3 : tie.Need-enum-known-tape-record-3
+enum-known-tape-record-3 c = omega arith
+
+enum-known-tape-record-4 : tie.Need-enum-known-tape-record-4
+enum-known-tape-record-4 c = omega arith
+
+mul-put-word : tie.Need-mul-put-word
+mul-put-word c =
+    let told = c .before .before .before in
+    let b = head-bounds (told .tape-record4 .given .1) (told .before .before .before .pre .1) in
+    omega arith
+
+add-put-word : tie.Need-add-put-word
+add-put-word c =
+    let told = c .before .before .before .before in
+    let b = head-bounds (told .tape-record4 .given .1) (told .before .before .before .pre .1) in
+    omega arith
+
+mul-put-word-2 : tie.Need-mul-put-word-2
+mul-put-word-2 c =
+    let told = c .before .before .before .before in
+    let b = head-bounds (told .tape-record4 .given .1) (told .before .before .before .pre .1) in
+    omega arith
+
+add-put-word-2 : tie.Need-add-put-word-2
+add-put-word-2 c =
+    let told = c .before .before .before .before .before in
+    let b = head-bounds (told .tape-record4 .given .1) (told .before .before .before .pre .1) in
+    omega arith
+
+put-word-requires : tie.Need-put-word-requires
+put-word-requires c κs =
+    let told = c .before .before .before .before .before in
+    let b = head-bounds (told .tape-record4 .given .1) (told .before .before .before .pre .1) in
+    omega arith
+
+enum-told : tie.Need-enum-told
+enum-told c = omega arith
+
+enum-told-2 : tie.Need-enum-told-2
+enum-told-2 c = omega arith
+
+returns : tie.Need-returns
+returns c = search needs
+
+returns-2 : tie.Need-returns-2
+returns-2 c = rw (c .before .tape-record2 .given .1)
+
+returns-3 : tie.Need-returns-3
+returns-3 c = search needs
+
+same-length : tie.Need-same-length
+same-length c = omega arith
+
+returns-4 : tie.Need-returns-4
+returns-4 c =
+    let put = c .before .before in
+    let told = put .before .before .before .before .before .before in
+    let t = told .before .before .before .args .table .now in
+    let head = told .tape-record4 .given in
+    rw (head .1) (put .put-word .ensures ∙ ap (putWord t (fieldAt (head .0 .0 .0) (head .0 .0 .0))) (add-one (head .0 .1 .0 .0)))
+
+returns-5 : tie.Need-returns-5
+returns-5 c = search needs
+
+returns-6 : tie.Need-returns-6
+returns-6 c = search needs
+
+pub put-head-spec : {M : Type 1} → statement M
+put-head-spec =
+    tie.close
+    (tie.spec
+    enum-known-tape-record
+    enum-known-tape-record-2
+    enum-known-tape-record-3
+    enum-known-tape-record-4
+    mul-put-word
+    add-put-word
+    mul-put-word-2
+    add-put-word-2
+    put-word-requires
+    enum-told
+    enum-told-2
+    returns
+    returns-2
+    returns-3
+    same-length
+    returns-4
+    returns-5
+    returns-6)

@@ -1,0 +1,33 @@
+-- `resume::ranges::in_range` meets its contract.
+-- Assumes nothing.
+use native.Mathlib.Omega.{arith}
+use Rattle.resume.specs.Content.{contentIn}
+use Rattle.resume.proofs.Passed.{all-tests, too-many-versions}
+use Rattle.resume.proofs.ranges.in_range.Statement.{statement}
+use Rattle.resume.proofs.ranges.in_range.Tie as tie
+
+returns : tie.Need-returns
+returns c =
+    let s = c .before .before in
+    too-many-versions (contentIn (s .args .tape .now)) _ (s .pre .1 .0) (omega arith)
+
+see-versions-requires : tie.Need-see-versions-requires
+see-versions-requires c κs = let s = c .before .before in (s .pre .0, s .pre .1 .1)
+
+add-heads-in-range : tie.Need-add-heads-in-range
+add-heads-in-range c = omega arith
+
+heads-in-range-requires : tie.Need-heads-in-range-requires
+heads-in-range-requires c κs =
+    let s = c .before .before .before in
+    (s .pre .0, (c .see-versions .ensures .1, omega arith, s .pre .1 .2))
+
+returns-2 : tie.Need-returns-2
+returns-2 c =
+    let s = c .before .before .before .before .before in
+    all-tests (contentIn (s .args .tape .now)) (s .args .capacity) _ _ (s .pre .1 .0) (omega arith) (c .before .before .see-versions .ensures .0) (c .before .heads-in-range .ensures)
+
+pub in-range-spec : {M : Type 1} → statement M
+in-range-spec =
+    tie.close
+    (tie.spec returns see-versions-requires add-heads-in-range heads-in-range-requires returns-2)

@@ -1,0 +1,132 @@
+-- `resume::sound::gives_sound_room` meets its contract: the first of the three tests that fails answers, or else the last.
+-- Assumes nothing.
+use native.Mathlib.Omega.{arith}
+use mathlib.Core.Path.{refl, sym, _∙_}
+use borrow.Author.Tests.{not-true, not-false}
+use Rattle.laws.proofs.Logic.{clash}
+use Rattle.resume.specs.Content.{contentIn}
+use Rattle.resume.proofs.HeadsJudged.{filled-long, filled-low, behind-told}
+use Rattle.resume.proofs.RoomJudged.{in-range, range-small, versions-fail, heads-fail, behind-decides}
+use Rattle.resume.proofs.sound.gives_sound_room.Statement.{statement}
+use Rattle.resume.proofs.sound.gives_sound_room.Tie as tie
+
+judge-versions-requires : tie.Need-judge-versions-requires
+judge-versions-requires c κs =
+    let start = c .before .before .before .before in
+    let p = start .pre in
+    let t = contentIn (start .args .tape .now) in
+    let k = in-range t (p .1 .0 .1) in
+    let small = range-small t (p .1 .0 .0) k in
+    (p .0, (k .lower, ((p .1 .1 .0 .0, omega arith), p .1 .1 .1 .0)))
+
+same-length : tie.Need-same-length
+same-length c = omega arith
+
+returns : tie.Need-returns
+returns c =
+    let made = c .before .before .before in
+    let start = made .before .before .before .before .before in
+    let p = start .pre in
+    let t = contentIn (start .args .tape .now) in
+    let k = in-range t (p .1 .0 .1) in
+    let small = range-small t (p .1 .0 .0) k in
+    let told = made .judge-versions .ensures in
+    (versions-fail t (p .1 .0 .0) (p .1 .0 .1) (told .0) (not-true (made .judge-versions .result) (c .if1 .taken)), told .1, λ h. clash h refl)
+
+judge-heads-requires : tie.Need-judge-heads-requires
+judge-heads-requires c κs =
+    let made = c .before .before .before .before .before in
+    let start = made .before .before .before .before .before in
+    let p = start .pre in
+    let t = contentIn (start .args .tape .now) in
+    let k = in-range t (p .1 .0 .1) in
+    let small = range-small t (p .1 .0 .0) k in
+    (p .0, ((k .rise, k .named), ((small, p .1 .1 .0 .1, p .1 .1 .0 .2), (made .judge-versions .ensures .1, p .1 .1 .1 .1))))
+
+same-length-2 : tie.Need-same-length-2
+same-length-2 c = omega arith
+
+same-length-3 : tie.Need-same-length-3
+same-length-3 c = omega arith
+
+returns-2 : tie.Need-returns-2
+returns-2 c =
+    let met = c .before .before .before in
+    let made = met .before .before .before .before .before .before in
+    let start = made .before .before .before .before .before in
+    let p = start .pre in
+    let t = contentIn (start .args .tape .now) in
+    let k = in-range t (p .1 .0 .1) in
+    let small = range-small t (p .1 .0 .0) k in
+    let told = made .judge-versions .ensures in
+    let based = not-false (made .judge-versions .result) (met .before .before .before .if1 .left) in (
+      heads-fail t (p .1 .0 .0) (p .1 .0 .1) (told .0) based (met .judge-heads .ensures .0) (not-true (met .judge-heads .result) (c .if2 .taken)),
+      told .1,
+      λ h. clash h refl,
+    )
+
+add-all-behind : tie.Need-add-all-behind
+add-all-behind c =
+    let met = c .before .before .before .before .before in
+    let made = met .before .before .before .before .before .before in
+    let start = made .before .before .before .before .before in
+    let p = start .pre in
+    let t = contentIn (start .args .tape .now) in
+    let k = in-range t (p .1 .0 .1) in
+    let small = range-small t (p .1 .0 .0) k in
+    omega arith
+
+all-behind-requires : tie.Need-all-behind-requires
+all-behind-requires c κs =
+    let met = c .before .before .before .before .before in
+    let made = met .before .before .before .before .before .before in
+    let start = made .before .before .before .before .before in
+    let p = start .pre in
+    let t = contentIn (start .args .tape .now) in
+    let k = in-range t (p .1 .0 .1) in
+    let small = range-small t (p .1 .0 .0) k in
+    let shown = made .judge-versions .ensures .1 in
+    let ok = not-false (met .judge-heads .result) (c .before .before .if2 .left) in
+    let meets = sym (met .judge-heads .ensures .0) ∙ ok in
+    let written = met .judge-heads .ensures .1 ok in
+    (shown .long, (filled-long t (k .rise) (k .named) small shown meets written, filled-low t (k .rise) (k .named) small shown meets written))
+
+same-length-4 : tie.Need-same-length-4
+same-length-4 c = omega arith
+
+same-length-5 : tie.Need-same-length-5
+same-length-5 c = omega arith
+
+returns-3 : tie.Need-returns-3
+returns-3 c =
+    let met = c .before .before .before .before .before .before in
+    let made = met .before .before .before .before .before .before in
+    let start = made .before .before .before .before .before in
+    let p = start .pre in
+    let t = contentIn (start .args .tape .now) in
+    let k = in-range t (p .1 .0 .1) in
+    let small = range-small t (p .1 .0 .0) k in
+    let told = made .judge-versions .ensures in
+    let based = not-false (made .judge-versions .result) (met .before .before .before .if1 .left) in
+    let ok = not-false (met .judge-heads .result) (c .before .before .before .if2 .left) in
+    let meets = sym (met .judge-heads .ensures .0) ∙ ok in
+    let written = met .judge-heads .ensures .1 ok in
+    let last = behind-told t (k .rise) (k .named) small (told .1) meets written (omega arith) (c .all-behind .ensures) in
+    (behind-decides t (p .1 .0 .0) (p .1 .0 .1) (told .0) based (met .judge-heads .ensures .0) ok last, told .1, λ _. written)
+
+pub gives-sound-room-spec : {M : Type 1} → statement M
+gives-sound-room-spec =
+    tie.close
+    (tie.spec
+    judge-versions-requires
+    same-length
+    returns
+    judge-heads-requires
+    same-length-2
+    same-length-3
+    returns-2
+    add-all-behind
+    all-behind-requires
+    same-length-4
+    same-length-5
+    returns-3)

@@ -1,0 +1,87 @@
+-- `resume::versions::judge_versions` meets its contract. The loop's invariant: the rows of version 0 and of the first `k` versions after it stand in the array.
+-- Assumes nothing.
+use Prim.Native.Nat.{_-_}
+use native.Mathlib.Omega.{arith}
+use Rattle.resume.specs.Content.{contentIn}
+use Rattle.resume.proofs.Grown.{rows-root}
+use Rattle.resume.proofs.Reread.{Versioned, versioned-none, version-inside, version-below, versioned-more, versioned-all}
+use Rattle.resume.proofs.versions.judge_versions.Statement.{statement}
+use Rattle.resume.proofs.versions.judge_versions.Tie as tie
+
+abbrev Inv-loop : tie.InvT-loop
+Inv-loop tape versions rows₀ at₀ based₀ k₀ rows at based k = Versioned (contentIn tape) k at rows based
+
+abbrev μ-loop : tie.MeasureT-loop
+μ-loop tape versions rows₀ at₀ based₀ k₀ rows at based k = versions - k
+
+put-root-requires : tie.Need-put-root-requires Inv-loop μ-loop
+put-root-requires c κs = omega arith
+
+loop-holds : tie.Need-loop-holds Inv-loop μ-loop
+loop-holds c =
+    let root = c .before .before in
+    versioned-none _ (rw (root .put-root .ensures) (rows-root _ (root .before .before .before .before .pre .1 .1 .1)))
+
+take-at-requires : tie.Need-take-at-requires Inv-loop μ-loop
+take-at-requires c κs =
+    let turn = c .before in
+    let known = turn .before .before .before .before .before .before in
+    let start = known .before in
+    let a = start .args in
+    let p = start .pre in
+    version-inside (a .tape .now) (contentIn (a .tape .now)) (λ i. known .shared-slice-known .given i .fits) (p .0) (p .1 .0) (omega arith) (turn .loop .inv) (omega arith)
+
+add-judge-version : tie.Need-add-judge-version Inv-loop μ-loop
+add-judge-version c = omega arith
+
+judge-version-requires : tie.Need-judge-version-requires Inv-loop μ-loop
+judge-version-requires c κs =
+    let turn = c .before .before .before in
+    let known = turn .before .before .before .before .before .before in
+    let start = known .before in
+    let a = start .args in
+    let p = start .pre in (
+      turn .loop .inv .shown .long,
+      omega arith,
+      version-below (a .tape .now) (contentIn (a .tape .now)) (λ i. known .shared-slice-known .given i .fits) (p .0) (p .1 .0) (omega arith) (turn .loop .inv) (omega arith) (c .before .take-at .ensures .0),
+    )
+
+add-k : tie.Need-add-k Inv-loop μ-loop
+add-k c = omega arith
+
+loop-less : tie.Need-loop-less Inv-loop μ-loop
+loop-less c = omega arith
+
+loop-again : tie.Need-loop-again Inv-loop μ-loop
+loop-again c =
+    let turn = c .before .before .before .before .before .before in
+    let known = turn .before .before .before .before .before .before in
+    let start = known .before in
+    let a = start .args in
+    let p = start .pre in
+    versioned-more (a .tape .now) (contentIn (a .tape .now)) (λ i. known .shared-slice-known .given i .fits) (p .0) (p .1 .0) (omega arith) (turn .loop .inv) (omega arith)
+    (c .before .before .before .before .take-at .ensures .0) (c .before .before .before .before .take-at .ensures .1) (c .before .before .judge-version .ensures .0)
+    (c .before .before .judge-version .ensures .1)
+
+same-length : tie.Need-same-length Inv-loop μ-loop
+same-length c = omega arith
+
+returns : tie.Need-returns Inv-loop μ-loop
+returns c = versioned-all _ (c .before .loop .inv) (omega arith)
+
+pub judge-versions-spec : {M : Type 1} → statement M
+judge-versions-spec =
+    tie.close
+    (tie.spec
+    Inv-loop
+    μ-loop
+    put-root-requires
+    loop-holds
+    take-at-requires
+    add-judge-version
+    judge-version-requires
+    add-k
+    loop-less
+    loop-again
+    same-length
+    returns)

@@ -1,0 +1,22 @@
+-- What resume answers, and what stands in the lent buffer afterwards.
+use Prim.Native.Nat.{ℕ}
+use mathlib.Core.Bool.{cond}
+use mathlib.Core.List.{List, [], _∷_, _++_}
+use mathlib.Core.Option.{Option, none, some}
+use lib.Dec.{eqb, ltb}
+use lib.ListN.{length}
+use Rattle.buffer.specs.Field.{overwrite}
+use Rattle.command.specs.Refusal.{_when_, firstRefusal}
+use Rattle.store.specs.Layout.{storeSize, encode}
+use Rattle.tape.specs.Tape.{Content, contentTests, roomOf}
+use Rattle.resume.specs.Content.{told}
+
+-- "7 tape isn't such a sequence of whole records", 8 to 10, "19 lent output or store buffer too short."
+unfoldable pub resumeRefusal : Option Content → List ℕ → ℕ
+resumeRefusal none store = 7
+resumeRefusal (some t) store =
+    firstRefusal (contentTests t ++ (19 when ltb (length store) (storeSize (t .capacity)) ∷ []))
+
+-- "A refusal returns its number, counts 0, and changes no lent byte."
+unfoldable pub resumedStore : Option Content → List ℕ → List ℕ
+resumedStore o store = cond (eqb (resumeRefusal o store) 0) (overwrite (encode (roomOf (told o))) store) store

@@ -1,0 +1,89 @@
+// Resume of a tape: the refusals 7 to 10 and 19 in their order, all judged before a byte of the lent buffer is written.
+use crate::ranges::in_range;
+use crate::sound::gives_sound_room;
+use crate::write::write_store;
+use store::places::BLOCK;
+use store::places::HEADER;
+use tape::scan::Scanned;
+use tape::scan::scan;
+ghost use mathlib.Core.Path.{_≡_};
+ghost use mathlib.Core.Bool.{true};
+ghost use mathlib.Core.Option.{some};
+ghost use lib.ListN.{length};
+ghost use Rattle.room.specs.Sound.{isCapacity};
+ghost use Rattle.tape.specs.Tape.{contentOf, inRange};
+ghost use Rattle.resume.specs.Content.{contentIn};
+ghost use Rattle.resume.specs.Resumed.{resumeRefusal, resumedStore};
+
+// The most versions that a store can hold, and the bytes of their rows and of a table of common versions.
+const MAX_CAPACITY: usize = 1024;
+
+const ROWS: usize = 131072;
+
+const TABLE: usize = 512;
+
+// Resumes a whole tape whose numbers are in range.
+fn resume_ranged(
+    tape: &[u8],
+    store: &mut [u8],
+    capacity: usize,
+    versions: usize,
+    heads: usize,
+) -> u32
+    requires { ⌜ contentOf (now tape) ≡ some (contentIn (now tape)) ⌝ }
+    requires { ⌜ (capacity ≡ contentIn (now tape) .capacity) × (versions ≡ length (contentIn (now tape) .versions)) × (heads ≡ length (contentIn (now tape) .heads)) ⌝ }
+    requires { ⌜ (isCapacity (contentIn (now tape) .capacity) ≡ true) × (inRange (contentIn (now tape)) ≡ true) ⌝ }
+    ensures { λ r. ⌜ (r ≡ resumeRefusal (some (contentIn (now (tape .entry)))) (now (store .entry))) × (now (store .exit) ≡ resumedStore (some (contentIn (now (tape .entry)))) (now (store .entry))) ⌝ }
+{
+    let mut rows = [0u8; ROWS];
+    let mut table = [0u8; TABLE];
+    // a head record takes 4 bytes, and the last byte of the tape comes right behind the last of them
+    let from = tape.len() - (4 * heads + 1);
+    if !gives_sound_room(tape, versions, from, heads, &mut rows, &mut table) {
+        return 10;
+    }
+    if store.len() < HEADER + BLOCK * capacity {
+        return 19;
+    }
+    write_store(store, tape, capacity, versions, &rows, &table);
+    0
+}
+
+// Resumes a whole tape.
+fn resume_whole(
+    tape: &[u8],
+    store: &mut [u8],
+    capacity: usize,
+    versions: usize,
+    heads: usize,
+) -> u32
+    requires { ⌜ contentOf (now tape) ≡ some (contentIn (now tape)) ⌝ }
+    requires { ⌜ (capacity ≡ contentIn (now tape) .capacity) × (versions ≡ length (contentIn (now tape) .versions)) × (heads ≡ length (contentIn (now tape) .heads)) ⌝ }
+    ensures { λ r. ⌜ (r ≡ resumeRefusal (some (contentIn (now (tape .entry)))) (now (store .entry))) × (now (store .exit) ≡ resumedStore (some (contentIn (now (tape .entry)))) (now (store .entry))) ⌝ }
+{
+    if capacity < 1 {
+        return 8;
+    }
+    if MAX_CAPACITY < capacity {
+        return 8;
+    }
+    if !in_range(tape, capacity, versions, heads) {
+        return 9;
+    }
+    resume_ranged(tape, store, capacity, versions, heads)
+}
+
+// Resumes the room of a tape: 0, or the refusal that applies; the buffer is written only where it is 0.
+pub fn resume_tape(tape: &[u8], store: &mut [u8]) -> u32
+    ensures { λ r. ⌜ (r ≡ resumeRefusal (contentOf (now (tape .entry))) (now (store .entry))) × (now (store .exit) ≡ resumedStore (contentOf (now (tape .entry))) (now (store .entry))) ⌝ }
+{
+    let scanned = scan(tape);
+    match scanned {
+        Scanned::Whole {
+            capacity,
+            versions,
+            heads,
+        } => resume_whole(tape, store, capacity, versions, heads),
+        Scanned::Broken => 7,
+    }
+}
