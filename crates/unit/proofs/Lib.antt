@@ -1,3 +1,7 @@
 pub mod Reading
 pub mod Matched
 pub mod Convergence
+pub mod Answered
+pub mod Paused
+pub mod Commanded
+pub mod Taken

@@ -1,4 +1,10 @@
-// The room unit as the panel sees it: what each call returns.
+// The room unit as the panel sees it: its calls, and what each returns.
+mod answers;
+pub mod commands;
+pub mod opening;
+pub mod pausing;
+pub mod questions;
+pub mod resuming;
 
 // The answer of a call, 0 or the number of its refusal, and the count that goes with it.
 #[repr(C)]

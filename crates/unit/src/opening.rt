@@ -1,0 +1,47 @@
+// The call that opens a room.
+use crate::Reply;
+use crate::answers::counted;
+use crate::answers::refused;
+use crate::answers::size;
+use store::places::BLOCK;
+use store::places::HEADER;
+use update::open::open;
+ghost use mathlib.Core.Path.{_≡_};
+ghost use mathlib.Core.Bool.{not};
+ghost use mathlib.Core.List.{[], _∷_};
+ghost use Rattle.command.specs.Refusal.{_when_, firstRefusal};
+ghost use Rattle.room.specs.Sound.{isCapacity};
+ghost use Rattle.store.specs.Layout.{storeSize};
+ghost use Rattle.unit.specs.Calls.{tooShort, openOutcome};
+
+// The most versions that a store can hold.
+const MAX_CAPACITY: u32 = 1024;
+
+// Why a room of this capacity can't be opened in this buffer, or 0.
+fn opening_refusal(capacity: u32, store: &[u8]) -> u32
+    ensures { λ r. ⌜ r ≡ firstRefusal (8 when not (isCapacity capacity) ∷ 19 when tooShort (now (store .entry)) (storeSize capacity) ∷ []) ⌝ }
+{
+    if capacity < 1 {
+        return 8;
+    }
+    if MAX_CAPACITY < capacity {
+        return 8;
+    }
+    if store.len() < HEADER + BLOCK * size(capacity) {
+        return 19;
+    }
+    0
+}
+
+// Opens a room: a store of version 0 with console 0 on it, at the front of the lent buffer.
+#[no_mangle]
+pub extern "C" fn room_open(capacity: u32, store: &mut [u8]) -> Reply
+    ensures { λ r. ⌜ (r ≡ (openOutcome capacity (now (store .entry))) .reply) × (now (store .exit) ≡ (openOutcome capacity (now (store .entry))) .buffer) ⌝ }
+{
+    let refusal = opening_refusal(capacity, store);
+    if refusal != 0 {
+        return refused(refusal);
+    }
+    open(store, size(capacity));
+    counted(0)
+}

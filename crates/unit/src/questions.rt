@@ -1,0 +1,110 @@
+// The calls that ask a store: a console's board and heard count, and the common version of two consoles.
+use crate::Reply;
+use crate::answers::counted;
+use crate::answers::refused;
+use crate::answers::size;
+use buffer::copy;
+use command::Console;
+use query::board_of;
+use query::common_of;
+use query::head_of;
+use query::heard_count;
+use query::is_present;
+use store::judge::holds;
+use store::places::BOARD;
+ghost use mathlib.Core.Path.{_≡_};
+ghost use mathlib.Core.Bool.{not, _||_};
+ghost use mathlib.Core.List.{[], _∷_};
+ghost use Rattle.board.specs.Board.{boardSize};
+ghost use Rattle.command.specs.Refusal.{_when_, firstRefusal};
+ghost use Rattle.command.specs.Code.{isConsole};
+ghost use Rattle.room.specs.Step.{absent};
+ghost use Rattle.store.specs.Layout.{roomIn};
+ghost use Rattle.unit.specs.Calls.{tooShort, holdsNoStore, boardOutcome, heardReply, commonReply};
+
+// The number of consoles.
+const CONSOLES: u32 = 16;
+
+// Why two consoles of a store can't be asked after, or 0.
+fn pair_refusal(store: &[u8], first: u32, second: u32) -> u32
+    ensures { λ r. ⌜ r ≡ firstRefusal
+        (3 when (not (isConsole first) || not (isConsole second))
+        ∷ 11 when holdsNoStore (now (store .entry))
+        ∷ 12 when (absent (roomIn (now (store .entry))) first || absent (roomIn (now (store .entry))) second)
+        ∷ []) ⌝ }
+{
+    if CONSOLES <= first {
+        return 3;
+    }
+    if CONSOLES <= second {
+        return 3;
+    }
+    if !holds(store) {
+        return 11;
+    }
+    if !is_present(store, Console(size(first))) {
+        return 12;
+    }
+    if !is_present(store, Console(size(second))) {
+        return 12;
+    }
+    0
+}
+
+// Why a console's board can't be copied out into this buffer, or 0.
+fn board_refusal(store: &[u8], console: u32, board: &[u8]) -> u32
+    ensures { λ r. ⌜ r ≡ firstRefusal
+        (3 when not (isConsole console)
+        ∷ 11 when holdsNoStore (now (store .entry))
+        ∷ 12 when absent (roomIn (now (store .entry))) console
+        ∷ 19 when tooShort (now (board .entry)) boardSize
+        ∷ []) ⌝ }
+{
+    let refusal = pair_refusal(store, console, console);
+    if refusal != 0 {
+        return refusal;
+    }
+    if board.len() < BOARD {
+        return 19;
+    }
+    0
+}
+
+// Copies a console's board out: the board of its head.
+#[no_mangle]
+pub extern "C" fn room_board(store: &[u8], console: u32, board: &mut [u8]) -> Reply
+    ensures { λ r. ⌜ (r ≡ (boardOutcome (now (store .entry)) console (now (board .entry))) .reply) × (now (board .exit) ≡ (boardOutcome (now (store .entry)) console (now (board .entry))) .buffer) ⌝ }
+{
+    let refusal = board_refusal(store, console, board);
+    if refusal != 0 {
+        return refused(refusal);
+    }
+    let v = head_of(store, Console(size(console)));
+    copy(&mut board[..BOARD], board_of(store, v));
+    counted(BOARD)
+}
+
+// How many entries a console has heard.
+#[no_mangle]
+pub extern "C" fn room_heard(store: &[u8], console: u32) -> Reply
+    ensures { λ r. ⌜ r ≡ heardReply (now (store .entry)) console ⌝ }
+{
+    let refusal = pair_refusal(store, console, console);
+    if refusal != 0 {
+        return refused(refusal);
+    }
+    counted(heard_count(store, Console(size(console))))
+}
+
+// The common version of two consoles; of a console with itself, its head.
+#[no_mangle]
+pub extern "C" fn room_common(store: &[u8], first: u32, second: u32) -> Reply
+    ensures { λ r. ⌜ r ≡ commonReply (now (store .entry)) first second ⌝ }
+{
+    let refusal = pair_refusal(store, first, second);
+    if refusal != 0 {
+        return refused(refusal);
+    }
+    let v = common_of(store, Console(size(first)), Console(size(second)));
+    counted(v.0)
+}

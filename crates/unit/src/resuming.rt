@@ -1,0 +1,19 @@
+// The call that takes a room off a pause tape.
+use crate::Reply;
+use crate::answers::counted;
+use crate::answers::refused;
+use resume::resuming::resume_tape;
+ghost use mathlib.Core.Path.{_≡_};
+ghost use Rattle.unit.specs.Calls.{resumeOutcome};
+
+// Writes the store of a tape's room over the front of the lent buffer, where the tape and the buffer are not refused.
+#[no_mangle]
+pub extern "C" fn room_resume(tape: &[u8], store: &mut [u8]) -> Reply
+    ensures { λ r. ⌜ (r ≡ (resumeOutcome (now (tape .entry)) (now (store .entry))) .reply) × (now (store .exit) ≡ (resumeOutcome (now (tape .entry)) (now (store .entry))) .buffer) ⌝ }
+{
+    let refusal = resume_tape(tape, store);
+    if refusal != 0 {
+        return refused(refusal);
+    }
+    counted(0)
+}
