@@ -1,0 +1,31 @@
+-- `session::command_length` meets its contract.
+-- Assumes nothing.
+use mathlib.Core.Path.{sym, _∙_}
+use Rattle.command.proofs.Shapes.{narrow-shape}
+use Rattle.session.proofs.Lengths.{command-bound}
+use borrow.Author.Needs.{needs}
+use Rattle.session.proofs.command_length.Statement.{statement}
+use Rattle.session.proofs.command_length.Tie as tie
+
+is-command-code-requires : tie.Need-is-command-code-requires
+is-command-code-requires c κs = search needs
+
+widths-of-requires : tie.Need-widths-of-requires
+widths-of-requires c κs = search needs
+
+length-of-requires : tie.Need-length-of-requires
+length-of-requires c κs = rw (c .widths-of .ensures) (narrow-shape (c .before .before .before .args .code))
+
+returns : tie.Need-returns
+returns c =
+    let then = c .before .before in
+    rw (c .length-of .ensures, c .before .widths-of .ensures)
+    (command-bound (then .before .before .args .code) (sym (then .before .is-command-code .ensures) ∙ then .if1 .taken))
+
+returns-2 : tie.Need-returns-2
+returns-2 c = search needs
+
+pub command-length-spec : {M : Type 1} → statement M
+command-length-spec =
+    tie.close
+    (tie.spec is-command-code-requires widths-of-requires length-of-requires returns returns-2)
