@@ -40,7 +40,7 @@ mergeNote-length p q l = refl
 pub member-keeps : (n v : ℕ) (x : List ℕ) → length x ≡ n → length (withMember x v) ≡ n
 member-keeps n v x l = length-set x _ _ ∙ l
 
-pub joined-keeps : (n v : ℕ) (other x : List ℕ) → length other ≡ n → length x ≡ n → length (withMember (union x other) v) ≡ n
+joined-keeps : (n v : ℕ) (other x : List ℕ) → length other ≡ n → length x ≡ n → length (withMember (union x other) v) ≡ n
 joined-keeps n v other x k l = member-keeps n v (union x other) (bytewise-length bitOr x other (omega arith) ∙ l)
 
 pub entered-keeps : (n code k operand : ℕ) (x : List ℕ) → length x ≡ n → length (enter code k operand x) ≡ n

@@ -4,10 +4,11 @@ use board::Strip;
 use board::enter_board;
 use board::merge_board;
 use buffer::add_member;
-use buffer::add_union;
 use buffer::clear;
 use buffer::copy;
 use buffer::copy_within;
+use buffer::put_extended;
+use buffer::put_extended_union;
 use buffer::put_word;
 use graph::Version;
 use store::places::BLOCK;
@@ -17,9 +18,8 @@ use store::places::HEADER;
 use store::places::NODE;
 use store::places::ROW;
 use store::places::board_of;
-use store::places::row_of;
 ghost use mathlib.Core.Path.{_≡_};
-ghost use Prim.Native.Nat.{suc, _/_, _<_, _≤_};
+ghost use Prim.Native.Nat.{suc, _<_, _≤_};
 ghost use lib.ListN.{length, set};
 ghost use Rattle.buffer.specs.Field.{byte, withPart};
 ghost use Rattle.buffer.specs.Row.{withMember, union};
@@ -109,10 +109,7 @@ fn put_entry_row(s: &mut [u8], n: usize, p: usize)
     requires { ⌜ (p < n) × (n < 1024) × (blockAt (suc n) ≤ length (now s)) ⌝ }
     ensures { λ _. ⌜ now (s .exit) ≡ withPart (now (s .entry)) (rowAt n) (withMember (rowPart (now (s .entry)) p) n) ⌝ }
 {
-    let at = row_at(n);
-    let end = at + ROW;
-    copy_within(s, row_at(p), at, ROW);
-    add_member(&mut s[at..end], n);
+    put_extended(s, row_at(p), row_at(n), n);
 }
 
 // Puts the board of an entry: its parent's, with the entry made on it.
@@ -149,26 +146,12 @@ pub fn append_entry(s: &mut [u8], n: Version, p: Version, code: usize, strip: St
     list_entry(s, n.0);
 }
 
-// Puts the members of another row and the number n into a row.
-fn join_row(row: &mut [u8], other: &[u8], n: usize)
-    requires { ⌜ (length (now row) ≡ length (now other)) × (n / 8 < length (now row)) ⌝ }
-    ensures { λ _. ⌜ now (row .exit) ≡ withMember (union (now (row .entry)) (now (other .entry))) n ⌝ }
-{
-    add_union(row, other);
-    add_member(row, n);
-}
-
 // Puts the row of a merge: its parents', with the version besides.
 fn put_merge_row(s: &mut [u8], n: usize, p: usize, q: usize)
     requires { ⌜ (p < n) × (q < n) × (n < 1024) × (blockAt (suc n) ≤ length (now s)) ⌝ }
     ensures { λ _. ⌜ now (s .exit) ≡ withPart (now (s .entry)) (rowAt n) (withMember (union (rowPart (now (s .entry)) p) (rowPart (now (s .entry)) q)) n) ⌝ }
 {
-    let mut given = [0u8; ROW];
-    copy(&mut given, row_of(s, q));
-    let at = row_at(n);
-    let end = at + ROW;
-    copy_within(s, row_at(p), at, ROW);
-    join_row(&mut s[at..end], &given, n);
+    put_extended_union(s, row_at(p), row_at(q), row_at(n), n);
 }
 
 // Puts the board of a merge of q into p over the base l. Two parts of one slice cannot be lent at once, so the three boards are copied first.
