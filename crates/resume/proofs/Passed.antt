@@ -18,7 +18,7 @@ use Rattle.tape.specs.Record.{recordIn}
 use Rattle.tape.specs.Tape.{Content, contentOf, versionRecord, consolesRise, headsNamed, inRange}
 use Rattle.tape.specs.Reader.{placeAfter, firstVersions, nextNode, firstHeads, nextHead, versionPlace, headPlace}
 use Rattle.tape.proofs.Records.{Bytes}
-use Rattle.tape.proofs.Located.{first-place, version-at, head-at}
+use Rattle.tape.proofs.Located.{version-at, head-at}
 use Rattle.resume.specs.Ranges.{versionInRange, versionsInRange, consoleFollows, headInRange, consoleOf}
 use Rattle.resume.proofs.Follows.{lastConsole, rising, risen}
 
@@ -33,10 +33,10 @@ pub record VersionsPassed (t : Content) (k at : ℕ) (ok : Bool) : Type 0 where
   pub place : at ≡ versionPlace (t .versions) k
   pub right : ok ≡ versionsInRange (firstVersions k (t .versions))
 
-pub versions-start : (t : Content) → VersionsPassed t 0 3 true
+pub versions-start : (t : Content) (at : ℕ) → at ≡ versionPlace (t .versions) 0 → VersionsPassed t 0 at true
 unfolding everyVersion
-versions-start t =
-    record { below = omega arith; place = sym (first-place (t .versions)); right = sym (ap versionsInRange (none-first (t .versions))) }
+versions-start t at e =
+    record { below = omega arith; place = e; right = sym (ap versionsInRange (none-first (t .versions))) }
 
 pub versions-done : (t : Content) (k at : ℕ) (ok : Bool) → VersionsPassed t k at ok → length (t .versions) ≤ k
     → (ok ≡ versionsInRange (t .versions)) × (at ≡ headPlace t 0)

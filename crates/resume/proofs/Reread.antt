@@ -24,7 +24,7 @@ use Rattle.tape.specs.Tape.{Content, versionRecord, contentOf, consolesRise, he
 use Rattle.tape.specs.Reader.{placeAfter, firstVersions, nextNode, firstHeads, nextHead, versionPlace, headPlace}
 use Rattle.tape.proofs.Records.{Bytes}
 use Rattle.tape.proofs.Written.{headRecord}
-use Rattle.tape.proofs.Located.{VersionAt, HeadAt, first-place, version-at, head-at}
+use Rattle.tape.proofs.Located.{VersionAt, HeadAt, version-at, head-at}
 use Rattle.resume.specs.Rows.{RowsOf}
 use Rattle.resume.specs.Heads.{fieldAt, headTable}
 use Rattle.resume.specs.Versions.{parentsBelow, rowsAfter, baseFound, headWithin, tableAfter}
@@ -74,13 +74,13 @@ pub record Versioned (t : Content) (k at : ℕ) (rows : List ℕ) (based : Bool)
   pub shown : RowsOf rows (firstVersions k (t .versions))
   pub met : based ≡ everyVersion mergeHasBase (firstVersions k (t .versions))
 
-pub versioned-none : (t : Content) {rows : List ℕ} → RowsOf rows [] → Versioned t 0 3 rows true
+pub versioned-none : (t : Content) {at : ℕ} {rows : List ℕ} → at ≡ versionPlace (t .versions) 0 → RowsOf rows [] → Versioned t 0 at rows true
 unfolding everyVersion
-versioned-none t {rows} r =
+versioned-none t {at} {rows} place r =
     let none = none-first (t .versions) in
     record {
       within = omega arith;
-      place = sym (first-place (t .versions));
+      place = place;
       shown = subst (RowsOf rows) (sym none) r;
       met = rw none;
     }

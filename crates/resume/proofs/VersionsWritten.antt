@@ -28,7 +28,7 @@ use Rattle.tape.specs.Record.{recordIn}
 use Rattle.tape.specs.Tape.{Content, contentOf, roomOf, versionRecord}
 use Rattle.tape.specs.Reader.{placeAfter, firstVersions, nextNode, versionPlace}
 use Rattle.tape.proofs.Records.{Bytes}
-use Rattle.tape.proofs.Located.{VersionAt, first-place, version-at}
+use Rattle.tape.proofs.Located.{VersionAt, version-at}
 use Rattle.resume.specs.Ranges.{versionInRange}
 use Rattle.resume.specs.Rows.{ownRow, RowsOf, fieldWhen, meetField}
 use Rattle.resume.specs.Writing.{baseIn, baseBelow, storeWith}
@@ -140,11 +140,11 @@ pub record Written (t : Content) (s : List ℕ) (k at : ℕ) (now : List ℕ) : 
   pub place : at ≡ versionPlace (t .versions) k
   pub built : Built s now (firstVersions k (t .versions))
 
-pub written-none : (t : Content) {s : List ℕ} → Standing s [] → Written t s 0 3 s
-written-none t {s} h =
+pub written-none : (t : Content) {at : ℕ} {s : List ℕ} → at ≡ versionPlace (t .versions) 0 → Standing s [] → Written t s 0 at s
+written-none t {at} {s} place h =
     record {
       within = omega arith;
-      place = sym (first-place (t .versions));
+      place = place;
       built = subst (Built s s) (sym (none-first (t .versions))) (record { long = refl; standing = h; kept = λ k outside apart. refl });
     }
 

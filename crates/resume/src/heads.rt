@@ -7,8 +7,7 @@ use buffer::put_word;
 use buffer::word_at;
 use store::consoles::is_full;
 use tape::Record;
-use tape::reader::Place;
-use tape::reader::take_at;
+use tape::reader::read_at;
 ghost use mathlib.Core.Path.{_≡_};
 ghost use mathlib.Core.Bool.{true, cond};
 ghost use mathlib.Core.Option.{some};
@@ -146,7 +145,7 @@ fn put_heads(tape: &[u8], from: usize, heads: usize, table: &mut [u8])
 {
     let mut at = from;
     for j in 0..heads {
-        let taken = take_at(tape, Place { at });
+        let taken = read_at(tape, at);
         let tape_record = taken.record;
         put_head(table, tape_record);
         at = taken.next.at;

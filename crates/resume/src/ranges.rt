@@ -4,6 +4,7 @@ use command::numbers::is_entry_code;
 use command::numbers::is_operand;
 use command::numbers::is_strip;
 use tape::Record;
+use tape::reader::place_past;
 use tape::reader::read_at;
 ghost use mathlib.Core.Path.{_≡_};
 ghost use mathlib.Core.Bool.{_&&_};
@@ -134,7 +135,7 @@ fn see_versions(tape: &[u8], versions: usize) -> Seen
     ensures { λ r. ⌜ (r .ok ≡ versionsInRange (contentIn (now (tape .entry)) .versions)) × (r .at ≡ headPlace (contentIn (now (tape .entry))) 0) ⌝ }
 {
     let mut k = 0;
-    let mut at = 3;
+    let mut at = place_past(tape, 0);
     let mut ok = true;
     while k < versions {
         let seen = see_version(tape, at, k + 1);

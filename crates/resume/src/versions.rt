@@ -4,8 +4,8 @@ use crate::rows::put_entry;
 use crate::rows::put_merge;
 use crate::rows::put_root;
 use tape::Record;
-use tape::reader::Place;
-use tape::reader::take_at;
+use tape::reader::place_past;
+use tape::reader::read_at;
 ghost use mathlib.Core.Path.{_≡_};
 ghost use mathlib.Core.Bool.{true};
 ghost use mathlib.Core.Option.{some};
@@ -68,10 +68,10 @@ pub fn judge_versions(tape: &[u8], versions: usize, rows: &mut [u8]) -> bool
     ensures { λ r. ⌜ (r ≡ everyVersion mergeHasBase (contentIn (now (tape .entry)) .versions)) × RowsOf (now (rows .exit)) (contentIn (now (tape .entry)) .versions) ⌝ }
 {
     put_root(rows);
-    let mut at = 3;
+    let mut at = place_past(tape, 0);
     let mut based = true;
     for k in 0..versions {
-        let taken = take_at(tape, Place { at });
+        let taken = read_at(tape, at);
         let tape_record = taken.record;
         let here = judge_version(rows, k + 1, tape_record);
         based = here & based;

@@ -7,6 +7,7 @@ use graph::Version;
 use store::places::COMMONS;
 use store::places::COMMONS_END;
 use tape::Record;
+use tape::reader::place_past;
 use tape::reader::read_at;
 use update::append::append_entry;
 use update::append::append_merge;
@@ -89,7 +90,7 @@ pub fn write_store(
     ensures { λ _. ⌜ now (store .exit) ≡ overwrite (encode (roomOf (contentIn (now (tape .entry))))) (now (store .entry)) ⌝ }
 {
     open(store, capacity);
-    let mut at = 3;
+    let mut at = place_past(tape, 0);
     let mut k = 0;
     while k < versions {
         let taken = read_at(tape, at);

@@ -93,7 +93,7 @@ head-bytes-length [] = refl
 head-bytes-length (h ∷ before) = simp length-append (omega (arith, head-bytes-length before))
 
 -- the record of version 1 stands after the three bytes of the start
-pub first-place : (g : Graph) → versionPlace g 0 ≡ 3
+first-place : (g : Graph) → versionPlace g 0 ≡ 3
 unfolding versionRecords
 first-place g = rw (none-first g)
 
@@ -115,6 +115,14 @@ module _ (tape : List ℕ) (t : Content) (bytes : Bytes tape) (says : contentOf 
 
   in-heads : tape ≡ (recordBytes (Start (t .capacity)) ++ versionRecords (t .versions)) ++ (headBytes (t .heads) ++ recordBytes End)
   in-heads = tape-written tape t bytes says ∙ simp append-assoc
+
+  -- past the start record stands the record of version 1, or the first head where there is no version after 0
+  pub start-past : placeAfter tape 0 ≡ versionPlace (t .versions) 0
+  unfolding recordBytes
+  start-past =
+      rw in-versions
+      (record-between [] (versionRecords (t .versions) ++ (headBytes (t .heads) ++ recordBytes End)) (Start (t .capacity)) 0 (versionPlace (t .versions) 0) (tape-fits tape t bytes says .capacity) refl
+      (sym (first-place (t .versions))) .past)
 
   pub version-at : (k : ℕ) → k < length (t .versions) → VersionAt tape (t .versions) k (nextNode (t .versions) k)
   unfolding versionRecords recordBytes

@@ -16,8 +16,8 @@ abbrev μ-loop : tie.MeasureT-loop
 loop-holds : tie.Need-loop-holds Inv-loop μ-loop
 loop-holds c = let p = c .before .before .pre in headed-none _ (p .1 .1 .0 .1) (p .1 .1 .1 .0) (p .1 .1 .1 .1)
 
-take-at-requires : tie.Need-take-at-requires Inv-loop μ-loop
-take-at-requires c κs =
+read-at-requires : tie.Need-read-at-requires Inv-loop μ-loop
+read-at-requires c κs =
     let turn = c .before in
     let known = turn .before .before in
     let start = known .before in
@@ -33,7 +33,7 @@ put-head-requires c κs =
     let a = start .args in
     let p = start .pre in (
       turn .loop .inv .long,
-      head-within (a .tape .now) (contentIn (a .tape .now)) (λ k. known .shared-slice-known .given k .fits) (p .0) (p .1 .0 .0) (p .1 .0 .1) (p .1 .1 .0 .0) (turn .loop .inv) (omega arith) (c .before .take-at .ensures .0),
+      head-within (a .tape .now) (contentIn (a .tape .now)) (λ k. known .shared-slice-known .given k .fits) (p .0) (p .1 .0 .0) (p .1 .0 .1) (p .1 .1 .0 .0) (turn .loop .inv) (omega arith) (c .before .read-at .ensures .0),
     )
 
 add-j : tie.Need-add-j Inv-loop μ-loop
@@ -50,7 +50,7 @@ loop-again c =
     let a = start .args in
     let p = start .pre in
     headed-more (a .tape .now) (contentIn (a .tape .now)) (λ k. known .shared-slice-known .given k .fits) (p .0) (p .1 .0 .0) (p .1 .0 .1) (p .1 .1 .0 .0) (turn .loop .inv) (omega arith)
-    (c .before .before .before .before .take-at .ensures .0) (c .before .before .before .before .take-at .ensures .1) (c .before .before .put-head .ensures)
+    (c .before .before .before .before .read-at .ensures .0) (c .before .before .before .before .read-at .ensures .1) (c .before .before .put-head .ensures)
 
 same-length : tie.Need-same-length Inv-loop μ-loop
 same-length c = omega arith
@@ -65,7 +65,7 @@ put-heads-spec =
     Inv-loop
     μ-loop
     loop-holds
-    take-at-requires
+    read-at-requires
     put-head-requires
     add-j
     loop-less

@@ -1,7 +1,9 @@
 -- `resume::ranges::see_versions` meets its contract. The loop's invariant: the first `k` versions were read up to `at`. The measure is what is left of them.
 -- Assumes nothing.
 use Prim.Native.Nat.{_-_}
+use mathlib.Core.Path.{_∙_}
 use native.Mathlib.Omega.{arith}
+use Rattle.tape.proofs.Located.{start-past}
 use Rattle.resume.specs.Content.{contentIn}
 use Rattle.resume.proofs.Passed.{VersionsPassed, versions-start, version-inside, versions-more, versions-done}
 use Rattle.resume.proofs.ranges.see_versions.Statement.{statement}
@@ -13,16 +15,21 @@ Inv-loop tape versions k₀ at₀ ok₀ k at ok = VersionsPassed (contentIn tape
 abbrev μ-loop : tie.MeasureT-loop
 μ-loop tape versions k₀ at₀ ok₀ k at ok = versions - k
 
+place-past-requires : tie.Need-place-past-requires Inv-loop μ-loop
+place-past-requires c κs = omega arith
+
 loop-holds : tie.Need-loop-holds Inv-loop μ-loop
-loop-holds c = versions-start _
+loop-holds c =
+    let s = c .before .before in
+    versions-start _ _ (c .place-past .ensures .0 ∙ start-past (s .args .tape .now) _ (λ k. c .before .shared-slice-known .given k .fits) (s .pre .0))
 
 add-see-version : tie.Need-add-see-version Inv-loop μ-loop
 add-see-version c = omega arith
 
 see-version-requires : tie.Need-see-version-requires Inv-loop μ-loop
 see-version-requires c κs =
-    let s = c .before .before .before in
-    version-inside (s .args .tape .now) _ (λ k. c .before .before .shared-slice-known .given k .fits) (s .pre .0) _ _ _ (c .before .loop .inv) (omega arith)
+    let s = c .before .before .before .before in
+    version-inside (s .args .tape .now) _ (λ k. c .before .before .before .shared-slice-known .given k .fits) (s .pre .0) _ _ _ (c .before .loop .inv) (omega arith)
 
 add-k : tie.Need-add-k Inv-loop μ-loop
 add-k c = omega arith
@@ -33,9 +40,9 @@ loop-less c = omega arith
 loop-again : tie.Need-loop-again Inv-loop μ-loop
 loop-again c =
     let l = c .before .before .before in
-    let s = l .before .before in
+    let s = l .before .before .before in
     let seen = c .before .see-version .ensures in
-    versions-more (s .args .tape .now) _ (λ k. l .before .shared-slice-known .given k .fits) (s .pre .0) _ _ _ _ _ (l .loop .inv) (omega arith) (seen .0) (seen .1)
+    versions-more (s .args .tape .now) _ (λ k. l .before .before .shared-slice-known .given k .fits) (s .pre .0) _ _ _ _ _ (l .loop .inv) (omega arith) (seen .0) (seen .1)
 
 returns : tie.Need-returns Inv-loop μ-loop
 returns c = versions-done _ _ _ _ (c .before .loop .inv) (omega arith)
@@ -46,6 +53,7 @@ see-versions-spec =
     (tie.spec
     Inv-loop
     μ-loop
+    place-past-requires
     loop-holds
     add-see-version
     see-version-requires

@@ -1,7 +1,9 @@
 -- `resume::versions::judge_versions` meets its contract. The loop's invariant: the rows of version 0 and of the first `k` versions after it stand in the array.
 -- Assumes nothing.
 use Prim.Native.Nat.{_-_}
+use mathlib.Core.Path.{_∙_}
 use native.Mathlib.Omega.{arith}
+use Rattle.tape.proofs.Located.{start-past}
 use Rattle.resume.specs.Content.{contentIn}
 use Rattle.resume.proofs.Grown.{rows-root}
 use Rattle.resume.proofs.Reread.{Versioned, versioned-none, version-inside, version-below, versioned-more, versioned-all}
@@ -17,15 +19,21 @@ abbrev μ-loop : tie.MeasureT-loop
 put-root-requires : tie.Need-put-root-requires Inv-loop μ-loop
 put-root-requires c κs = omega arith
 
+place-past-requires : tie.Need-place-past-requires Inv-loop μ-loop
+place-past-requires c κs = omega arith
+
 loop-holds : tie.Need-loop-holds Inv-loop μ-loop
 loop-holds c =
-    let root = c .before .before in
-    versioned-none _ (rw (root .put-root .ensures) (rows-root _ (root .before .before .before .before .pre .1 .1 .1)))
+    let root = c .before .before .before in
+    let known = root .before .before .before in
+    let start = known .before in
+    versioned-none _ (c .place-past .ensures .0 ∙ start-past (start .args .tape .now) _ (λ i. known .shared-slice-known .given i .fits) (start .pre .0))
+    (rw (root .put-root .ensures) (rows-root _ (start .pre .1 .1 .1)))
 
-take-at-requires : tie.Need-take-at-requires Inv-loop μ-loop
-take-at-requires c κs =
+read-at-requires : tie.Need-read-at-requires Inv-loop μ-loop
+read-at-requires c κs =
     let turn = c .before in
-    let known = turn .before .before .before .before .before .before in
+    let known = turn .before .before .before .before .before .before .before in
     let start = known .before in
     let a = start .args in
     let p = start .pre in
@@ -37,13 +45,13 @@ add-judge-version c = omega arith
 judge-version-requires : tie.Need-judge-version-requires Inv-loop μ-loop
 judge-version-requires c κs =
     let turn = c .before .before .before in
-    let known = turn .before .before .before .before .before .before in
+    let known = turn .before .before .before .before .before .before .before in
     let start = known .before in
     let a = start .args in
     let p = start .pre in (
       turn .loop .inv .shown .long,
       omega arith,
-      version-below (a .tape .now) (contentIn (a .tape .now)) (λ i. known .shared-slice-known .given i .fits) (p .0) (p .1 .0) (omega arith) (turn .loop .inv) (omega arith) (c .before .take-at .ensures .0),
+      version-below (a .tape .now) (contentIn (a .tape .now)) (λ i. known .shared-slice-known .given i .fits) (p .0) (p .1 .0) (omega arith) (turn .loop .inv) (omega arith) (c .before .read-at .ensures .0),
     )
 
 add-k : tie.Need-add-k Inv-loop μ-loop
@@ -55,12 +63,12 @@ loop-less c = omega arith
 loop-again : tie.Need-loop-again Inv-loop μ-loop
 loop-again c =
     let turn = c .before .before .before .before .before .before in
-    let known = turn .before .before .before .before .before .before in
+    let known = turn .before .before .before .before .before .before .before in
     let start = known .before in
     let a = start .args in
     let p = start .pre in
     versioned-more (a .tape .now) (contentIn (a .tape .now)) (λ i. known .shared-slice-known .given i .fits) (p .0) (p .1 .0) (omega arith) (turn .loop .inv) (omega arith)
-    (c .before .before .before .before .take-at .ensures .0) (c .before .before .before .before .take-at .ensures .1) (c .before .before .judge-version .ensures .0)
+    (c .before .before .before .before .read-at .ensures .0) (c .before .before .before .before .read-at .ensures .1) (c .before .before .judge-version .ensures .0)
     (c .before .before .judge-version .ensures .1)
 
 same-length : tie.Need-same-length Inv-loop μ-loop
@@ -76,8 +84,9 @@ judge-versions-spec =
     Inv-loop
     μ-loop
     put-root-requires
+    place-past-requires
     loop-holds
-    take-at-requires
+    read-at-requires
     add-judge-version
     judge-version-requires
     add-k

@@ -1,10 +1,12 @@
 -- `resume::write::write_store` meets its contract. The loop's invariant: the first `k` versions of the tape were written into the fresh store. The measure is what is left of them.
 -- Assumes nothing.
 use Prim.Native.Nat.{_-_}
+use mathlib.Core.Path.{_∙_}
 use native.Mathlib.Omega.{arith}
 use Rattle.store.proofs.Ranges.{ranges}
 use Rattle.tape.specs.Tape.{roomOf}
 use Rattle.tape.proofs.Records.{Bytes}
+use Rattle.tape.proofs.Located.{start-past}
 use Rattle.resume.specs.Content.{contentIn}
 use Rattle.resume.proofs.VersionsWritten.{Written, sound-ready, written-none, record-inside, next-fits, next-ranged, next-based, written-more, written-all}
 use Rattle.resume.proofs.StoreWritten.{opened-standing, opened-fits, header-fits, store-whole}
@@ -23,19 +25,24 @@ open-requires c κs =
     let k = ranges (roomOf (contentIn (start .args .tape .now))) (start .pre .1 .1 .0 .0) in
     omega arith
 
+place-past-requires : tie.Need-place-past-requires Inv-loop μ-loop
+place-past-requires c κs = omega arith
+
 loop-holds : tie.Need-loop-holds Inv-loop μ-loop
 loop-holds c =
-    let opened = c .before .before in
-    let start = opened .before .before .before .before .before .before in
+    let opened = c .before .before .before in
+    let known = opened .before .before .before .before in
+    let start = known .before .before in
     let a = start .args in
     let p = start .pre in
     let t = contentIn (a .tape .now) in
-    written-none t (opened-standing t (p .1 .1 .0 .0) (a .store .now) (a .capacity) (p .1 .0 .0) (p .1 .1 .1 .1) (opened .«open» .ensures))
+    written-none t (c .place-past .ensures .0 ∙ start-past (a .tape .now) t (λ i. known .shared-slice-known .given i .fits) (p .0))
+    (opened-standing t (p .1 .1 .0 .0) (a .store .now) (a .capacity) (p .1 .0 .0) (p .1 .1 .1 .1) (opened .«open» .ensures))
 
 read-at-requires : tie.Need-read-at-requires Inv-loop μ-loop
 read-at-requires c κs =
     let turn = c .before in
-    let opened = turn .before .before .before in
+    let opened = turn .before .before .before .before in
     let known = opened .before .before .before .before in
     let start = known .before .before in
     let a = start .args in
@@ -51,7 +58,7 @@ add-append-version c = omega arith
 append-version-requires : tie.Need-append-version-requires Inv-loop μ-loop
 append-version-requires c κs =
     let turn = c .before .before .before in
-    let opened = turn .before .before .before in
+    let opened = turn .before .before .before .before in
     let known = opened .before .before .before .before in
     let start = known .before .before in
     let a = start .args in
@@ -80,7 +87,7 @@ loop-again c =
     let written = c .before .before in
     let taken = written .before .before in
     let turn = taken .before .before in
-    let opened = turn .before .before .before in
+    let opened = turn .before .before .before .before in
     let known = opened .before .before .before .before in
     let start = known .before .before in
     let a = start .args in
@@ -92,14 +99,14 @@ loop-again c =
 
 add-put-header : tie.Need-add-put-header Inv-loop μ-loop
 add-put-header c =
-    let start = c .before .before .before .before .before .before .before .before .before .before .before in
+    let start = c .before .before .before .before .before .before .before .before .before .before .before .before in
     let k = ranges (roomOf (contentIn (start .args .tape .now))) (start .pre .1 .1 .0 .0) in
     omega arith
 
 put-header-requires : tie.Need-put-header-requires Inv-loop μ-loop
 put-header-requires c κs =
     let turn = c .before .before in
-    let opened = turn .before .before .before in
+    let opened = turn .before .before .before .before in
     let start = opened .before .before .before .before .before .before in
     let a = start .args in
     let p = start .pre in
@@ -114,7 +121,7 @@ returns : tie.Need-returns Inv-loop μ-loop
 returns c =
     let ended = c .before .before in
     let turn = ended .before .before .before in
-    let opened = turn .before .before .before in
+    let opened = turn .before .before .before .before in
     let start = opened .before .before .before .before .before .before in
     let a = start .args in
     let p = start .pre in
@@ -129,6 +136,7 @@ write-store-spec =
     Inv-loop
     μ-loop
     open-requires
+    place-past-requires
     loop-holds
     read-at-requires
     add-append-version
