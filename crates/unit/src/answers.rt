@@ -17,7 +17,7 @@ pub fn refused(n: u32) -> Reply
 
 // The reply of an accepted call with this count.
 pub fn counted(n: usize) -> Reply
-    requires { ⌜ n ≤ 1024 ⌝ }
+    requires { ⌜ n ≤ 8192 ⌝ }
     ensures { λ r. ⌜ r ≡ replied 0 n ⌝ }
 {
     Reply {

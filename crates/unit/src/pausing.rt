@@ -1,5 +1,7 @@
 // The call that writes the pause tape of a store.
 use crate::Reply;
+use crate::answers::counted;
+use crate::answers::refused;
 use pause::tape_length;
 use pause::write_tape;
 use store::judge::holds;
@@ -12,21 +14,12 @@ pub extern "C" fn room_pause(store: &[u8], tape: &mut [u8]) -> Reply
     ensures { λ r. ⌜ (r ≡ (pauseOutcome (now (store .entry)) (now (tape .entry))) .reply) × (now (tape .exit) ≡ (pauseOutcome (now (store .entry)) (now (tape .entry))) .buffer) ⌝ }
 {
     if !holds(store) {
-        return Reply {
-            answer: 11,
-            count: 0,
-        };
+        return refused(11);
     }
     let length = tape_length(store);
     if tape.len() < length {
-        return Reply {
-            answer: 19,
-            count: 0,
-        };
+        return refused(19);
     }
     write_tape(store, tape);
-    Reply {
-        answer: 0,
-        count: length as u32,
-    }
+    counted(length)
 }

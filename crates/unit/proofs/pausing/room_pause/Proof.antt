@@ -10,45 +10,61 @@ use Rattle.unit.proofs.pausing.room_pause.Tie as tie
 holds-requires : tie.Need-holds-requires
 holds-requires c κs = omega arith
 
+refused-requires : tie.Need-refused-requires
+refused-requires c κs = omega arith
+
 returns : tie.Need-returns
 returns c =
-    let a = c .before .before .before .before .args in
-    pause-unheld (a .store .now) (a .tape .now) (sym (c .before .holds .ensures) ∙ not-true _ (c .if1 .taken))
+    let told = c .before .before in
+    let a = told .before .before .before .args in
+    let went = pause-unheld (a .store .now) (a .tape .now) (sym (told .holds .ensures) ∙ not-true _ (c .before .if1 .taken)) in
+    (c .refused .ensures ∙ went .0, went .1)
 
 tape-length-requires : tie.Need-tape-length-requires
 tape-length-requires c κs = sym (c .before .holds .ensures) ∙ not-false _ (c .if1 .left)
 
+refused-requires-2 : tie.Need-refused-requires-2
+refused-requires-2 c κs = omega arith
+
 returns-2 : tie.Need-returns-2
 returns-2 c =
-    let a = c .before .before .before .before .before .before .args in
-    let n = c .before .tape-length in
-    pause-short (a .store .now) (a .tape .now) (sym (c .before .before .before .holds .ensures) ∙ not-false _ (c .before .before .if1 .left)) (n .result) (n .ensures .0) (omega arith)
+    let measured = c .before .before in
+    let told = measured .before .before in
+    let a = told .before .before .before .args in
+    let n = measured .tape-length in
+    let went = pause-short (a .store .now) (a .tape .now) (sym (told .holds .ensures) ∙ not-false _ (measured .before .if1 .left)) (n .result) (n .ensures .0) (omega arith) in
+    (c .refused2 .ensures ∙ went .0, went .1)
 
 write-tape-requires : tie.Need-write-tape-requires
 write-tape-requires c κs = (sym (c .before .before .before .before .holds .ensures) ∙ not-false _ (c .before .before .before .if1 .left), omega (arith, c .before .before .tape-length .ensures .0))
 
-cast-t10 : tie.Need-cast-t10
-cast-t10 c = omega arith
+counted-requires : tie.Need-counted-requires
+counted-requires c κs = omega arith
 
 same-length : tie.Need-same-length
 same-length c = omega arith
 
 returns-3 : tie.Need-returns-3
 returns-3 c =
-    let a = c .before .before .before .before .before .before .before .before .before .before .args in
-    let n = c .before .before .before .before .before .tape-length in
-    pause-written (a .store .now) (a .tape .now) (sym (c .before .before .before .before .before .before .before .holds .ensures) ∙ not-false _ (c .before .before .before .before .before .before .if1 .left)) (n .result) (n .ensures .0) (omega arith)
-    (c .before .before .write-tape .ensures)
+    let written = c .before .before .before in
+    let measured = written .before .before .before in
+    let told = measured .before .before in
+    let a = told .before .before .before .args in
+    let n = measured .tape-length in
+    let went = pause-written (a .store .now) (a .tape .now) (sym (told .holds .ensures) ∙ not-false _ (measured .before .if1 .left)) (n .result) (n .ensures .0) (omega arith) (written .write-tape .ensures) in
+    (c .counted .ensures ∙ went .0, went .1)
 
 pub room-pause-spec : {M : Type 1} → statement M
 room-pause-spec =
     tie.close
     (tie.spec
     holds-requires
+    refused-requires
     returns
     tape-length-requires
+    refused-requires-2
     returns-2
     write-tape-requires
-    cast-t10
+    counted-requires
     same-length
     returns-3)
