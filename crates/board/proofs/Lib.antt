@@ -4,4 +4,3 @@ pub mod Marks
 pub mod Strips
 pub mod Boards
 pub mod Entries
-pub mod Kept

@@ -5,11 +5,9 @@ use buffer::put_word;
 use buffer::wide;
 use buffer::word_at;
 ghost use mathlib.Core.Path.{_≡_};
-ghost use mathlib.Core.Bool.{_&&_};
 ghost use Prim.Native.Nat.{_+_, _*_, _^_, _<_};
 ghost use lib.Bits.{bitOr};
-ghost use lib.Dec.{eqb, ltb};
-ghost use lib.ListN.{length, getD, set};
+ghost use lib.ListN.{length, set};
 ghost use Rattle.buffer.specs.Field.{wordAt, putWord, part, same};
 ghost use Rattle.buffer.specs.Row.{bit};
 ghost use Rattle.board.specs.Board.{stripSize, stripCount, boardSize, marksAt, alertsAt, flagAt, flagOn, mergeSetting, mergeMarks, mergeCount, mergeFlag, mergeStrip, mergeBoard, without, enter};
@@ -180,33 +178,14 @@ pub fn merge_board(board: &mut [u8], l: &[u8], a: &[u8], b: &[u8])
     }
 }
 
-// A strip is the same in all boards, and is its own merge: most strips are, since few change between a base and a merge.
-fn is_strip_kept(s: &[u8], l: &[u8], a: &[u8], b: &[u8]) -> bool
-    requires { ⌜ (length (now s) ≡ stripSize) × (length (now l) ≡ stripSize) × (length (now a) ≡ stripSize) × (length (now b) ≡ stripSize) ⌝ }
-    ensures { λ r. ⌜ r ≡ same (now (s .entry)) (now (l .entry)) && same (now (a .entry)) (now (l .entry)) && same (now (b .entry)) (now (l .entry)) && ltb (getD (now (l .entry)) 10 0) 2 && eqb (getD (now (l .entry)) 11 0) 0 ⌝ }
-{
-    is_same(s, l) & is_same(a, l) & is_same(b, l) & (l[FLAG] < 2) & (l[REST] == 0)
-}
-
-// A strip is what the rules make of three strips.
-fn is_strip_made(s: &[u8], l: &[u8], a: &[u8], b: &[u8]) -> bool
+// A strip is the merge of three strips.
+fn is_strip_merged(s: &[u8], l: &[u8], a: &[u8], b: &[u8]) -> bool
     requires { ⌜ (length (now s) ≡ stripSize) × (length (now l) ≡ stripSize) × (length (now a) ≡ stripSize) × (length (now b) ≡ stripSize) ⌝ }
     ensures { λ r. ⌜ r ≡ same (now (s .entry)) (mergeStrip (now (l .entry)) (now (a .entry)) (now (b .entry)) 0) ⌝ }
 {
     let mut merged = [0u8; STRIP_SIZE];
     merge_strip(&mut merged, l, a, b);
     is_same(s, &merged)
-}
-
-// A strip is the merge of three strips.
-fn is_strip_merged(s: &[u8], l: &[u8], a: &[u8], b: &[u8]) -> bool
-    requires { ⌜ (length (now s) ≡ stripSize) × (length (now l) ≡ stripSize) × (length (now a) ≡ stripSize) × (length (now b) ≡ stripSize) ⌝ }
-    ensures { λ r. ⌜ r ≡ same (now (s .entry)) (mergeStrip (now (l .entry)) (now (a .entry)) (now (b .entry)) 0) ⌝ }
-{
-    if is_strip_kept(s, l, a, b) {
-        return true;
-    }
-    is_strip_made(s, l, a, b)
 }
 
 // A board is the merge of three boards.

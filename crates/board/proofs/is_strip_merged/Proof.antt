@@ -1,28 +1,35 @@
--- `board::is_strip_merged` meets its contract: a strip that is the same everywhere is its own merge, any other is made and compared.
+-- `board::is_strip_merged` meets its contract. The merge is written to an array of its own and compared.
 -- Assumes nothing.
-use mathlib.Core.Path.{sym, _∙_}
-use native.Mathlib.Omega.{arith}
-use Rattle.board.proofs.Kept.{strip-kept}
+use mathlib.Core.Path.{ap, _∙_}
+use borrow.Author.Needs.{needs}
+use denote.Ref.{now}
+use Rattle.buffer.specs.Field.{same}
 use Rattle.board.proofs.is_strip_merged.Statement.{statement}
 use Rattle.board.proofs.is_strip_merged.Tie as tie
 
-is-strip-kept-requires : tie.Need-is-strip-kept-requires
-is-strip-kept-requires c κs = omega arith
+slice-aggregate-merge-strip : tie.Need-slice-aggregate-merge-strip
+slice-aggregate-merge-strip c = search needs
+
+merge-strip-requires : tie.Need-merge-strip-requires
+merge-strip-requires c κs = search needs
+
+slice-aggregate-is-same : tie.Need-slice-aggregate-is-same
+slice-aggregate-is-same c = search needs
+
+is-same-requires : tie.Need-is-same-requires
+is-same-requires c κs = search needs
 
 returns : tie.Need-returns
 returns c =
-    let told = c .before in
-    let known = told .before in
-    let a = known .before .before .before .before .args in
-    strip-kept (a .s .now) (a .l .now) (a .a .now) (a .b .now) (λ k. known .before .before .shared-slice-known2 .given k .fits) (omega arith)
-    (sym (told .is-strip-kept .ensures) ∙ c .if1 .taken)
-
-is-strip-made-requires : tie.Need-is-strip-made-requires
-is-strip-made-requires c κs = omega arith
-
-returns-2 : tie.Need-returns-2
-returns-2 c = c .is-strip-made .ensures
+    let start = c .before .before .before .before .before .before .before .before .before in
+    c .is-same .ensures ∙ ap (same (now (start .args .s))) (c .before .before .before .merge-strip .ensures)
 
 pub is-strip-merged-spec : {M : Type 1} → statement M
 is-strip-merged-spec =
-    tie.close (tie.spec is-strip-kept-requires returns is-strip-made-requires returns-2)
+    tie.close
+    (tie.spec
+    slice-aggregate-merge-strip
+    merge-strip-requires
+    slice-aggregate-is-same
+    is-same-requires
+    returns)
