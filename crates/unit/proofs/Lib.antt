@@ -5,3 +5,4 @@ pub mod Answered
 pub mod Paused
 pub mod Commanded
 pub mod Taken
+pub mod RoundTrip
