@@ -80,7 +80,8 @@ pub extern "C" fn room_board(store: &[u8], console: u32, board: &mut [u8]) -> Re
         return refused(refusal);
     }
     let v = head_of(store, Console(size(console)));
-    copy(&mut board[..BOARD], board_of(store, v));
+    let end = BOARD;
+    copy(&mut board[..end], board_of(store, v));
     counted(BOARD)
 }
 
