@@ -12,16 +12,17 @@ use lib.ListN.{getD}
 use borrow.Author.Tests.{ltb-true, eq-eqb, ne-eqb}
 use Rattle.laws.proofs.Logic.{and-l, and-r, and-i, clash, refuted}
 use Rattle.buffer.specs.Field.{wordAt, zeros, part, same, allZero}
-use Rattle.buffer.specs.Row.{member, withMember, union, intersection}
+use Rattle.buffer.specs.Row.{member, withMember, union}
 use Rattle.board.specs.Board.{stripCount, enter, mergeBoard}
 use Rattle.command.specs.Code.{isEntryCode, isStrip, isOperand}
 use Rattle.command.proofs.Carried.{operand-mark, operand-unmark}
 use Rattle.store.specs.Layout.{nodeSize, rowSize, blockAt, nodeCodeAt, nodeStripAt, nodeOperandAt, nodeParentAt, nodeGiverAt, nodeBaseAt}
+use Rattle.store.specs.Rules.{entryRanges, bothBelow, isBase}
 use Rattle.store.specs.Check.{rowPart, boardPart, entriesPart, rootRight, entryRight, mergeRight, versionRight, versionsRight}
 
 -- what the ranges of an entry say
-module _ (v p code strip operand : ℕ) (r : Bool) (e : r ≡ isEntryCode code && isStrip strip && isOperand code operand && ltb p v) (t : r ≡ true) where
-  all : isEntryCode code && isStrip strip && isOperand code operand && ltb p v ≡ true
+module _ (v p code strip operand : ℕ) (r : Bool) (e : r ≡ entryRanges v p code strip operand) (t : r ≡ true) where
+  all : entryRanges v p code strip operand ≡ true
   all = sym e ∙ t
 
   pub range-parent : p < v
@@ -45,20 +46,18 @@ module _ (v p code strip operand : ℕ) (r : Bool) (e : r ≡ isEntryCode code &
   range-unmark h = ltb-true operand 16 (operand-unmark code operand h ∙ carries)
 
 -- what the ranges of a merge say
-module _ (v p q l : ℕ) (r : Bool) (e : r ≡ ltb p v && ltb q v && ltb l v && not (eqb l p) && not (eqb l q)) (t : r ≡ true) where
-  below : ltb p v && ltb q v && ltb l v ≡ true
-  below =
-      and-l (ltb p v && ltb q v && ltb l v) (not (eqb l p))
-      (and-l (ltb p v && ltb q v && ltb l v && not (eqb l p)) (not (eqb l q)) (sym e ∙ t))
+module _ (v p q l : ℕ) (r : Bool) (e : r ≡ bothBelow v p q && ltb l v) (t : r ≡ true) where
+  below : bothBelow v p q && ltb l v ≡ true
+  below = sym e ∙ t
 
   pub range-base : l < v
-  range-base = ltb-true l v (and-r (ltb p v && ltb q v) (ltb l v) below)
+  range-base = ltb-true l v (and-r (bothBelow v p q) (ltb l v) below)
 
   pub range-mine : p < v
-  range-mine = ltb-true p v (and-l (ltb p v) (ltb q v) (and-l (ltb p v && ltb q v) (ltb l v) below))
+  range-mine = ltb-true p v (and-l (ltb p v) (ltb q v) (and-l (bothBelow v p q) (ltb l v) below))
 
   pub range-given : q < v
-  range-given = ltb-true q v (and-r (ltb p v) (ltb q v) (and-l (ltb p v && ltb q v) (ltb l v) below))
+  range-given = ltb-true q v (and-r (ltb p v) (ltb q v) (and-l (bothBelow v p q) (ltb l v) below))
 
 -- conjunctions that begin with the ranges
 entry-chain : (r z a b m : Bool) → r ≡ true → z && a && b && m ≡ r && z && a && b && m
@@ -80,44 +79,44 @@ merge-chain-none true z y a b c d h = clash refl h
 merge-chain-none false z y a b c d h = refl
 
 -- an entry whose ranges are right is right by its parts, and one whose ranges are wrong is wrong
-module _ (s : List ℕ) (v p code strip operand : ℕ) (r : Bool) (e : r ≡ isEntryCode code && isStrip strip && isOperand code operand && ltb p v) where
+module _ (s : List ℕ) (v p code strip operand : ℕ) (r : Bool) (e : r ≡ entryRanges v p code strip operand) where
   pub entry-told : (o : Bool) → r ≡ true
       → o ≡ allZero (part s (nodeGiverAt v) (nodeSize - 6)) && same (rowPart s v) (withMember (rowPart s p) v)
       && same (boardPart s v) (enter code strip operand (boardPart s p)) && member (entriesPart s) v
       → o ≡ entryRight s v p code strip operand
   unfolding entryRight
   entry-told o t h =
-      h ∙ entry-chain (isEntryCode code && isStrip strip && isOperand code operand && ltb p v)
+      h ∙ entry-chain (entryRanges v p code strip operand)
       (allZero (part s (nodeGiverAt v) (nodeSize - 6))) (same (rowPart s v) (withMember (rowPart s p) v))
       (same (boardPart s v) (enter code strip operand (boardPart s p))) (member (entriesPart s) v) (sym e ∙ t)
 
   pub entry-refused : r ≡ false → false ≡ entryRight s v p code strip operand
   unfolding entryRight
   entry-refused f =
-      entry-chain-none (isEntryCode code && isStrip strip && isOperand code operand && ltb p v)
+      entry-chain-none (entryRanges v p code strip operand)
       (allZero (part s (nodeGiverAt v) (nodeSize - 6))) (same (rowPart s v) (withMember (rowPart s p) v))
       (same (boardPart s v) (enter code strip operand (boardPart s p))) (member (entriesPart s) v) (sym e ∙ f)
 
 -- the same of a merge
-module _ (s : List ℕ) (v p q l : ℕ) (r : Bool) (e : r ≡ ltb p v && ltb q v && ltb l v && not (eqb l p) && not (eqb l q)) where
+module _ (s : List ℕ) (v p q l : ℕ) (r : Bool) (e : r ≡ bothBelow v p q && ltb l v) where
   pub merge-told : (o : Bool) → r ≡ true
       → o ≡ allZero (part s (nodeStripAt v) 3) && allZero (part s (nodeBaseAt v + 2) (nodeSize - 10))
-      && (same (rowPart s l) (intersection (rowPart s p) (rowPart s q)) && same (rowPart s v) (withMember (union (rowPart s p) (rowPart s q)) v))
+      && (isBase l p q (rowPart s l) (rowPart s p) (rowPart s q) && same (rowPart s v) (withMember (union (rowPart s p) (rowPart s q)) v))
       && same (boardPart s v) (mergeBoard (boardPart s l) (boardPart s p) (boardPart s q)) && not (member (entriesPart s) v)
       → o ≡ mergeRight s v p q l
   unfolding mergeRight
   merge-told o t h =
-      h ∙ merge-chain (ltb p v && ltb q v && ltb l v && not (eqb l p) && not (eqb l q))
+      h ∙ merge-chain (bothBelow v p q && ltb l v)
       (allZero (part s (nodeStripAt v) 3)) (allZero (part s (nodeBaseAt v + 2) (nodeSize - 10)))
-      (same (rowPart s l) (intersection (rowPart s p) (rowPart s q))) (same (rowPart s v) (withMember (union (rowPart s p) (rowPart s q)) v))
+      (isBase l p q (rowPart s l) (rowPart s p) (rowPart s q)) (same (rowPart s v) (withMember (union (rowPart s p) (rowPart s q)) v))
       (same (boardPart s v) (mergeBoard (boardPart s l) (boardPart s p) (boardPart s q))) (not (member (entriesPart s) v)) (sym e ∙ t)
 
   pub merge-refused : r ≡ false → false ≡ mergeRight s v p q l
   unfolding mergeRight
   merge-refused f =
-      merge-chain-none (ltb p v && ltb q v && ltb l v && not (eqb l p) && not (eqb l q))
+      merge-chain-none (bothBelow v p q && ltb l v)
       (allZero (part s (nodeStripAt v) 3)) (allZero (part s (nodeBaseAt v + 2) (nodeSize - 10)))
-      (same (rowPart s l) (intersection (rowPart s p) (rowPart s q))) (same (rowPart s v) (withMember (union (rowPart s p) (rowPart s q)) v))
+      (isBase l p q (rowPart s l) (rowPart s p) (rowPart s q)) (same (rowPart s v) (withMember (union (rowPart s p) (rowPart s q)) v))
       (same (boardPart s v) (mergeBoard (boardPart s l) (boardPart s p) (boardPart s q))) (not (member (entriesPart s) v)) (sym e ∙ f)
 
 -- the parts of version 0

@@ -131,14 +131,15 @@ module _ (s : List ℕ) (g : Graph) (small : versionCount g < maxCapacity) (h : 
       let base = merge-base (record { lower = grown .lower; based = grown .based }) in
       let e : l ≡ base .0 = merge-base-read s v g (k .told .note) (omega arith) ∙ base-is (base .1) in
       let m : Meet g p q l = rw e (base .1) in
-      and-i _ _ (and-i _ _ (and-i _ _ (and-i _ _ (and-i _ _ (and-i _ _ (and-i _ _ (and-i _ _ (and-i _ _
+      and-i _ _ (and-i _ _ (and-i _ _ (and-i _ _ (and-i _ _ (and-i _ _ (and-i _ _
       (k .lower)
       (lt-ltb l v (ancestor-below g l p (m .first))))
-      (not-i _ (ne-eqb l p (λ d. base .2 (sym e ∙ d)))))
-      (not-i _ (ne-eqb l q (λ d. base .3 (sym e ∙ d)))))
       (merge-zero s v g (k .told .note)))
       (merge-rest s v g (k .told .note)))
-      (same-of _ _ (meet-rows (omega arith) h p q l first second m)))
+      (and-i _ _ (and-i _ _
+      (not-i _ (ne-eqb l p (λ d. base .2 (sym e ∙ d))))
+      (not-i _ (ne-eqb l q (λ d. base .3 (sym e ∙ d)))))
+      (same-of _ _ (meet-rows (omega arith) h p q l first second m))))
       (same-of _ _ (k .told .line ∙ sym (merge-line first second))))
       (same-of _ _ (k .told .board ∙ sym (merge-board first second m))))
       (not-i _ (k .told .listed))

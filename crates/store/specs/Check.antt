@@ -9,8 +9,9 @@ use Rattle.buffer.specs.Field.{wordAt, zeros, part, same, allZero}
 use Rattle.buffer.specs.Row.{row, member, withMember, union, intersection, noneFrom}
 use Rattle.board.specs.Board.{boardSize, enter, mergeBoard}
 use Rattle.graph.specs.Below.{everyBelow}
-use Rattle.command.specs.Code.{consoleCount, isEntryCode, isStrip, isOperand}
+use Rattle.command.specs.Code.{consoleCount}
 use Rattle.room.specs.Sound.{isCapacity}
+use Rattle.store.specs.Rules.{entryRanges, bothBelow, isBase}
 use Rattle.store.specs.Layout.{headerSize, nodeSize, rowSize, blockSize, storeSize, capacityAt, countAt, entriesAt, commonsEnd, commonAt, blockAt, nodeCodeAt, nodeStripAt, nodeOperandAt, nodeParentAt, nodeGiverAt, nodeBaseAt, rowAt, boardAt}
 
 abbrev pub rowPart : List ℕ → ℕ → List ℕ
@@ -33,7 +34,7 @@ rootRight s =
 -- an entry with this parent, code, strip and operand
 unfoldable pub entryRight : List ℕ → ℕ → ℕ → ℕ → ℕ → ℕ → Bool
 entryRight s v p code strip operand =
-    isEntryCode code && isStrip strip && isOperand code operand && ltb p v
+    entryRanges v p code strip operand
     && allZero (part s (nodeGiverAt v) (nodeSize - 6))
     && same (rowPart s v) (withMember (rowPart s p) v)
     && same (boardPart s v) (enter code strip operand (boardPart s p))
@@ -42,10 +43,10 @@ entryRight s v p code strip operand =
 -- a merge with these parents and this base
 unfoldable pub mergeRight : List ℕ → ℕ → ℕ → ℕ → ℕ → Bool
 mergeRight s v p q l =
-    ltb p v && ltb q v && ltb l v && not (eqb l p) && not (eqb l q)
+    bothBelow v p q && ltb l v
     && allZero (part s (nodeStripAt v) 3)
     && allZero (part s (nodeBaseAt v + 2) (nodeSize - 10))
-    && same (rowPart s l) (intersection (rowPart s p) (rowPart s q))
+    && isBase l p q (rowPart s l) (rowPart s p) (rowPart s q)
     && same (rowPart s v) (withMember (union (rowPart s p) (rowPart s q)) v)
     && same (boardPart s v) (mergeBoard (boardPart s l) (boardPart s p) (boardPart s q))
     && not (member (entriesPart s) v)

@@ -2,4 +2,5 @@
 pub mod consoles;
 pub mod judge;
 pub mod places;
+pub mod rules;
 mod version;

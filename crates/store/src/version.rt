@@ -7,29 +7,28 @@ use crate::places::ROW;
 use crate::places::board_of;
 use crate::places::entries_of;
 use crate::places::row_of;
+use crate::rules::both_below;
+use crate::rules::entry_in_range;
+use crate::rules::is_base;
 use board::Strip;
 use board::is_entered;
 use board::is_merged;
 use buffer::has_member;
 use buffer::is_extended;
 use buffer::is_extended_union;
-use buffer::is_intersection;
 use buffer::is_zero;
 use buffer::wide;
 use buffer::word_at;
-use command::numbers::is_entry_code;
-use command::numbers::is_operand;
-use command::numbers::is_strip;
+use graph::Version;
 ghost use mathlib.Core.Path.{_≡_};
 ghost use mathlib.Core.Bool.{not, _&&_};
 ghost use Prim.Native.Nat.{suc, _+_, _-_, _<_, _≤_};
-ghost use lib.Dec.{eqb, ltb};
 ghost use lib.ListN.{length, getD};
 ghost use Rattle.buffer.specs.Field.{part, same, allZero, zeros};
-ghost use Rattle.buffer.specs.Row.{member, withMember, union, intersection};
+ghost use Rattle.buffer.specs.Row.{member, withMember, union};
 ghost use Rattle.board.specs.Board.{stripCount, enter, mergeBoard};
-ghost use Rattle.command.specs.Code.{isEntryCode, isStrip, isOperand};
 ghost use Rattle.store.specs.Layout.{nodeSize, rowSize, blockAt, nodeStripAt, nodeGiverAt, nodeBaseAt};
+ghost use Rattle.store.specs.Rules.{isBase};
 ghost use Rattle.store.specs.Check.{rowPart, boardPart, entriesPart, rootRight, entryRight, mergeRight, versionRight, versionsRight};
 
 // Whether the n bytes from a place on are 0.
@@ -64,14 +63,22 @@ fn entry_board_right(
     is_entered(board_of(s, v), board_of(s, p), code, Strip(strip), operand)
 }
 
-// Whether the base's row is the intersection of the parents', and the version's their union with the version besides.
+// Whether the base is that of the parents, and the version's row the union of theirs with the version besides.
 fn merge_rows_right(s: &[u8], v: usize, p: usize, q: usize, l: usize) -> bool
     requires { ⌜ (p < v) × (q < v) × (l < v) × (v < 1024) × (blockAt (suc v) ≤ length (now s)) ⌝ }
-    ensures { λ r. ⌜ r ≡ same (rowPart (now (s .entry)) l) (intersection (rowPart (now (s .entry)) p) (rowPart (now (s .entry)) q)) && same (rowPart (now (s .entry)) v) (withMember (union (rowPart (now (s .entry)) p) (rowPart (now (s .entry)) q)) v) ⌝ }
+    ensures { λ r. ⌜ r ≡ isBase l p q (rowPart (now (s .entry)) l) (rowPart (now (s .entry)) p) (rowPart (now (s .entry)) q) && same (rowPart (now (s .entry)) v) (withMember (union (rowPart (now (s .entry)) p) (rowPart (now (s .entry)) q)) v) ⌝ }
 {
     let mine = row_of(s, p);
     let given = row_of(s, q);
-    is_intersection(row_of(s, l), mine, given) & is_extended_union(row_of(s, v), mine, given, v)
+    is_base(
+        Version(l),
+        Version(p),
+        Version(q),
+        row_of(s, l),
+        mine,
+        given,
+    )
+        & is_extended_union(row_of(s, v), mine, given, v)
 }
 
 // Whether a version's board is the merge of its parents' over the base's.
@@ -85,13 +92,6 @@ fn merge_board_right(s: &[u8], v: usize, p: usize, q: usize, l: usize) -> bool
         board_of(s, p),
         board_of(s, q),
     )
-}
-
-// Whether the numbers of an entry are in their ranges.
-fn entry_ranges(v: usize, p: usize, code: usize, strip: usize, operand: usize) -> bool
-    ensures { λ r. ⌜ r ≡ isEntryCode code && isStrip strip && isOperand code operand && ltb p v ⌝ }
-{
-    is_entry_code(code) & is_strip(strip) & is_operand(code, operand) & (p < v)
 }
 
 // Whether the parts of an entry's block are right, its numbers being in their ranges.
@@ -111,23 +111,16 @@ fn entry_right(s: &[u8], v: usize, p: usize, code: usize, strip: usize, operand:
     requires { ⌜ (v < 1024) × (blockAt (suc v) ≤ length (now s)) ⌝ }
     ensures { λ r. ⌜ r ≡ entryRight (now (s .entry)) v p code strip operand ⌝ }
 {
-    if entry_ranges(v, p, code, strip, operand) {
+    if entry_in_range(Version(v), Version(p), code, Strip(strip), operand) {
         return entry_parts(s, v, p, code, strip, operand);
     }
     false
 }
 
-// Whether the versions of a merge are in their ranges.
-fn merge_ranges(v: usize, p: usize, q: usize, l: usize) -> bool
-    ensures { λ r. ⌜ r ≡ ltb p v && ltb q v && ltb l v && not (eqb l p) && not (eqb l q) ⌝ }
-{
-    (p < v) & (q < v) & (l < v) & !(l == p) & !(l == q)
-}
-
-// Whether the parts of a merge's block are right, its versions being in their ranges.
+// Whether the parts of a merge's block are right, its parents and base being below it.
 fn merge_parts(s: &[u8], v: usize, p: usize, q: usize, l: usize) -> bool
     requires { ⌜ (p < v) × (q < v) × (l < v) × (v < 1024) × (blockAt (suc v) ≤ length (now s)) ⌝ }
-    ensures { λ r. ⌜ r ≡ allZero (part (now (s .entry)) (nodeStripAt v) 3) && allZero (part (now (s .entry)) (nodeBaseAt v + 2) (nodeSize - 10)) && (same (rowPart (now (s .entry)) l) (intersection (rowPart (now (s .entry)) p) (rowPart (now (s .entry)) q)) && same (rowPart (now (s .entry)) v) (withMember (union (rowPart (now (s .entry)) p) (rowPart (now (s .entry)) q)) v)) && same (boardPart (now (s .entry)) v) (mergeBoard (boardPart (now (s .entry)) l) (boardPart (now (s .entry)) p) (boardPart (now (s .entry)) q)) && not (member (entriesPart (now (s .entry))) v) ⌝ }
+    ensures { λ r. ⌜ r ≡ allZero (part (now (s .entry)) (nodeStripAt v) 3) && allZero (part (now (s .entry)) (nodeBaseAt v + 2) (nodeSize - 10)) && (isBase l p q (rowPart (now (s .entry)) l) (rowPart (now (s .entry)) p) (rowPart (now (s .entry)) q) && same (rowPart (now (s .entry)) v) (withMember (union (rowPart (now (s .entry)) p) (rowPart (now (s .entry)) q)) v)) && same (boardPart (now (s .entry)) v) (mergeBoard (boardPart (now (s .entry)) l) (boardPart (now (s .entry)) p) (boardPart (now (s .entry)) q)) && not (member (entriesPart (now (s .entry))) v) ⌝ }
 {
     let at = HEADER + BLOCK * v;
     let strip = at + 1;
@@ -144,7 +137,7 @@ fn merge_right(s: &[u8], v: usize, p: usize, q: usize, l: usize) -> bool
     requires { ⌜ (v < 1024) × (blockAt (suc v) ≤ length (now s)) ⌝ }
     ensures { λ r. ⌜ r ≡ mergeRight (now (s .entry)) v p q l ⌝ }
 {
-    if merge_ranges(v, p, q, l) {
+    if both_below(Version(v), Version(p), Version(q)) & (l < v) {
         return merge_parts(s, v, p, q, l);
     }
     false

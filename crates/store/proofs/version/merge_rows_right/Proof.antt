@@ -15,8 +15,8 @@ row-of-requires-2 c κs = search needs
 row-of-requires-3 : tie.Need-row-of-requires-3
 row-of-requires-3 c κs = search needs
 
-is-intersection-requires : tie.Need-is-intersection-requires
-is-intersection-requires c κs = search needs
+is-base-requires : tie.Need-is-base-requires
+is-base-requires c κs = search needs
 
 row-of-requires-4 : tie.Need-row-of-requires-4
 row-of-requires-4 c κs = search needs
@@ -30,7 +30,7 @@ returns c =
     let mine = x .before .before .before .row-of .ensures .0 in
     let given = x .before .before .row-of2 .ensures .0 in
     ap₂ _&&_
-    (rw (x .before .row-of3 .ensures .0, mine, given) at (x .is-intersection .ensures))
+    (rw (x .before .row-of3 .ensures .0, mine, given) at (x .is-base .ensures))
     (rw (c .before .row-of4 .ensures .0, mine, given) at (c .is-extended-union .ensures))
 
 pub merge-rows-right-spec : {M : Type 1} → statement M
@@ -40,7 +40,7 @@ merge-rows-right-spec =
     row-of-requires
     row-of-requires-2
     row-of-requires-3
-    is-intersection-requires
+    is-base-requires
     row-of-requires-4
     is-extended-union-requires
     returns)
