@@ -1,6 +1,6 @@
 -- What a record that is in range gives to the functions that append its version.
 -- Assumes nothing.
-use mathlib.Core.Path.{_≡_}
+use mathlib.Core.Path.{_≡_, refl}
 use mathlib.Core.Bool.{true, _&&_}
 use mathlib.Core.List.{List}
 use Prim.Native.Nat.{ℕ, _<_}
@@ -10,8 +10,8 @@ use Rattle.laws.proofs.Logic.{and-l, and-r}
 use Rattle.board.specs.declared.Strip.{Strip}
 use Rattle.board.specs.Board.{stripCount}
 use Rattle.graph.specs.declared.Version.{Version}
-use Rattle.command.specs.Code.{isEntryCode, isStrip, isOperand}
-use Rattle.update.proofs.GrownStore.{marks-small}
+use Rattle.store.specs.Rules.{entryRanges}
+use Rattle.store.proofs.VersionTests.{range-parent, range-strip, range-mark, range-unmark}
 use Rattle.tape.specs.declared.Record.{Record}
 use Rattle.tape.specs.declared.Record.the-variants.{Entry, Merge}
 use Rattle.resume.specs.Ranges.{versionInRange}
@@ -20,13 +20,11 @@ use Rattle.resume.specs.Writing.{baseIn, baseBelow}
 pub entry-fits : (v : ℕ) {x : Record} {parent : Version} {code : ℕ} {strip : Strip} {operand : ℕ} → x ≡ Entry parent code strip operand
     → versionInRange v x ≡ true → (parent .0 < v) × (strip .0 < stripCount) × (code ≡ 4 → operand < 16) × (code ≡ 5 → operand < 16)
 entry-fits v {parent = parent} {code = code} {strip = strip} {operand = operand} e h =
-    let t : ltb (parent .0) v && (isEntryCode code && isStrip (strip .0) && isOperand code operand) ≡ true = rw e at h in
-    let numbers = and-r (ltb (parent .0) v) _ t in
-    let marks = marks-small code (strip .0) operand numbers in (
-      ltb-true (parent .0) v (and-l (ltb (parent .0) v) _ t),
-      ltb-true (strip .0) stripCount (and-r (isEntryCode code) (isStrip (strip .0)) (and-l (isEntryCode code && isStrip (strip .0)) _ numbers)),
-      marks .0,
-      marks .1,
+    let t : entryRanges v (parent .0) code (strip .0) operand ≡ true = rw e at h in (
+      range-parent v (parent .0) code (strip .0) operand _ refl t,
+      range-strip v (parent .0) code (strip .0) operand _ refl t,
+      range-mark v (parent .0) code (strip .0) operand _ refl t,
+      range-unmark v (parent .0) code (strip .0) operand _ refl t,
     )
 
 pub merge-fits : (rows : List ℕ) (v : ℕ) {x : Record} {receiver giver : Version} → x ≡ Merge receiver giver → versionInRange v x ≡ true

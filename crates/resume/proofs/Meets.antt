@@ -2,11 +2,11 @@
 -- common is their intersection exactly when the two versions have a meet.
 -- Assumes nothing.
 use mathlib.Core.Path.{_≡_, refl, sym, ap, ap₂, _∙_}
-use mathlib.Core.Bool.{Bool, false, not, _&&_}
+use mathlib.Core.Bool.{Bool, true, false, not, _&&_, and-true, and-false}
 use mathlib.Core.List.{List}
 use mathlib.Core.Logic.{inl, inr}
 use mathlib.Core.Option.{Option, none, some, Option·getD}
-use Prim.Native.Nat.{ℕ, zero, suc, _-_, _≤_, _<_}
+use Prim.Native.Nat.{ℕ, zero, suc, _≤_, _<_}
 use native.Mathlib.Omega.{arith}
 use lib.Dec.{eqb}
 use Rattle.laws.proofs.Logic.{decide, refuted, clash, and-l, and-r, and-i}
@@ -21,6 +21,7 @@ use Rattle.graph.proofs.Below.{highest-of, highest-some}
 use Rattle.graph.proofs.Ancestor.{ancestor-below, ancestor-le}
 use Rattle.graph.proofs.Meet.{Meet, meet-is, meet-found}
 use Rattle.store.specs.Layout.{rowSize, headFrom}
+use Rattle.store.specs.Rules.{isBase}
 use Rattle.store.proofs.Lineage.{lineage, meet-lineage, lineage-meet}
 use Rattle.resume.specs.Rows.{highestCommon, ownRow, RowsOf, fieldWhen, meetField}
 
@@ -89,9 +90,10 @@ pub field-told : (t : List ℕ) (u v : ℕ) {p q m : List ℕ} {h : ℕ} {b : Bo
 unfolding meetField
 field-told t u v {p} {q} {m} {h} {b} e f k n s = rw (s, n, k, e, f)
 
-pub base-none : (p q : ℕ) {m x : ℕ} → m ≡ x → m ≡ 0 → false ≡ servesAsBase p q (headFrom x)
-base-none p q {m} {x} e z = let y : x ≡ 0 = omega arith in rw y
+serves-when : (b : Bool) (h p q : ℕ) → not (eqb h p) && not (eqb h q) && b ≡ servesAsBase p q (headFrom (fieldWhen b h))
+serves-when true h p q = and-true (not (eqb h p) && not (eqb h q))
+serves-when false h p q = and-false (not (eqb h p) && not (eqb h q))
 
-pub base-some : (p q : ℕ) {m x : ℕ} → m ≡ x → (m ≡ 0 → ⊥) → not (eqb (m - 1) p) && not (eqb (m - 1) q) ≡ servesAsBase p q (headFrom x)
-base-some p q {x = zero} e z = absurd (z e)
-base-some p q {m = m} {x = suc y} e z = let f : m - 1 ≡ y = omega arith in rw f
+pub base-told : (t : List ℕ) (p q : ℕ) {mine given base : List ℕ} {h : ℕ} {b : Bool} → mine ≡ ownRow t p → given ≡ ownRow t q
+    → h ≡ highestCommon mine given → base ≡ ownRow t h → b ≡ isBase h p q base mine given → b ≡ servesAsBase p q (headFrom (meetField t p q))
+base-told t p q {h = h} e f k n s = s ∙ serves-when _ h p q ∙ ap (λ x. servesAsBase p q (headFrom x)) (field-told t p q e f k n refl)

@@ -2,7 +2,7 @@
 -- Assumes nothing.
 use Prim.Native.Nat.{ℕ, _+_, _-_, _≤_, _<_}
 use mathlib.Core.Path.{_≡_, refl, sym, _∙_, ap, ap₂}
-use mathlib.Core.Bool.{Bool, true, false, _&&_, and-true, and-assoc}
+use mathlib.Core.Bool.{Bool, true, false, _&&_, and-true, and-assoc, and-comm}
 use mathlib.Core.List.{List, [], _∷_}
 use mathlib.Core.Option.{some}
 use native.Mathlib.Omega.{arith}
@@ -13,6 +13,7 @@ use borrow.Author.Tests.{le-leb, lt-leb}
 use Rattle.laws.proofs.Logic.{and-pairs}
 use Rattle.laws.proofs.Lists.{all-first, none-first}
 use Rattle.graph.specs.Graph.{Graph, Node, entry, merge, versionCount, everyVersion, parentsLower}
+use Rattle.command.specs.Code.{isEntryCode, isStrip, isOperand}
 use Rattle.room.specs.Sound.{entryInRange}
 use Rattle.tape.specs.Record.{recordIn}
 use Rattle.tape.specs.Tape.{Content, contentOf, versionRecord, consolesRise, headsNamed, inRange}
@@ -24,7 +25,7 @@ use Rattle.resume.proofs.Follows.{lastConsole, rising, risen}
 
 -- the test of a record is the test of the version that it says
 version-tested : (g : Graph) (n : Node) (v : ℕ) → versionCount g ≡ v → versionInRange v (versionRecord n) ≡ (parentsLower g n && entryInRange g n)
-version-tested g (entry p code strip operand) v e = rw (← e)
+version-tested g (entry p code strip operand) v e = rw (← e) (and-comm (isEntryCode code && isStrip strip && isOperand code operand) (ltb p (versionCount g)))
 version-tested g (merge p q) v e = rw (← e) (sym (and-true _))
 
 -- the first k versions were read up to a place, and whether they are in range

@@ -103,7 +103,7 @@ module _ {rows : List ℕ} {g : Graph} where
   ranged-new : (n : Node) → Ready rows (n ∷ g) → versionInRange (versionCount g) (versionRecord n) ≡ true
   ranged-new (entry p code strip operand) r =
       let n = entry p code strip operand in
-      and-i _ _ (every-new parentsLower n g (r .lower)) (every-new entryInRange n g (r .ranged))
+      and-i _ _ (every-new entryInRange n g (r .ranged)) (every-new parentsLower n g (r .lower))
   ranged-new (merge p q) r = every-new parentsLower (merge p q) g (r .lower)
 
   base-new : (n : Node) → Ready rows (n ∷ g) → baseBelow rows (versionCount g) (versionRecord n) ≡ true

@@ -3,8 +3,9 @@ use Prim.Native.Nat.{ℕ}
 use mathlib.Core.Bool.{Bool, false, cond, _&&_}
 use lib.Dec.{eqb, ltb}
 use Rattle.graph.specs.Graph.{Graph, everyVersion, parentsLower}
-use Rattle.command.specs.Code.{isConsole, isStrip, isEntryCode, isOperand}
+use Rattle.command.specs.Code.{isConsole}
 use Rattle.room.specs.Sound.{entryInRange}
+use Rattle.store.specs.Rules.{entryRanges, bothBelow}
 use Rattle.tape.specs.declared.Record.{Record}
 use Rattle.tape.specs.declared.Record.the-variants.{Start, Entry, Merge, Head, End, Broken}
 
@@ -12,8 +13,8 @@ use Rattle.tape.specs.declared.Record.the-variants.{Start, Entry, Merge, Head, 
 abbrev pub versionInRange : ℕ → Record → Bool
 versionInRange v (Start capacity) = false
 versionInRange v (Entry parent code strip operand) =
-    ltb (parent .0) v && (isEntryCode code && isStrip (strip .0) && isOperand code operand)
-versionInRange v (Merge receiver giver) = ltb (receiver .0) v && ltb (giver .0) v
+    entryRanges v (parent .0) code (strip .0) operand
+versionInRange v (Merge receiver giver) = bothBelow v (receiver .0) (giver .0)
 versionInRange v (Head console version) = false
 versionInRange v End = false
 versionInRange v Broken = false

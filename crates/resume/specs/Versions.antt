@@ -8,6 +8,7 @@ use Rattle.buffer.specs.Row.{withMember, union}
 use Rattle.graph.specs.Graph.{servesAsBase}
 use Rattle.command.specs.Code.{consoleCount}
 use Rattle.store.specs.Layout.{headFrom}
+use Rattle.store.specs.Rules.{bothBelow}
 use Rattle.tape.specs.declared.Record.{Record}
 use Rattle.tape.specs.declared.Record.the-variants.{Start, Entry, Merge, Head, End, Broken}
 use Rattle.resume.specs.Rows.{ownRow, meetField}
@@ -17,7 +18,7 @@ use Rattle.resume.specs.Heads.{fieldAt}
 abbrev pub parentsBelow : ℕ → Record → Bool
 parentsBelow v (Start capacity) = true
 parentsBelow v (Entry parent code strip operand) = ltb (parent .0) v
-parentsBelow v (Merge receiver giver) = ltb (receiver .0) v && ltb (giver .0) v
+parentsBelow v (Merge receiver giver) = bothBelow v (receiver .0) (giver .0)
 parentsBelow v (Head console version) = true
 parentsBelow v End = true
 parentsBelow v Broken = true

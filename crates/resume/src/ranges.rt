@@ -1,8 +1,8 @@
 // Refusal 9: whether the numbers on a whole tape are in range, version by version and then head by head.
 use command::numbers::is_console;
-use command::numbers::is_entry_code;
-use command::numbers::is_operand;
-use command::numbers::is_strip;
+use graph::Version;
+use store::rules::both_below;
+use store::rules::entry_in_range;
 use tape::Record;
 use tape::reader::place_past;
 use tape::reader::read_at;
@@ -29,8 +29,8 @@ fn version_in_range(v: usize, tape_record: Record) -> bool
             code,
             strip,
             operand,
-        } => (parent.0 < v) & (is_entry_code(code) & is_strip(strip.0) & is_operand(code, operand)),
-        Record::Merge { receiver, giver } => (receiver.0 < v) & (giver.0 < v),
+        } => entry_in_range(Version(v), parent, code, strip, operand),
+        Record::Merge { receiver, giver } => both_below(Version(v), receiver, giver),
         Record::Head { console, version } => false,
         Record::End => false,
         Record::Broken => false,

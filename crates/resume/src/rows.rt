@@ -4,6 +4,8 @@ use buffer::clear;
 use buffer::is_intersection;
 use buffer::put_extended;
 use buffer::put_extended_union;
+use graph::Version;
+use store::rules::is_base;
 ghost use mathlib.Core.Path.{_≡_};
 ghost use Prim.Native.Nat.{_+_, _*_, _/_, _^_, _<_, _≤_};
 ghost use lib.ListN.{length};
@@ -122,13 +124,13 @@ pub fn meet_field(rows: &[u8], u: usize, v: usize) -> usize
 }
 
 // Whether two versions have a meet that is neither of them.
-pub fn has_base(rows: &[u8], p: usize, q: usize) -> bool
-    requires { ⌜ (length (now rows) ≡ rowsSize) × (p < 1024) × (q < 1024) ⌝ }
-    ensures { λ r. ⌜ r ≡ servesAsBase p q (headFrom (meetField (now (rows .entry)) p q)) ⌝ }
+pub fn has_base(rows: &[u8], p: Version, q: Version) -> bool
+    requires { ⌜ (length (now rows) ≡ rowsSize) × (p .0 < 1024) × (q .0 < 1024) ⌝ }
+    ensures { λ r. ⌜ r ≡ servesAsBase (p .0) (q .0) (headFrom (meetField (now (rows .entry)) (p .0) (q .0))) ⌝ }
 {
-    let m = meet_field(rows, p, q);
-    if m == 0 {
-        return false;
-    }
-    (m - 1 != p) & (m - 1 != q)
+    let mine = row_in(rows, p.0);
+    let given = row_in(rows, q.0);
+    let h = highest_common(mine, given);
+    let base = row_in(rows, h);
+    is_base(Version(h), p, q, base, mine, given)
 }

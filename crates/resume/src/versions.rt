@@ -3,6 +3,7 @@ use crate::rows::has_base;
 use crate::rows::put_entry;
 use crate::rows::put_merge;
 use crate::rows::put_root;
+use graph::Version;
 use tape::Record;
 use tape::reader::place_past;
 use tape::reader::read_at;
@@ -30,12 +31,12 @@ fn judge_entry(rows: &mut [u8], v: usize, p: usize) -> bool
 }
 
 // Writes the row of version v, a merge of q into p, and says whether the two have a base.
-fn judge_merge(rows: &mut [u8], v: usize, p: usize, q: usize) -> bool
-    requires { ⌜ (length (now rows) ≡ rowsSize) × (p < v) × (q < v) × (v < 1024) ⌝ }
-    ensures { λ r. ⌜ (r ≡ servesAsBase p q (headFrom (meetField (now (rows .entry)) p q))) × (now (rows .exit) ≡ withPart (now (rows .entry)) (128 * v) (withMember (union (ownRow (now (rows .entry)) p) (ownRow (now (rows .entry)) q)) v)) ⌝ }
+fn judge_merge(rows: &mut [u8], v: usize, p: Version, q: Version) -> bool
+    requires { ⌜ (length (now rows) ≡ rowsSize) × (p .0 < v) × (q .0 < v) × (v < 1024) ⌝ }
+    ensures { λ r. ⌜ (r ≡ servesAsBase (p .0) (q .0) (headFrom (meetField (now (rows .entry)) (p .0) (q .0)))) × (now (rows .exit) ≡ withPart (now (rows .entry)) (128 * v) (withMember (union (ownRow (now (rows .entry)) (p .0)) (ownRow (now (rows .entry)) (q .0))) v)) ⌝ }
 {
     let based = has_base(rows, p, q);
-    put_merge(rows, v, p, q);
+    put_merge(rows, v, p.0, q.0);
     based
 }
 
@@ -52,7 +53,7 @@ fn judge_version(rows: &mut [u8], v: usize, tape_record: Record) -> bool
             strip,
             operand,
         } => judge_entry(rows, v, parent.0),
-        Record::Merge { receiver, giver } => judge_merge(rows, v, receiver.0, giver.0),
+        Record::Merge { receiver, giver } => judge_merge(rows, v, receiver, giver),
         Record::Head { console, version } => true,
         Record::End => true,
         Record::Broken => true,

@@ -10,17 +10,14 @@ enum-known-tape-record c = search needs
 enum-known-tape-record-2 : tie.Need-enum-known-tape-record-2
 enum-known-tape-record-2 c = search needs
 
-is-entry-code-requires : tie.Need-is-entry-code-requires
-is-entry-code-requires c κs = tt
-
-is-strip-requires : tie.Need-is-strip-requires
-is-strip-requires c κs = tt
-
-is-operand-requires : tie.Need-is-operand-requires
-is-operand-requires c κs = tt
+entry-in-range-requires : tie.Need-entry-in-range-requires
+entry-in-range-requires c κs = tt
 
 enum-known-tape-record-3 : tie.Need-enum-known-tape-record-3
 enum-known-tape-record-3 c = search needs
+
+both-below-requires : tie.Need-both-below-requires
+both-below-requires c κs = tt
 
 enum-known-tape-record-4 : tie.Need-enum-known-tape-record-4
 enum-known-tape-record-4 c = search needs
@@ -35,11 +32,10 @@ returns : tie.Need-returns
 returns c = search needs
 
 returns-2 : tie.Need-returns-2
-returns-2 c =
-    rw (c .before .before .before .before .before .tape-record2 .given .1, c .before .before .is-entry-code .ensures, c .before .is-strip .ensures, c .is-operand .ensures)
+returns-2 c = rw (c .before .before .tape-record2 .given .1, c .entry-in-range .ensures)
 
 returns-3 : tie.Need-returns-3
-returns-3 c = rw (c .before .before .before .tape-record3 .given .1)
+returns-3 c = rw (c .before .before .tape-record3 .given .1, c .both-below .ensures)
 
 returns-4 : tie.Need-returns-4
 returns-4 c = search needs
@@ -56,10 +52,9 @@ version-in-range-spec =
     (tie.spec
     enum-known-tape-record
     enum-known-tape-record-2
-    is-entry-code-requires
-    is-strip-requires
-    is-operand-requires
+    entry-in-range-requires
     enum-known-tape-record-3
+    both-below-requires
     enum-known-tape-record-4
     enum-told
     enum-told-2

@@ -1,24 +1,33 @@
--- `resume::rows::has_base` meets its contract: there is no meet, or it is compared with both.
+-- `resume::rows::has_base` meets its contract: the highest version that the rows have in common is their base, or there is none.
 -- Assumes nothing.
 use native.Mathlib.Omega.{arith}
-use Rattle.resume.proofs.Meets.{base-none, base-some}
+use Rattle.resume.proofs.Meets.{base-told}
 use Rattle.resume.proofs.rows.has_base.Statement.{statement}
 use Rattle.resume.proofs.rows.has_base.Tie as tie
 
-meet-field-requires : tie.Need-meet-field-requires
-meet-field-requires c κs = omega arith
+row-in-requires : tie.Need-row-in-requires
+row-in-requires c κs = omega arith
+
+row-in-requires-2 : tie.Need-row-in-requires-2
+row-in-requires-2 c κs = omega arith
+
+highest-common-requires : tie.Need-highest-common-requires
+highest-common-requires c κs = omega arith
+
+row-in-requires-3 : tie.Need-row-in-requires-3
+row-in-requires-3 c κs = omega arith
+
+is-base-requires : tie.Need-is-base-requires
+is-base-requires c κs = omega arith
 
 returns : tie.Need-returns
-returns c = let m = c .before .meet-field in base-none _ _ (m .ensures .0) (c .if1 .taken)
-
-sub-result : tie.Need-sub-result
-sub-result c = omega arith
-
-sub-result-2 : tie.Need-sub-result-2
-sub-result-2 c = omega arith
-
-returns-2 : tie.Need-returns-2
-returns-2 c = let m = c .before .meet-field in base-some _ _ (m .ensures .0) (c .if1 .left)
+returns c =
+    let high = c .before .before in
+    let a = high .before .before .before .before .args in
+    base-told (a .rows .now) (a .p .0) (a .q .0) (high .before .before .row-in .ensures .0) (high .before .row-in2 .ensures .0) (high .highest-common .ensures .0)
+    (c .before .row-in3 .ensures .0) (c .is-base .ensures)
 
 pub has-base-spec : {M : Type 1} → statement M
-has-base-spec = tie.close (tie.spec meet-field-requires returns sub-result sub-result-2 returns-2)
+has-base-spec =
+    tie.close
+    (tie.spec row-in-requires row-in-requires-2 highest-common-requires row-in-requires-3 is-base-requires returns)
