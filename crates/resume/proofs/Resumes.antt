@@ -1,17 +1,17 @@
 -- The answer of resume, test by test in their order, and the lent buffer with it.
 -- Assumes nothing.
 use mathlib.Core.Path.{_≡_, refl, sym, ap, _∙_}
-use mathlib.Core.Bool.{true, false}
-use mathlib.Core.List.{List}
+use mathlib.Core.Bool.{Bool, true, false, not, cond}
+use mathlib.Core.List.{List, [], _∷_}
 use mathlib.Core.Option.{Option, none, some}
-use Prim.Native.Nat.{ℕ, _≤_, _<_}
+use Prim.Native.Nat.{ℕ, _<_}
 use native.Mathlib.Omega.{arith}
-use lib.Dec.{eqb}
+use lib.Dec.{eqb, ltb}
 use lib.ListN.{length}
-use borrow.Author.Tests.{ne-eqb, eq-eqb, lt-ltb, le-ltb}
+use borrow.Author.Tests.{ne-eqb, eq-eqb}
 use Rattle.laws.proofs.Logic.{cond-true, cond-false}
 use Rattle.buffer.specs.Field.{overwrite}
-use Rattle.command.specs.Refusal.{firstRefusal}
+use Rattle.command.specs.Refusal.{_when_, firstRefusal}
 use Rattle.room.specs.Sound.{isCapacity, soundRoom}
 use Rattle.store.specs.Layout.{storeSize, encode}
 use Rattle.tape.specs.declared.scan.Scanned.{Scanned}
@@ -38,6 +38,20 @@ pub no-tape : (old : List ℕ) → Resumed none old 7 old
 unfolding resumeRefusal
 no-tape old = refused none old 7 (omega arith) refl
 
+-- the first of two refusals, as the code finds it
+pub two-refusals : (unsound short : Bool) {one other n : ℕ} → one ≡ cond unsound 10 0 → other ≡ cond short 19 0 → n ≡ cond (eqb one 0) other one
+    → n ≡ firstRefusal (10 when unsound ∷ 19 when short ∷ [])
+unfolding firstRefusal
+two-refusals true short e f h = rw e at h
+two-refusals false short e f h = rw (e, f) at h
+
+-- no refusal is left where the room is sound and the buffer long enough
+pub none-left : (sound short : Bool) → firstRefusal (10 when not sound ∷ 19 when short ∷ []) ≡ 0 → (sound ≡ true) × (short ≡ false)
+unfolding firstRefusal
+none-left true true e = absurd (omega arith)
+none-left true false e = (refl, refl)
+none-left false short e = absurd (omega arith)
+
 module _ (t : Content) (old : List ℕ) where
   pub no-capacity : isCapacity (t .capacity) ≡ false → Resumed (some t) old 8 old
   unfolding resumeRefusal firstRefusal
@@ -48,21 +62,18 @@ module _ (t : Content) (old : List ℕ) where
     unfolding resumeRefusal firstRefusal
     out-of-range b = refused (some t) old 9 (omega arith) (rw (a, b))
 
-    module _ (b : inRange t ≡ true) where
-      pub unsound : soundRoom (roomOf t) ≡ false → Resumed (some t) old 10 old
+    -- the last two tests, made of a tape in range
+    module _ (b : inRange t ≡ true) {sound short : Bool} (c : sound ≡ soundRoom (roomOf t)) (d : short ≡ ltb (length old) (storeSize (t .capacity))) {n : ℕ} (e : n ≡ firstRefusal (10 when not sound ∷ 19 when short ∷ [])) where
+      answer : n ≡ resumeRefusal (some t) old
       unfolding resumeRefusal firstRefusal
-      unsound c = refused (some t) old 10 (omega arith) (rw (a, b, c))
+      answer = rw (e, a, b, c, d)
 
-      module _ (c : soundRoom (roomOf t) ≡ true) where
-        pub too-short : length old < storeSize (t .capacity) → Resumed (some t) old 19 old
-        unfolding resumeRefusal firstRefusal
-        too-short l = refused (some t) old 19 (omega arith) (rw (a, b, c, lt-ltb (length old) (storeSize (t .capacity)) l))
+      pub last-refused : (n ≡ 0 → ⊥) → Resumed (some t) old n old
+      last-refused z = refused (some t) old n (omega arith) answer
 
-        pub resumed : storeSize (t .capacity) ≤ length old → {new : List ℕ} → new ≡ overwrite (encode (roomOf t)) old → Resumed (some t) old 0 new
-        unfolding resumeRefusal firstRefusal resumedStore
-        resumed l e =
-            let zero : 0 ≡ resumeRefusal (some t) old = rw (a, b, c, le-ltb (length old) (storeSize (t .capacity)) l) in
-            (zero, e ∙ sym (cond-true _ _ _ (eq-eqb (resumeRefusal (some t) old) 0 (sym zero))))
+      pub resumed : n ≡ 0 → {new : List ℕ} → new ≡ overwrite (encode (roomOf t)) old → Resumed (some t) old n new
+      unfolding resumedStore
+      resumed z f = (answer, f ∙ sym (cond-true _ _ _ (eq-eqb (resumeRefusal (some t) old) 0 (sym answer ∙ z))))
 
 -- what the scan says
 pub record Read (o : Option Content) (capacity versions heads : ℕ) : Type 0 where

@@ -7,9 +7,12 @@ use store::places::HEADER;
 use tape::scan::Scanned;
 use tape::scan::scan;
 ghost use mathlib.Core.Path.{_≡_};
-ghost use mathlib.Core.Bool.{true};
+ghost use mathlib.Core.Bool.{true, cond};
+ghost use mathlib.Core.List.{[], _∷_};
 ghost use mathlib.Core.Option.{some};
+ghost use lib.Dec.{eqb};
 ghost use lib.ListN.{length};
+ghost use Rattle.command.specs.Refusal.{_when_, firstRefusal};
 ghost use Rattle.room.specs.Sound.{isCapacity};
 ghost use Rattle.tape.specs.Tape.{contentOf, inRange};
 ghost use Rattle.resume.specs.Content.{contentIn};
@@ -21,6 +24,27 @@ const MAX_CAPACITY: usize = 1024;
 const ROWS: usize = 131072;
 
 const TABLE: usize = 512;
+
+// A refusal where its case is there; else 0.
+fn when(number: u32, applies: bool) -> u32
+    ensures { λ r. ⌜ r ≡ cond applies number 0 ⌝ }
+{
+    if applies { number } else { 0 }
+}
+
+// The first of two refusals that is there.
+fn first_of(one: u32, other: u32) -> u32
+    ensures { λ r. ⌜ r ≡ cond (eqb one 0) other one ⌝ }
+{
+    if one == 0 { other } else { one }
+}
+
+// The refusal of a tape in range: its room is not sound, or else the buffer is too short.
+fn last_refusal(unsound: bool, short: bool) -> u32
+    ensures { λ r. ⌜ r ≡ firstRefusal (10 when unsound ∷ 19 when short ∷ []) ⌝ }
+{
+    first_of(when(10, unsound), when(19, short))
+}
 
 // Resumes a whole tape whose numbers are in range.
 fn resume_ranged(
@@ -39,14 +63,12 @@ fn resume_ranged(
     let mut table = [0u8; TABLE];
     // a head record takes 4 bytes, and the last byte of the tape comes right behind the last of them
     let from = tape.len() - (4 * heads + 1);
-    if !gives_sound_room(tape, versions, from, heads, &mut rows, &mut table) {
-        return 10;
+    let sound = gives_sound_room(tape, versions, from, heads, &mut rows, &mut table);
+    let refusal = last_refusal(!sound, store.len() < HEADER + BLOCK * capacity);
+    if refusal == 0 {
+        write_store(store, tape, capacity, versions, &rows, &table);
     }
-    if store.len() < HEADER + BLOCK * capacity {
-        return 19;
-    }
-    write_store(store, tape, capacity, versions, &rows, &table);
-    0
+    refusal
 }
 
 // Resumes a whole tape.

@@ -1,16 +1,18 @@
 -- `resume::resuming::resume_ranged` meets its contract: 10, 19, or the store of the tape's room.
 -- Assumes nothing.
-use mathlib.Core.Path.{refl, sym, _∙_}
+use mathlib.Core.Path.{refl, sym, ap, _∙_}
 use native.Mathlib.Omega.{arith}
+use lib.Dec.{ltb}
+use lib.ListN.{length}
+use borrow.Author.Tests.{ltb-false}
 use Rattle.buffer.proofs.Fields.{zeros-length}
-use borrow.Author.Tests.{not-true, not-false}
 use Rattle.command.proofs.Limits.{within-true}
 use Rattle.room.specs.Sound.{maxCapacity}
-use Rattle.store.specs.Layout.{commonsSize}
+use Rattle.store.specs.Layout.{storeSize, commonsSize}
 use Rattle.tape.proofs.Located.{heads-last}
 use Rattle.resume.specs.Content.{contentIn}
 use Rattle.resume.specs.Rows.{rowsSize}
-use Rattle.resume.proofs.Resumes.{unsound, too-short, resumed}
+use Rattle.resume.proofs.Resumes.{none-left, last-refused, resumed}
 use Rattle.resume.proofs.resuming.resume_ranged.Statement.{statement}
 use Rattle.resume.proofs.resuming.resume_ranged.Tie as tie
 
@@ -49,34 +51,20 @@ gives-sound-room-requires c κs =
     let last = heads-last (start .args .tape .now) (contentIn (start .args .tape .now)) (λ i. known .shared-slice-known .given i .fits) (p .0) in
     (p .0, ((p .1 .1 .0, p .1 .1 .1), ((p .1 .0 .1, omega arith, p .1 .0 .2), (zeros-length rowsSize, (zeros-length commonsSize, refl)))))
 
-returns : tie.Need-returns
-returns c =
-    let judged = c .before .before .before in
-    let start = judged .before .before .before .before .before in
-    let p = start .pre in
-    unsound (contentIn (start .args .tape .now)) (start .args .store .now) (p .1 .1 .0) (p .1 .1 .1)
-    (sym (judged .gives-sound-room .ensures .0) ∙ not-true (judged .gives-sound-room .result) (c .if1 .taken))
-
-mul-if2 : tie.Need-mul-if2
-mul-if2 c =
-    let start = c .before .before .before .before .before .before .before .before in
+mul-last-refusal : tie.Need-mul-last-refusal
+mul-last-refusal c =
+    let start = c .before .before .before .before .before .before .before in
     let size = within-true 1 maxCapacity (contentIn (start .args .tape .now) .capacity) (start .pre .1 .1 .0) in
     omega arith
 
-add-if2 : tie.Need-add-if2
-add-if2 c =
-    let start = c .before .before .before .before .before .before .before .before in
+add-last-refusal : tie.Need-add-last-refusal
+add-last-refusal c =
+    let start = c .before .before .before .before .before .before .before in
     let size = within-true 1 maxCapacity (contentIn (start .args .tape .now) .capacity) (start .pre .1 .1 .0) in
     omega arith
 
-returns-2 : tie.Need-returns-2
-returns-2 c =
-    let passed = c .before in
-    let judged = passed .before .before .before in
-    let start = judged .before .before .before .before .before in
-    let p = start .pre in
-    too-short (contentIn (start .args .tape .now)) (start .args .store .now) (p .1 .1 .0) (p .1 .1 .1)
-    (sym (judged .gives-sound-room .ensures .0) ∙ not-false (judged .gives-sound-room .result) (passed .if1 .left)) (omega arith)
+last-refusal-requires : tie.Need-last-refusal-requires
+last-refusal-requires c κs = tt
 
 slice-aggregate-write-store : tie.Need-slice-aggregate-write-store
 slice-aggregate-write-store c = omega arith
@@ -86,26 +74,38 @@ slice-aggregate-write-store-2 c = omega arith
 
 write-store-requires : tie.Need-write-store-requires
 write-store-requires c κs =
-    let passed = c .before .before .before .before in
-    let judged = passed .before .before .before in
+    let then = c .before .before .before in
+    let answered = then .before in
+    let judged = answered .before .before .before in
     let start = judged .before .before .before .before .before in
     let p = start .pre in
     let told = judged .gives-sound-room .ensures in
-    let ok = not-false (judged .gives-sound-room .result) (passed .if1 .left) in
-    (p .0, ((p .1 .0 .0, p .1 .0 .1), ((sym (told .0) ∙ ok, told .1), (told .2 ok, omega arith))))
+    let fits = none-left (judged .gives-sound-room .result) _ (sym (answered .last-refusal .ensures) ∙ then .if1 .taken) in
+    let long = ltb-false (length (start .args .store .now)) (storeSize (start .args .capacity)) (fits .1) in
+    (p .0, ((p .1 .0 .0, p .1 .0 .1), ((sym (told .0) ∙ fits .0, told .1), (told .2 (fits .0), omega (arith, long)))))
 
 same-length : tie.Need-same-length
 same-length c = omega arith
 
-returns-3 : tie.Need-returns-3
-returns-3 c =
+returns : tie.Need-returns
+returns c =
     let written = c .before .before in
-    let passed = written .before .before .before .before .before in
-    let judged = passed .before .before .before in
+    let then = written .before .before .before .before in
+    let answered = then .before in
+    let judged = answered .before .before .before in
     let start = judged .before .before .before .before .before in
     let p = start .pre in
-    resumed (contentIn (start .args .tape .now)) (start .args .store .now) (p .1 .1 .0) (p .1 .1 .1)
-    (sym (judged .gives-sound-room .ensures .0) ∙ not-false (judged .gives-sound-room .result) (passed .if1 .left)) (omega arith) (written .write-store .ensures)
+    resumed (contentIn (start .args .tape .now)) (start .args .store .now) (p .1 .1 .0) (p .1 .1 .1) (judged .gives-sound-room .ensures .0)
+    (ap (λ n. ltb (length (start .args .store .now)) (storeSize n)) (p .1 .0 .0)) (answered .last-refusal .ensures) (then .if1 .taken) (written .write-store .ensures)
+
+returns-2 : tie.Need-returns-2
+returns-2 c =
+    let answered = c .before in
+    let judged = answered .before .before .before in
+    let start = judged .before .before .before .before .before in
+    let p = start .pre in
+    last-refused (contentIn (start .args .tape .now)) (start .args .store .now) (p .1 .1 .0) (p .1 .1 .1) (judged .gives-sound-room .ensures .0)
+    (ap (λ n. ltb (length (start .args .store .now)) (storeSize n)) (p .1 .0 .0)) (answered .last-refusal .ensures) (c .if1 .left)
 
 pub resume-ranged-spec : {M : Type 1} → statement M
 resume-ranged-spec =
@@ -117,12 +117,12 @@ resume-ranged-spec =
     slice-aggregate-gives-sound-room
     slice-aggregate-gives-sound-room-2
     gives-sound-room-requires
-    returns
-    mul-if2
-    add-if2
-    returns-2
+    mul-last-refusal
+    add-last-refusal
+    last-refusal-requires
     slice-aggregate-write-store
     slice-aggregate-write-store-2
     write-store-requires
     same-length
-    returns-3)
+    returns
+    returns-2)
