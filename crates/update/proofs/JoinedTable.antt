@@ -26,18 +26,21 @@ Clear c k i =
 
 -- a field written at both of its places
 module _ (s : List ℕ) (c k x : ℕ) where
-  put-kept : (i : ℕ) → Clear c k i → getD (putCommon s c k x) i 0 ≡ getD s i 0
+  pub common-length : length (putCommon s c k x) ≡ length s
+  common-length = put-length (putWord s (commonAt c k) x) (commonAt k c) x ∙ put-length s (commonAt c k) x
+
+  pub put-kept : (i : ℕ) → Clear c k i → getD (putCommon s c k x) i 0 ≡ getD s i 0
   put-kept i f =
       put-other (putWord s (commonAt c k) x) (commonAt k c) x i (f .2) (f .3)
       ∙ put-other s (commonAt c k) x i (f .0) (f .1)
 
   module _ (cl : c < consoleCount) (kl : k < consoleCount) (ne : k ≡ c → ⊥) (long : headerSize ≤ length s) where
-    put-row : Stands (putCommon s c k x) (commonAt c k) (word x)
+    pub put-row : Stands (putCommon s c k x) (commonAt c k) (word x)
     put-row =
         stands-kept (put-stands s (commonAt c k) x (omega arith))
         (λ i l m. put-other (putWord s (commonAt c k) x) (commonAt k c) x i (omega arith) (omega arith))
 
-    put-column : Stands (putCommon s c k x) (commonAt k c) (word x)
+    pub put-column : Stands (putCommon s c k x) (commonAt k c) (word x)
     put-column = put-stands (putWord s (commonAt c k) x) (commonAt k c) x (rw put-length (omega arith))
 
 module _ (s : List ℕ) (c d : ℕ) where
@@ -53,7 +56,7 @@ module _ (s : List ℕ) (c d : ℕ) where
   pub joined-one : (k : ℕ) → length (joinedCommon s c d k) ≡ length s
   joined-one k =
       elim (ℕ-discrete k c)
-      [ yes e ↦ ap length (same-console k e) | no ne ↦ ap length (other-console k ne) ∙ simp put-length ]
+      [ yes e ↦ ap length (same-console k e) | no ne ↦ ap length (other-console k ne) ∙ common-length s c k _ ]
 
 module _ (s : List ℕ) (c d : ℕ) where
   -- none yet, and one console more

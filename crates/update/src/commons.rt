@@ -27,13 +27,13 @@ fn higher(x: usize, y: usize) -> usize
 }
 
 // Writes the field of two consoles at both of its places.
-fn put_common(s: &mut [u8], c: usize, k: usize, field: usize)
+pub fn put_common(s: &mut [u8], c: Console, k: Console, field: usize)
     requires { ⌜ headerSize ≤ length (now s) ⌝ }
-    requires { ⌜ (c < consoleCount) × (k < consoleCount) ⌝ }
-    ensures { λ _. ⌜ now (s .exit) ≡ putCommon (now (s .entry)) c k field ⌝ }
+    requires { ⌜ (c .0 < consoleCount) × (k .0 < consoleCount) ⌝ }
+    ensures { λ _. ⌜ now (s .exit) ≡ putCommon (now (s .entry)) (c .0) (k .0) field ⌝ }
 {
-    put_word(s, common_at(c, k), field);
-    put_word(s, common_at(k, c), field);
+    put_word(s, common_at(c.0, k.0), field);
+    put_word(s, common_at(k.0, c.0), field);
 }
 
 // Gives console c what d has in common with k, where that is later than what c has.
@@ -46,7 +46,7 @@ fn join_common(s: &mut [u8], c: usize, d: usize, k: usize)
         return;
     }
     let field = higher(common_in(s, c, k), common_in(s, d, k));
-    put_common(s, c, k, field);
+    put_common(s, Console(c), Console(k), field);
 }
 
 // Gives console c, at each other console, the later of its own common version and that of d.
