@@ -1,22 +1,19 @@
 -- Every two heads of a room have a meet exactly when each pair of consoles in the table is found to have one, and then the table that is
 -- written is the store's table of common versions.
 -- Assumes nothing.
-use mathlib.Core.Path.{_≡_, refl, sym, ap, ap₂, subst, _∙_}
+use mathlib.Core.Path.{_≡_, refl, sym, ap, ap₂, _∙_}
 use mathlib.Core.Bool.{true, not, _&&_, _||_}
 use mathlib.Core.List.{List}
 use mathlib.Core.Option.{Option, none, some, Option·getD}
 use Prim.Native.Nat.{ℕ, zero, suc, _+_, _*_, _≤_, _<_}
 use native.Mathlib.Decide.{ℕ-discrete, decLt}
-use native.Mathlib.Nat.{zero-add}
 use native.Mathlib.Omega.{arith}
 use lib.Dec.{eqb, eqb·suc-zero}
-use lib.ListN.{length}
-use lib.Seq.{take-all}
+use lib.ListN.{length, getD}
 use Rattle.laws.proofs.Logic.{clash, bool-ext, implies-i2, implies-e2}
-use Rattle.buffer.specs.Field.{word, putWord}
+use Rattle.buffer.specs.Field.{word, part}
 use Rattle.buffer.proofs.Stands.{Stands, stands-kept}
-use Rattle.buffer.proofs.Parts.{stands-part, put-stands}
-use Rattle.buffer.proofs.Writes.{put-length, put-other}
+use Rattle.buffer.proofs.Parts.{stands-part, part-stands}
 use Rattle.graph.specs.Below.{everyBelow}
 use Rattle.graph.specs.Graph.{versionCount, meet, isSome}
 use Rattle.graph.proofs.Below.{at, of}
@@ -25,16 +22,19 @@ use Rattle.command.specs.Code.{consoleCount}
 use Rattle.room.specs.Room.{Room, headOf, present, head, common}
 use Rattle.room.specs.Sound.{twoMeet, headsMeet}
 use Rattle.room.proofs.Sound.{meets-of}
-use Rattle.store.specs.Layout.{commonsSize, headFrom, commonField, commonTable}
-use Rattle.store.proofs.Blocks.{commonTable-length}
+use Rattle.store.specs.Layout.{headerSize, commonsAt, commonsSize, commonAt, headFrom, commonField, commonTable}
+use Rattle.store.specs.Check.{commonIn}
+use Rattle.store.proofs.Blocks.{commonTable-length, table-field}
 use Rattle.store.proofs.Commons.{field-is, field-of, field-sym}
 use Rattle.store.proofs.Diagonal.{meetNumber-self}
 use Rattle.store.proofs.Joined.{join-commons}
+use Rattle.update.specs.Commons.{putCommon}
+use Rattle.update.proofs.JoinedTable.{common-length, put-kept, put-row, put-column}
 use Rattle.resume.specs.Rows.{RowsOf, meetField}
-use Rattle.resume.specs.Heads.{fieldAt, fieldIn, pairField, pairMeets, putPair, withPairs, consoleMeets, withConsoles, tableMeets}
+use Rattle.resume.specs.Heads.{pairField, pairMeets, withPairs, consoleMeets, withConsoles, tableMeets}
 use Rattle.resume.proofs.Meets.{meet-shown}
 use Rattle.resume.proofs.HeadSlots.{headField, Diagonal, diagonal-read}
-use Rattle.resume.proofs.TableSteps.{same-consoles, apart, consoles-own}
+use Rattle.resume.proofs.TableSteps.{apart, consoles-own}
 
 module _ (r : Room) where
   -- two heads that have a meet
@@ -80,6 +80,26 @@ module _ (r : Room) where
       of consoleCount (λ c. everyBelow c (twoMeet r c))
       (λ c l. of c (twoMeet r c) (λ d m. at consoleCount (twoMeet r c) (at consoleCount (λ a. everyBelow consoleCount (twoMeet r a)) h c l) d (omega arith))))
 
+module _ (r : Room) (named : (c : ℕ) → c < consoleCount → headField (headOf r c) ≤ versionCount (r .versions)) where
+  -- the field of a console with itself: its head
+  self-field : (c : ℕ) → c < consoleCount → headField (headOf r c) ≡ commonField r c c
+  unfolding common
+  self-field c l = go (headOf r c) refl
+    where
+      go : (o : Option ℕ) → headOf r c ≡ o → headField o ≡ commonField r c c
+      go none e = rw e
+      go (some v) e = rw e (rw e (ap suc (sym (meetNumber-self (r .versions) v (rw e at (named c l))))))
+
+  -- so the store's table has the heads on its diagonal
+  pub table-diagonal : (t : List ℕ) → length t ≡ headerSize → part t commonsAt commonsSize ≡ commonTable r 0 consoleCount → Diagonal r t
+  table-diagonal t long written =
+      let stands = table-field r commonsAt (part-stands commonsSize written (commonTable-length r 0 consoleCount)) in
+      record {
+        long = long;
+        slot = λ c l. rw (self-field c l) (stands c c l l);
+        named = named;
+      }
+
 module _ (r : Room) (rows : List ℕ) (shown : RowsOf rows (r .versions)) (small : versionCount (r .versions) ≤ 1024) where
   -- the fields of two consoles by their rows
   module _ (c d : ℕ) (cn : headField (headOf r c) ≤ versionCount (r .versions)) (dn : headField (headOf r d) ≤ versionCount (r .versions)) where
@@ -114,7 +134,7 @@ module _ (r : Room) (rows : List ℕ) (shown : RowsOf rows (r .versions)) (small
             rw (e, f) (rw (e, f) (numbered (meetField rows u v) (meet (r .versions) u v) (meet-shown shown small u v a b) h))
 
   module _ {t : List ℕ} (diagonal : Diagonal r t) where
-    own : (c : ℕ) → c < consoleCount → fieldIn t c c ≡ headField (headOf r c)
+    own : (c : ℕ) → c < consoleCount → commonIn t c c ≡ headField (headOf r c)
     own = diagonal-read small diagonal
 
     console-meets : (c d : ℕ) → c < consoleCount → d ≤ consoleCount → consoleMeets rows t c d ≡ everyBelow d (twoMeet r c)
@@ -135,50 +155,40 @@ module _ (r : Room) (rows : List ℕ) (shown : RowsOf rows (r .versions)) (small
 
   -- what stands in the table after the pairs before a number were written; pair c, d has the number 16 c + d
   record Filled (t : List ℕ) (n : ℕ) : Type 0 where
-    long : length t ≡ commonsSize
-    slot : (c : ℕ) → c < consoleCount → Stands t (fieldAt c c) (word (headField (headOf r c)))
-    lower : (a b : ℕ) → a < consoleCount → b < a → consoleCount * a + b < n → Stands t (fieldAt a b) (word (commonField r a b))
-    upper : (a b : ℕ) → a < consoleCount → b < a → consoleCount * a + b < n → Stands t (fieldAt b a) (word (commonField r a b))
+    long : length t ≡ headerSize
+    slot : (c : ℕ) → c < consoleCount → Stands t (commonAt c c) (word (headField (headOf r c)))
+    lower : (a b : ℕ) → a < consoleCount → b < a → consoleCount * a + b < n → Stands t (commonAt a b) (word (commonField r a b))
+    upper : (a b : ℕ) → a < consoleCount → b < a → consoleCount * a + b < n → Stands t (commonAt b a) (word (commonField r a b))
 
   module _ {t : List ℕ} {c d : ℕ} (f : Filled t (consoleCount * c + d)) (cn : c < consoleCount) (dc : d < c) where
     abbrev z : ℕ
     z = commonField r c d
 
-    abbrev first : List ℕ
-    first = putWord t (fieldAt c d) z
+    kept : (a b : ℕ) → b < consoleCount → (a ≡ c → b ≡ d → ⊥) → (a ≡ d → b ≡ c → ⊥)
+        → (i : ℕ) → commonAt a b ≤ i → i < commonAt a b + 2 → getD (putCommon t c d z) i 0 ≡ getD t i 0
+    kept a b bn p q i from to = put-kept t c d z i (apart a b c d i bn cn (omega arith) p q from to)
 
-    kept : (a b : ℕ) {xs : List ℕ} → Stands t (fieldAt a b) xs → length xs ≡ 2 → (fieldAt a b ≡ fieldAt c d → ⊥) → (fieldAt a b ≡ fieldAt d c → ⊥)
-        → Stands (putPair t c d z) (fieldAt a b) xs
-    kept a b h two p q =
-        stands-kept h
-        (λ i from to.
-        put-other first (fieldAt d c) z i (λ e. q (omega arith)) (λ e. q (omega arith))
-        ∙ put-other t (fieldAt c d) z i (λ e. p (omega arith)) (λ e. p (omega arith)))
-
-    filled-pair : Filled (putPair t c d z) (consoleCount * c + suc d)
+    filled-pair : Filled (putCommon t c d z) (consoleCount * c + suc d)
     filled-pair =
         let size = f .long in
-        let long : length first ≡ commonsSize = put-length t (fieldAt c d) z ∙ size in
         record {
-          long = put-length first (fieldAt d c) z ∙ long;
-          slot = λ a l. kept a a (f .slot a l) refl (apart a a c d l (omega arith) (λ x y. omega arith)) (apart a a d c l cn (λ x y. omega arith));
+          long = common-length t c d z ∙ size;
+          slot = λ a l. stands-kept (f .slot a l) (kept a a l (λ x y. omega arith) (λ x y. omega arith));
           lower = λ a b l m n.
               elim (ℕ-discrete (consoleCount * a + b) (consoleCount * c + d)) [
                 | yes e ↦
-                    let s = same-consoles a b c d (omega arith) (omega arith) e in
-                    rw (s .0, s .1)
-                    (stands-kept (put-stands t (fieldAt c d) z (omega arith))
-                    (λ i from to.
-                    let n = apart c d d c (omega arith) cn (λ x y. omega arith) in
-                    put-other first (fieldAt d c) z i (λ g. n (omega arith)) (λ g. n (omega arith))))
-                | no e ↦ kept a b (f .lower a b l m (omega arith)) refl (λ g. e (omega arith)) (apart a b d c (omega arith) cn (λ x y. omega arith))
+                    let x : a ≡ c = omega arith in
+                    let y : b ≡ d = omega arith in
+                    rw (x, y) (put-row t c d z cn (omega arith) (λ g. omega arith) (omega arith))
+                | no e ↦ stands-kept (f .lower a b l m (omega arith)) (kept a b (omega arith) (λ x y. e (omega arith)) (λ x y. omega arith))
               ];
           upper = λ a b l m n.
               elim (ℕ-discrete (consoleCount * a + b) (consoleCount * c + d)) [
                 | yes e ↦
-                    let s = same-consoles a b c d (omega arith) (omega arith) e in
-                    rw (s .0, s .1) (put-stands first (fieldAt d c) z (omega arith))
-                | no e ↦ kept b a (f .upper a b l m (omega arith)) refl (apart b a c d l (omega arith) (λ x y. omega arith)) (apart b a d c l cn (λ x y. e (omega arith)))
+                    let x : a ≡ c = omega arith in
+                    let y : b ≡ d = omega arith in
+                    rw (x, y) (put-column t c d z cn (omega arith) (λ g. omega arith) (omega arith))
+                | no e ↦ stands-kept (f .upper a b l m (omega arith)) (kept b a l (λ x y. omega arith) (λ x y. e (omega arith)))
               ];
         }
 
@@ -187,7 +197,7 @@ module _ (r : Room) (rows : List ℕ) (shown : RowsOf rows (r .versions)) (small
     unfolding headsMeet
     two c d l m = at consoleCount (twoMeet r c) (at consoleCount (λ a. everyBelow consoleCount (twoMeet r a)) meets c l) d m
 
-    filled-pairs : {u : List ℕ} (c d : ℕ) → c < consoleCount → d ≤ c → ((k : ℕ) → k < consoleCount → fieldIn u k k ≡ fieldIn t k k)
+    filled-pairs : {u : List ℕ} (c d : ℕ) → c < consoleCount → d ≤ c → ((k : ℕ) → k < consoleCount → commonIn u k k ≡ commonIn t k k)
         → Filled u (consoleCount * c + 0) → Filled (withPairs rows u c d) (consoleCount * c + d)
     unfolding withPairs
     filled-pairs c zero cn dc h f = f
@@ -210,21 +220,13 @@ module _ (r : Room) (rows : List ℕ) (shown : RowsOf rows (r .versions)) (small
           upper = λ a b l m n. f .upper a b l m (omega arith);
         }
 
-    self-field : (c : ℕ) → c < consoleCount → headField (headOf r c) ≡ commonField r c c
-    unfolding common
-    self-field c l = go (headOf r c) refl
-      where
-        go : (o : Option ℕ) → headOf r c ≡ o → headField o ≡ commonField r c c
-        go none e = rw e
-        go (some v) e = rw e (rw e (ap suc (sym (meetNumber-self (r .versions) v (rw e at (diagonal .named c l))))))
-
     -- the table is the store's
-    pub table-filled : withConsoles rows t consoleCount ≡ commonTable r 0 consoleCount
+    pub table-filled : part (withConsoles rows t consoleCount) commonsAt commonsSize ≡ commonTable r 0 consoleCount
     table-filled =
         let u : List ℕ = withConsoles rows t consoleCount in
         let f = filled-consoles consoleCount (omega arith) in
         let size = f .long in
-        let all : (c d : ℕ) → c < consoleCount → d < consoleCount → Stands u (fieldAt c d) (word (commonField r c d)) =
+        let all : (c d : ℕ) → c < consoleCount → d < consoleCount → Stands u (commonAt c d) (word (commonField r c d)) =
         λ c d l m.
         elim (decLt d c) [
           | yes a ↦ f .lower c d l a (omega arith)
@@ -233,15 +235,8 @@ module _ (r : Room) (rows : List ℕ) (shown : RowsOf rows (r .versions)) (small
                 | yes b ↦
                     let e = field-is (field-sym (field-of r d c (two-met r d c (two d c m l)))) in
                     rw e at (f .upper d c m b (omega arith))
-                | no b ↦ let e : d ≡ c = omega arith in rw e (rw (self-field c l) at (f .slot c l))
+                | no b ↦ let e : d ≡ c = omega arith in rw e (rw (self-field r (diagonal .named) c l) at (f .slot c l))
               ]
         ]
         in
-        let whole = join-commons {s = u} r 0 (λ c d l m. rw zero-add (all c d l m)) in
-        sym (take-all commonsSize u (omega arith)) ∙ stands-part commonsSize whole (commonTable-length r 0 consoleCount) (omega arith)
-
-    -- and has the heads on its diagonal still
-    pub table-diagonal : Diagonal r (commonTable r 0 consoleCount)
-    table-diagonal =
-        let f = filled-consoles consoleCount (omega arith) in
-        subst (Diagonal r) table-filled (record { long = f .long; slot = f .slot; named = diagonal .named })
+        stands-part commonsSize (join-commons {s = u} r commonsAt all) (commonTable-length r 0 consoleCount) (omega arith)

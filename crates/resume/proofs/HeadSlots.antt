@@ -20,23 +20,28 @@ use Rattle.buffer.proofs.Writes.{put-length, put-other}
 use Rattle.graph.specs.Graph.{Graph, versionCount}
 use Rattle.command.specs.Code.{consoleCount, isConsole}
 use Rattle.room.specs.Room.{Room, headOf}
-use Rattle.store.specs.Layout.{commonsSize}
+use Rattle.store.specs.Layout.{headerSize, commonAt, headFrom}
+use Rattle.store.specs.Check.{commonIn}
 use Rattle.tape.specs.Tape.{Content, headSlots, roomOf, consolesRise, headsNamed}
-use Rattle.resume.specs.Heads.{fieldAt, fieldIn, headTable}
+use Rattle.resume.specs.Heads.{headTable}
 
 -- the field of a head: 0 where there is none, else 1 more than the version
 abbrev pub headField : Option ℕ → ℕ
 headField none = 0
 headField (some v) = suc v
 
+pub head-from : (o : Option ℕ) → headFrom (headField o) ≡ o
+head-from none = refl
+head-from (some v) = refl
+
 -- the heads of a room stand on the diagonal, and name versions
 pub record Diagonal (r : Room) (t : List ℕ) : Type 0 where
-  pub long : length t ≡ commonsSize
-  pub slot : (c : ℕ) → c < consoleCount → Stands t (fieldAt c c) (word (headField (headOf r c)))
+  pub long : length t ≡ headerSize
+  pub slot : (c : ℕ) → c < consoleCount → Stands t (commonAt c c) (word (headField (headOf r c)))
   pub named : (c : ℕ) → c < consoleCount → headField (headOf r c) ≤ versionCount (r .versions)
 
 pub diagonal-read : {r : Room} {t : List ℕ} → versionCount (r .versions) ≤ 1024 → Diagonal r t → (c : ℕ) → c < consoleCount
-    → fieldIn t c c ≡ headField (headOf r c)
+    → commonIn t c c ≡ headField (headOf r c)
 diagonal-read {r} small d c l = stands-word (headField (headOf r c)) (d .slot c l) (omega (arith, d .named c l))
 
 -- heads of consoles that there are, and of the first n versions
@@ -60,30 +65,30 @@ unfolding headSlots
 slots-length [] = length-replicate {A = Option ℕ} consoleCount none
 slots-length (h ∷ before) = length-set (headSlots before) (h .0) (some (h .1)) ∙ slots-length before
 
-table-length : (heads : List (ℕ × ℕ)) → length (headTable heads) ≡ commonsSize
+table-length : (heads : List (ℕ × ℕ)) → length (headTable heads) ≡ headerSize
 unfolding headTable
-table-length [] = zeros-length commonsSize
-table-length (h ∷ before) = put-length (headTable before) (fieldAt (h .0) (h .0)) (suc (h .1)) ∙ table-length before
+table-length [] = zeros-length headerSize
+table-length (h ∷ before) = put-length (headTable before) (commonAt (h .0) (h .0)) (suc (h .1)) ∙ table-length before
 
 module _ {n : ℕ} where
   table-slot : {heads : List (ℕ × ℕ)} → Listed n heads → (c : ℕ) → c < consoleCount
-      → Stands (headTable heads) (fieldAt c c) (word (headField (getD (headSlots heads) c none)))
+      → Stands (headTable heads) (commonAt c c) (word (headField (getD (headSlots heads) c none)))
   unfolding headTable headSlots
   table-slot no-heads c l =
       rw (getD-replicate {A = Option ℕ} consoleCount c none none l)
       (stands-join (0 ∷ []) (0 ∷ [])
-      (stands-one (getD-replicate commonsSize (fieldAt c c) 0 0 (omega arith)))
-      (stands-one {at = fieldAt c c + 1} (getD-replicate commonsSize (fieldAt c c + 1) 0 0 (omega arith))) refl)
+      (stands-one (getD-replicate headerSize (commonAt c c) 0 0 (omega arith)))
+      (stands-one {at = commonAt c c + 1} (getD-replicate headerSize (commonAt c c + 1) 0 0 (omega arith))) refl)
   table-slot (one-head {h = h} {before = before} a b rest) c l =
       let size = table-length before in
       elim (ℕ-discrete c (h .0)) [
         | yes e ↦
             rw (e, getD-set-same (headSlots before) (h .0) (some (h .1)) none (omega (arith, slots-length before)))
-            (put-stands (headTable before) (fieldAt (h .0) (h .0)) (suc (h .1)) (omega arith))
+            (put-stands (headTable before) (commonAt (h .0) (h .0)) (suc (h .1)) (omega arith))
         | no d ↦
             rw (getD-set-other (headSlots before) (h .0) c (some (h .1)) none d)
             (stands-kept (table-slot rest c l)
-            (λ i from to. put-other (headTable before) (fieldAt (h .0) (h .0)) (suc (h .1)) i (λ e. omega arith) (λ e. omega arith)))
+            (λ i from to. put-other (headTable before) (commonAt (h .0) (h .0)) (suc (h .1)) i (λ e. omega arith) (λ e. omega arith)))
       ]
 
   slot-named : {heads : List (ℕ × ℕ)} → Listed n heads → (c : ℕ) → c < consoleCount → headField (getD (headSlots heads) c none) ≤ n

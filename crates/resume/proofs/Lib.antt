@@ -9,7 +9,6 @@ pub mod Appendable
 pub mod TableSteps
 pub mod HeadSlots
 pub mod HeadMeets
-pub mod HeadRows
 pub mod Reread
 pub mod Parents
 pub mod HeadsJudged

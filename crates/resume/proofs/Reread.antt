@@ -17,7 +17,7 @@ use Rattle.buffer.proofs.Writes.{put-length}
 use Rattle.graph.specs.Graph.{Graph, Node, entry, merge, versionCount, everyVersion, parentsLower, mergeHasBase}
 use Rattle.graph.proofs.Ancestor.{every-new, every-old}
 use Rattle.command.specs.Code.{consoleCount}
-use Rattle.store.specs.Layout.{commonsSize}
+use Rattle.store.specs.Layout.{headerSize, commonAt}
 use Rattle.tape.specs.declared.Record.{Record}
 use Rattle.tape.specs.Record.{recordIn}
 use Rattle.tape.specs.Tape.{Content, versionRecord, contentOf, consolesRise, headsNamed}
@@ -26,7 +26,7 @@ use Rattle.tape.proofs.Records.{Bytes}
 use Rattle.tape.proofs.Written.{headRecord}
 use Rattle.tape.proofs.Located.{VersionAt, HeadAt, version-at, head-at}
 use Rattle.resume.specs.Rows.{RowsOf}
-use Rattle.resume.specs.Heads.{fieldAt, headTable}
+use Rattle.resume.specs.Heads.{headTable}
 use Rattle.resume.specs.Versions.{parentsBelow, rowsAfter, baseFound, headWithin, tableAfter}
 use Rattle.resume.proofs.Meets.{base-shown}
 use Rattle.resume.proofs.Grown.{rows-entry, rows-merge}
@@ -137,17 +137,17 @@ module _ (tape : List ℕ) (t : Content) (bytes : Bytes tape) (says : contentOf 
           }
 
 -- the first j heads have been read
-pub record Headed (t : Content) (j at : ℕ) (table : List ℕ) : Type 0 where
+pub record Headed (t : Content) (j at : ℕ) (header : List ℕ) : Type 0 where
   pub within : j ≤ length (t .heads)
   pub place : at ≡ headPlace t j
-  pub long : length table ≡ commonsSize
-  pub written : table ≡ headTable (firstHeads j (t .heads))
+  pub long : length header ≡ headerSize
+  pub written : header ≡ headTable (firstHeads j (t .heads))
 
-pub headed-none : (t : Content) {at : ℕ} {table : List ℕ} → at ≡ headPlace t 0 → length table ≡ commonsSize → table ≡ zeros commonsSize → Headed t 0 at table
+pub headed-none : (t : Content) {at : ℕ} {header : List ℕ} → at ≡ headPlace t 0 → length header ≡ headerSize → header ≡ zeros headerSize → Headed t 0 at header
 unfolding headTable
 headed-none t place long e = record { within = omega arith; place = place; long = long; written = rw (none-first (t .heads)) e }
 
-pub headed-all : (t : Content) {j at : ℕ} {table : List ℕ} → Headed t j at table → length (t .heads) ≤ j → table ≡ headTable (t .heads)
+pub headed-all : (t : Content) {j at : ℕ} {header : List ℕ} → Headed t j at header → length (t .heads) ≤ j → header ≡ headTable (t .heads)
 headed-all t {j} h l =
     let w = h .within in
     let e : j ≡ length (t .heads) = omega arith in
@@ -155,7 +155,7 @@ headed-all t {j} h l =
 
 module _ (tape : List ℕ) (t : Content) (bytes : Bytes tape) (says : contentOf tape ≡ some t)
     (rise : consolesRise (t .heads) ≡ true) (named : headsNamed (t .versions) (t .heads) ≡ true) (small : versionCount (t .versions) ≤ 1024)
-    {j at : ℕ} {table : List ℕ} (h : Headed t j at table) (l : j < length (t .heads)) where
+    {j at : ℕ} {header : List ℕ} (h : Headed t j at header) (l : j < length (t .heads)) where
   abbrev next-head : ℕ × ℕ
   next-head = nextHead (t .heads) j
 
@@ -180,14 +180,14 @@ module _ (tape : List ℕ) (t : Content) (bytes : Bytes tape) (says : contentOf 
         (and-i (ltb (next-head .0) consoleCount) (ltb (next-head .1) 1024) (lt-ltb (next-head .0) consoleCount (bounds .0))
         (let b = bounds .1 in lt-ltb (next-head .1) 1024 (omega arith)))
 
-    pub headed-more : {next : ℕ} {after : List ℕ} → next ≡ placeAfter tape at → after ≡ tableAfter table x → Headed t (j + 1) next after
+    pub headed-more : {next : ℕ} {after : List ℕ} → next ≡ placeAfter tape at → after ≡ tableAfter header x → Headed t (j + 1) next after
     unfolding headTable
     headed-more {next} {after} en ea =
-        let made : after ≡ tableAfter table (headRecord next-head) = ea ∙ ap (tableAfter table) head-is in
+        let made : after ≡ tableAfter header (headRecord next-head) = ea ∙ ap (tableAfter header) head-is in
         record {
           within = omega arith;
           place = en ∙ rw (h .place, add-one) (standing .record-at .past);
-          long = ap length made ∙ put-length table (fieldAt (next-head .0) (next-head .0)) (suc (next-head .1)) ∙ h .long;
+          long = ap length made ∙ put-length header (commonAt (next-head .0) (next-head .0)) (suc (next-head .1)) ∙ h .long;
           written =
               made
               ∙ ap (λ (u : List ℕ). tableAfter u (headRecord next-head)) (h .written)

@@ -6,7 +6,7 @@ use mathlib.Core.List.{List, []}
 use Prim.Native.Nat.{ℕ, _+_, _-_, _≤_, _<_}
 use native.Mathlib.Omega.{arith}
 use lib.ListN.{length, getD, drop, length-append, length-drop}
-use Rattle.buffer.specs.Field.{putWord, overwrite, withPart}
+use Rattle.buffer.specs.Field.{putWord, part, overwrite, withPart}
 use Rattle.buffer.proofs.Fields.{zeros-length}
 use Rattle.buffer.proofs.Rows.{rowFrom-length}
 use Rattle.buffer.proofs.Stands.{Stands, stands-front, stands-kept}
@@ -66,7 +66,11 @@ module _ (t : Content) (sound : soundRoom (roomOf t) ≡ true) (old : List ℕ) 
   pub opened-fits : blockAt (versionCount (t .versions)) ≤ length s
   opened-fits = let k = ranges r sound in let long = opened-long in let f = fits in omega arith
 
-  module _ {now : List ℕ} (built : Built s now (t .versions)) {table : List ℕ} (common : table ≡ commonTable r 0 consoleCount) where
+  module _ {now : List ℕ} (built : Built s now (t .versions)) (header : List ℕ)
+      (common : part header commonsAt commonsSize ≡ commonTable r 0 consoleCount) where
+    abbrev table : List ℕ
+    table = part header commonsAt commonsSize
+
     abbrev counted : List ℕ
     counted = putWord now countAt n
 
@@ -85,8 +89,8 @@ module _ (t : Content) (sound : soundRoom (roomOf t) ≡ true) (old : List ℕ) 
     large : headerSize ≤ length old
     large = let f = fits in omega arith
 
-    pub header-fits : (headerSize ≤ length now) × (length table ≡ commonsSize)
-    header-fits = let h = large in let l = now-long in (omega arith, table-long)
+    pub header-fits : headerSize ≤ length now
+    header-fits = let h = large in let l = now-long in omega arith
 
     -- behind and before the table, and but for the count
     outside : (k : ℕ) → (commonsAt ≤ k → k < commonsEnd → ⊥) → getD final k 0 ≡ getD counted k 0
@@ -125,7 +129,7 @@ module _ (t : Content) (sound : soundRoom (roomOf t) ≡ true) (old : List ℕ) 
           free = free-later 1 n (t .capacity) (omega arith) (k .count) (parts .free) (λ i x. same i (omega arith));
         }
 
-    pub store-whole : {versions : ℕ} {end : List ℕ} → versions ≡ length (t .versions) → end ≡ withHeader now (versions + 1) table
+    pub store-whole : {versions : ℕ} {end : List ℕ} → versions ≡ length (t .versions) → end ≡ withHeader now (versions + 1) header
         → end ≡ overwrite (encode (roomOf t)) old
     unfolding withHeader
     store-whole {versions} {end} v e =

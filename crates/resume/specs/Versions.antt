@@ -3,16 +3,16 @@ use Prim.Native.Nat.{ℕ, suc, _*_}
 use mathlib.Core.Bool.{Bool, true, _&&_}
 use mathlib.Core.List.{List}
 use lib.Dec.{ltb}
-use Rattle.buffer.specs.Field.{putWord, withPart}
+use Rattle.buffer.specs.Field.{withPart}
 use Rattle.buffer.specs.Row.{withMember, union}
 use Rattle.graph.specs.Graph.{servesAsBase}
 use Rattle.command.specs.Code.{consoleCount}
 use Rattle.store.specs.Layout.{headFrom}
 use Rattle.store.specs.Rules.{bothBelow}
+use Rattle.update.specs.Commons.{putHead}
 use Rattle.tape.specs.declared.Record.{Record}
 use Rattle.tape.specs.declared.Record.the-variants.{Start, Entry, Merge, Head, End, Broken}
 use Rattle.resume.specs.Rows.{ownRow, meetField}
-use Rattle.resume.specs.Heads.{fieldAt}
 
 -- the parents of a version's record are below v
 abbrev pub parentsBelow : ℕ → Record → Bool
@@ -51,11 +51,11 @@ headWithin (Head console version) = ltb (console .0) consoleCount && ltb (versio
 headWithin End = true
 headWithin Broken = true
 
--- the table with a head on its diagonal
+-- the header with a head on the diagonal of its table
 abbrev pub tableAfter : List ℕ → Record → List ℕ
 tableAfter t (Start capacity) = t
 tableAfter t (Entry parent code strip operand) = t
 tableAfter t (Merge receiver giver) = t
-tableAfter t (Head console version) = putWord t (fieldAt (console .0) (console .0)) (suc (version .0))
+tableAfter t (Head console version) = putHead t (console .0) (suc (version .0))
 tableAfter t End = t
 tableAfter t Broken = t

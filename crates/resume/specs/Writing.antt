@@ -3,8 +3,8 @@ use Prim.Native.Nat.{ℕ}
 use mathlib.Core.Bool.{Bool, true}
 use mathlib.Core.List.{List}
 use lib.Dec.{ltb}
-use Rattle.buffer.specs.Field.{putWord, withPart}
-use Rattle.store.specs.Layout.{countAt, commonsAt}
+use Rattle.buffer.specs.Field.{putWord, part, withPart}
+use Rattle.store.specs.Layout.{countAt, commonsAt, commonsSize}
 use Rattle.update.specs.Append.{withEntry, withMerge}
 use Rattle.tape.specs.declared.Record.{Record}
 use Rattle.tape.specs.declared.Record.the-variants.{Start, Entry, Merge, Head, End, Broken}
@@ -33,6 +33,6 @@ storeWith s rows v (Head console version) = s
 storeWith s rows v End = s
 storeWith s rows v Broken = s
 
--- the store with its count of versions and its table of commons
+-- the store with its count of versions and the table of commons of a header
 unfoldable pub withHeader : List ℕ → ℕ → List ℕ → List ℕ
-withHeader s count table = withPart (putWord s countAt count) commonsAt table
+withHeader s count header = withPart (putWord s countAt count) commonsAt (part header commonsAt commonsSize)

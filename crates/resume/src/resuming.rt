@@ -18,12 +18,10 @@ ghost use Rattle.tape.specs.Tape.{contentOf, inRange};
 ghost use Rattle.resume.specs.Content.{contentIn};
 ghost use Rattle.resume.specs.Resumed.{resumeRefusal, resumedStore};
 
-// The most versions that a store can hold, and the bytes of their rows and of a table of common versions.
+// The most versions that a store can hold, and the bytes of their rows.
 const MAX_CAPACITY: usize = 1024;
 
 const ROWS: usize = 131072;
-
-const TABLE: usize = 512;
 
 // A refusal where its case is there; else 0.
 fn when(number: u32, applies: bool) -> u32
@@ -60,13 +58,13 @@ fn resume_ranged(
     ensures { λ r. ⌜ (r ≡ resumeRefusal (some (contentIn (now (tape .entry)))) (now (store .entry))) × (now (store .exit) ≡ resumedStore (some (contentIn (now (tape .entry)))) (now (store .entry))) ⌝ }
 {
     let mut rows = [0u8; ROWS];
-    let mut table = [0u8; TABLE];
+    let mut header = [0u8; HEADER];
     // a head record takes 4 bytes, and the last byte of the tape comes right behind the last of them
     let from = tape.len() - (4 * heads + 1);
-    let sound = gives_sound_room(tape, versions, from, heads, &mut rows, &mut table);
+    let sound = gives_sound_room(tape, versions, from, heads, &mut rows, &mut header);
     let refusal = last_refusal(!sound, store.len() < HEADER + BLOCK * capacity);
     if refusal == 0 {
-        write_store(store, tape, capacity, versions, &rows, &table);
+        write_store(store, tape, capacity, versions, &rows, &header);
     }
     refusal
 }

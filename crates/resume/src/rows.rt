@@ -5,6 +5,7 @@ use buffer::is_intersection;
 use buffer::put_extended;
 use buffer::put_extended_union;
 use graph::Version;
+use store::places::ROW;
 use store::rules::is_base;
 ghost use mathlib.Core.Path.{_≡_};
 ghost use Prim.Native.Nat.{_+_, _*_, _/_, _^_, _<_, _≤_};
@@ -14,9 +15,6 @@ ghost use Rattle.buffer.specs.Row.{withMember, union};
 ghost use Rattle.graph.specs.Graph.{servesAsBase};
 ghost use Rattle.store.specs.Layout.{headFrom};
 ghost use Rattle.resume.specs.Rows.{highestCommon, rowsSize, ownRow, meetField};
-
-// The bytes of a row.
-const ROW: usize = 128;
 
 // The highest bit of a byte that is not 0.
 fn top_bit(x: u8) -> usize

@@ -17,10 +17,10 @@ ghost use mathlib.Core.Bool.{true};
 ghost use mathlib.Core.Option.{some};
 ghost use Prim.Native.Nat.{suc, _<_, _≤_};
 ghost use lib.ListN.{length};
-ghost use Rattle.buffer.specs.Field.{overwrite};
+ghost use Rattle.buffer.specs.Field.{part, overwrite};
 ghost use Rattle.command.specs.Code.{consoleCount};
 ghost use Rattle.room.specs.Sound.{soundRoom};
-ghost use Rattle.store.specs.Layout.{headerSize, storeSize, commonsSize, blockAt, commonTable, encode};
+ghost use Rattle.store.specs.Layout.{headerSize, storeSize, commonsAt, commonsSize, blockAt, commonTable, encode};
 ghost use Rattle.update.specs.Append.{withMerge};
 ghost use Rattle.tape.specs.Tape.{contentOf, roomOf};
 ghost use Rattle.resume.specs.Content.{contentIn};
@@ -62,15 +62,15 @@ fn append_version(store: &mut [u8], rows: &[u8], v: usize, tape_record: Record)
     }
 }
 
-// Writes the number of versions and the table of commons.
-fn put_header(store: &mut [u8], count: usize, table: &[u8])
-    requires { ⌜ (headerSize ≤ length (now store)) × (length (now table) ≡ commonsSize) ⌝ }
-    ensures { λ _. ⌜ now (store .exit) ≡ withHeader (now (store .entry)) count (now (table .entry)) ⌝ }
+// Writes the number of versions and the table of commons of a header.
+fn put_header(store: &mut [u8], count: usize, header: &[u8])
+    requires { ⌜ (headerSize ≤ length (now store)) × (length (now header) ≡ headerSize) ⌝ }
+    ensures { λ _. ⌜ now (store .exit) ≡ withHeader (now (store .entry)) count (now (header .entry)) ⌝ }
 {
     let at = COMMONS;
     let end = COMMONS_END;
     put_word(store, 2, count);
-    copy(&mut store[at..end], table);
+    copy(&mut store[at..end], &header[at..end]);
 }
 
 // Writes the store of a tape's room over the front of a buffer.
@@ -80,12 +80,12 @@ pub fn write_store(
     capacity: usize,
     versions: usize,
     rows: &[u8],
-    table: &[u8],
+    header: &[u8],
 )
     requires { ⌜ contentOf (now tape) ≡ some (contentIn (now tape)) ⌝ }
     requires { ⌜ (capacity ≡ contentIn (now tape) .capacity) × (versions ≡ length (contentIn (now tape) .versions)) ⌝ }
     requires { ⌜ (soundRoom (roomOf (contentIn (now tape))) ≡ true) × RowsOf (now rows) (contentIn (now tape) .versions) ⌝ }
-    requires { ⌜ now table ≡ commonTable (roomOf (contentIn (now tape))) 0 consoleCount ⌝ }
+    requires { ⌜ (length (now header) ≡ headerSize) × (part (now header) commonsAt commonsSize ≡ commonTable (roomOf (contentIn (now tape))) 0 consoleCount) ⌝ }
     requires { ⌜ storeSize capacity ≤ length (now store) ⌝ }
     ensures { λ _. ⌜ now (store .exit) ≡ overwrite (encode (roomOf (contentIn (now (tape .entry))))) (now (store .entry)) ⌝ }
 {
@@ -99,5 +99,5 @@ pub fn write_store(
         at = taken.next.at;
         k = k + 1;
     }
-    put_header(store, versions + 1, table);
+    put_header(store, versions + 1, header);
 }

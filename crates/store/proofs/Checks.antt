@@ -20,7 +20,7 @@ use Rattle.command.specs.Code.{consoleCount}
 use Rattle.room.specs.Room.{headOf}
 use Rattle.room.specs.Sound.{isCapacity}
 use Rattle.store.specs.Layout.{headerSize, rowSize, blockSize, storeSize, capacityAt, countAt, entriesAt, commonsEnd, blockAt, versionsIn, headFrom, roomIn}
-use Rattle.store.specs.Check.{entriesPart, versionsRight, commonIn, consoleRight, behindHeads, contentsRight, storeRight}
+use Rattle.store.specs.Check.{rowPart, entriesPart, versionsRight, commonIn, consoleRight, behindHeads, contentsRight, storeRight}
 use Rattle.store.proofs.Reading.{headsIn-length, headsIn-one}
 use Rattle.store.proofs.Versions.{versions-length}
 
@@ -38,7 +38,7 @@ pub record Checks (s : List ℕ) (capacity n : ℕ) : Type 0 where
   pub free : allZero (part s (blockAt n) (blockSize * (capacity - n))) ≡ true
   pub consoles : everyBelow consoleCount (consoleRight s n) ≡ true
   pub first : ltb 0 (commonIn s 0 0) ≡ true
-  pub behind : behindHeads s consoleCount ≡ row (λ v. ltb v n) rowSize
+  pub behind : behindHeads s (rowPart s) consoleCount ≡ row (λ v. ltb v n) rowSize
 
 module _ (s : List ℕ) where
   fields-checks : storeRight s ≡ true → Checks s (wordAt s capacityAt) (wordAt s countAt)

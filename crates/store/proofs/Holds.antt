@@ -17,7 +17,7 @@ use Rattle.room.specs.Room.{Room}
 use Rattle.room.specs.Sound.{behindHead}
 use Rattle.room.proofs.Sound.{Sound, present-console}
 use Rattle.store.specs.Layout.{headerSize, rowSize, blockSize, countAt, entriesAt, commonsEnd, blockAt, roomIn, holdsStore}
-use Rattle.store.specs.Check.{commonIn, storeRight}
+use Rattle.store.specs.Check.{rowPart, commonIn, storeRight}
 use Rattle.store.proofs.Reading.{count-read}
 use Rattle.store.proofs.Shown.{no-entry}
 use Rattle.store.proofs.Versions.{held-versions}
@@ -57,7 +57,7 @@ module _ (s : List ℕ) (t : holdsStore s ≡ true) where
         free = stands-zero (blockAt (versionCount g)) (blockSize * (r .capacity - versionCount g)) (stands-free r (whole-front s t));
         consoles = fields-consoles s r (own-heads s) (whole-small s t) (whole-held s t) (whole-fields s t);
         first = lt-ltb 0 (commonIn s 0 0) (let x = eqb-false (commonIn s 0 0) 0 (not-zero s r (own-heads s) 0 (omega arith) (sound .first)) in omega arith);
-        behind = behind-row s r (own-heads s) (whole-held s t) (whole-low s t) ∙ behind-all r behind;
+        behind = behind-row s r (own-heads s) (rowPart s) (λ v l. whole-held s t .told v l .line) (whole-low s t) ∙ behind-all r behind;
       }
 
   pub holds-right : storeRight s ≡ true

@@ -15,7 +15,7 @@ use Rattle.graph.specs.Below.{everyBelow}
 use Rattle.command.specs.Code.{consoleCount}
 use Rattle.room.specs.Sound.{maxCapacity, isCapacity}
 use Rattle.store.specs.Layout.{headerSize, rowSize, blockSize, storeSize, capacityAt, countAt, entriesAt, commonsEnd, blockAt, holdsStore}
-use Rattle.store.specs.Check.{entriesPart, commonIn, behindHeads, consoleRight, versionsRight, contentsRight, storeRight}
+use Rattle.store.specs.Check.{rowPart, entriesPart, commonIn, behindHeads, consoleRight, versionsRight, contentsRight, storeRight}
 use Rattle.store.proofs.Holds.{holds-right}
 use Rattle.store.proofs.Checked.{check-holds}
 
@@ -38,7 +38,7 @@ abbrev pub restZero : List ℕ → ℕ → ℕ → Bool
 restZero s capacity n = noneFrom (entriesPart s) n && allZero (part s (blockAt n) (blockSize * (capacity - n)))
 
 abbrev pub headsCover : List ℕ → ℕ → Bool
-headsCover s n = ltb 0 (commonIn s 0 0) && same (behindHeads s consoleCount) (row (λ v. ltb v n) rowSize)
+headsCover s n = ltb 0 (commonIn s 0 0) && same (behindHeads s (rowPart s) consoleCount) (row (λ v. ltb v n) rowSize)
 
 pub contents-grouped : (s : List ℕ) (capacity n : ℕ) → contentsRight s capacity n
     ≡ leb 1 n && (leb n capacity && (spareZero s && (versionsRight s (pred n) && (restZero s capacity n && (everyBelow consoleCount (consoleRight s n) && headsCover s n)))))
@@ -46,7 +46,7 @@ unfolding contentsRight
 contents-grouped s capacity n =
     grouped (leb 1 n) (leb n capacity) (allZero (part s (countAt + 2) (entriesAt - (countAt + 2)))) (allZero (part s commonsEnd (headerSize - commonsEnd)))
     (versionsRight s (pred n)) (noneFrom (entriesPart s) n) (allZero (part s (blockAt n) (blockSize * (capacity - n))))
-    (everyBelow consoleCount (consoleRight s n)) (ltb 0 (commonIn s 0 0)) (same (behindHeads s consoleCount) (row (λ v. ltb v n) rowSize))
+    (everyBelow consoleCount (consoleRight s n)) (ltb 0 (commonIn s 0 0)) (same (behindHeads s (rowPart s) consoleCount) (row (λ v. ltb v n) rowSize))
 
 and-fail-l : (a b : Bool) → a ≡ false → a && b ≡ false
 and-fail-l true b h = clash refl h

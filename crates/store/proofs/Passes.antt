@@ -27,7 +27,7 @@ use Rattle.room.specs.Sound.{maxCapacity, behindHead}
 use Rattle.room.proofs.Sound.{Sound, present-console, facts-sound}
 use Rattle.room.proofs.Lengths.{boardOf-length}
 use Rattle.store.specs.Layout.{headerSize, rowSize, blockSize, storeSize, capacityAt, countAt, entriesAt, commonsEnd, commonAt, blockAt, encode, roomIn, holdsStore}
-use Rattle.store.specs.Check.{entriesPart, commonIn, storeRight}
+use Rattle.store.specs.Check.{rowPart, entriesPart, commonIn, storeRight}
 use Rattle.store.proofs.RoundTrip.{encode-length}
 use Rattle.store.proofs.Shown.{no-entry}
 use Rattle.store.proofs.Told.{Held}
@@ -66,7 +66,7 @@ module _ (s : List ℕ) (b : Bytes s) where
         omega (arith, low c l)
 
     behind : (v : ℕ) → v < versionCount g → behindHead r v ≡ true
-    behind = row-behind r small (sym (behind-row s r (own-heads s) held low) ∙ k .behind)
+    behind = row-behind r small (sym (behind-row s r (own-heads s) (rowPart s) (λ v l. held .told v l .line) low) ∙ k .behind)
 
     sound : Sound r
     sound =

@@ -79,11 +79,11 @@ pairRight s n c d =
 unfoldable pub consoleRight : List ℕ → ℕ → ℕ → Bool
 consoleRight s n c = leb (commonIn s c c) n && everyBelow c (pairRight s n c)
 
--- the versions that are an ancestor of a head of one of the first c consoles
-unfoldable pub behindHeads : List ℕ → ℕ → List ℕ
-behindHeads s zero = zeros rowSize
-behindHeads s (suc c) =
-    cond (eqb (commonIn s c c) 0) (behindHeads s c) (union (behindHeads s c) (rowPart s (pred (commonIn s c c))))
+-- the versions that are an ancestor of a head of one of the first c consoles; rowOf gives the row of a version
+unfoldable pub behindHeads : List ℕ → (ℕ → List ℕ) → ℕ → List ℕ
+behindHeads s rowOf zero = zeros rowSize
+behindHeads s rowOf (suc c) =
+    cond (eqb (commonIn s c c) 0) (behindHeads s rowOf c) (union (behindHeads s rowOf c) (rowOf (pred (commonIn s c c))))
 
 -- a store of this capacity with n versions
 unfoldable pub contentsRight : List ℕ → ℕ → ℕ → Bool
@@ -96,7 +96,7 @@ contentsRight s capacity n =
     && allZero (part s (blockAt n) (blockSize * (capacity - n)))
     && everyBelow consoleCount (consoleRight s n)
     && ltb 0 (commonIn s 0 0)
-    && same (behindHeads s consoleCount) (row (λ v. ltb v n) rowSize)
+    && same (behindHeads s (rowPart s) consoleCount) (row (λ v. ltb v n) rowSize)
 
 unfoldable pub storeRight : List ℕ → Bool
 storeRight s =

@@ -2,14 +2,14 @@
 use crate::places;
 ghost use mathlib.Core.Path.{_≡_};
 ghost use mathlib.Core.Bool.{cond, _&&_, _||_};
-ghost use Prim.Native.Nat.{ℕ, suc, pred, _*_, _-_, _^_, _<_, _≤_};
+ghost use Prim.Native.Nat.{ℕ, suc, pred, _+_, _*_, _-_, _^_, _<_, _≤_};
 ghost use lib.Dec.{eqb, leb, ltb};
 ghost use lib.ListN.{length};
-ghost use Rattle.buffer.specs.Field.{same};
+ghost use Rattle.buffer.specs.Field.{part, same};
 ghost use Rattle.buffer.specs.Row.{rowByte, row, union, intersection};
 ghost use Rattle.graph.specs.Below.{everyBelow};
 ghost use Rattle.command.specs.Code.{consoleCount};
-ghost use Rattle.store.specs.Layout.{rowSize, blockAt};
+ghost use Rattle.store.specs.Layout.{headerSize, rowSize, blockAt};
 ghost use Rattle.store.specs.Check.{rowPart, commonIn, pairRight, consoleRight, behindHeads};
 
 // Whether the row of version m is the intersection of the rows of u and v.
@@ -99,16 +99,18 @@ pub fn consoles_right(s: &[u8], n: usize) -> bool
     true
 }
 
-// Adds the row of the version that a field of the table stands for, if it stands for one.
-fn add_head(acc: &mut [u8], s: &[u8], field: usize)
+// Adds the row of the version that a field of the table stands for, if it stands for one. The row of version v stands at first + stride * v.
+fn add_head(acc: &mut [u8], rows: &[u8], first: usize, stride: usize, field: usize)
     requires { ⌜ length (now acc) ≡ rowSize ⌝ }
-    requires { ⌜ (0 < field → blockAt field ≤ length (now s)) ⌝ }
-    ensures { λ _. ⌜ now (acc .exit) ≡ cond (eqb field 0) (now (acc .entry)) (union (now (acc .entry)) (rowPart (now (s .entry)) (pred field))) ⌝ }
+    requires { ⌜ (0 < field → first + stride * pred field + rowSize ≤ length (now rows)) ⌝ }
+    ensures { λ _. ⌜ now (acc .exit) ≡ cond (eqb field 0) (now (acc .entry)) (union (now (acc .entry)) (part (now (rows .entry)) (first + stride * pred field) rowSize)) ⌝ }
 {
     if field == 0 {
         return;
     }
-    buffer::add_union(acc, places::row_of(s, field - 1));
+    let at = first + stride * (field - 1);
+    let end = at + places::ROW;
+    buffer::add_union(acc, &rows[at..end]);
 }
 
 // The lowest j bits of a byte.
@@ -135,7 +137,7 @@ fn full_byte(n: usize, k: usize) -> u8
 }
 
 // Whether acc is the row of all versions below n.
-pub fn is_full(acc: &[u8], n: usize) -> bool
+fn is_full(acc: &[u8], n: usize) -> bool
     requires { ⌜ length (now acc) ≡ rowSize ⌝ }
     ensures { λ r. ⌜ r ≡ same (now (acc .entry)) (row (λ v. ltb v n) rowSize) ⌝ }
 {
@@ -146,16 +148,17 @@ pub fn is_full(acc: &[u8], n: usize) -> bool
     wrong == 0
 }
 
-// Whether each of the n versions is an ancestor of a head.
-pub fn behind_right(s: &[u8], n: usize) -> bool
-    requires { ⌜ blockAt n ≤ length (now s) ⌝ }
-    requires { ⌜ ((c : ℕ) → c < consoleCount → commonIn (now s) c c ≤ n) ⌝ }
-    ensures { λ r. ⌜ r ≡ same (behindHeads (now (s .entry)) consoleCount) (row (λ v. ltb v n) rowSize) ⌝ }
+// Whether each of the n versions is an ancestor of a head. The heads stand on the diagonal of a header's table of commons, the row of version v
+// at first + stride * v of rows.
+pub fn behind_right(header: &[u8], rows: &[u8], first: usize, stride: usize, n: usize) -> bool
+    requires { ⌜ headerSize ≤ length (now header) ⌝ }
+    requires { ⌜ ((c : ℕ) → c < consoleCount → 0 < commonIn (now header) c c → first + stride * pred (commonIn (now header) c c) + rowSize ≤ length (now rows)) ⌝ }
+    ensures { λ r. ⌜ r ≡ same (behindHeads (now (header .entry)) (λ v. part (now (rows .entry)) (first + stride * v) rowSize) consoleCount) (row (λ v. ltb v n) rowSize) ⌝ }
 {
     let mut acc = [0u8; places::ROW];
     for c in 0..places::CONSOLES {
-        let field = places::common_in(s, c, c);
-        add_head(&mut acc, s, field);
+        let field = places::common_in(header, c, c);
+        add_head(&mut acc, rows, first, stride, field);
     }
     is_full(&acc, n)
 }

@@ -6,6 +6,7 @@ use crate::places::COMMONS;
 use crate::places::COMMONS_END;
 use crate::places::ENTRIES;
 use crate::places::HEADER;
+use crate::places::NODE;
 use crate::places::SPARE;
 use crate::version::versions_right;
 use buffer::is_zero;
@@ -21,7 +22,7 @@ ghost use Rattle.buffer.specs.Field.{part, same, allZero};
 ghost use Rattle.buffer.specs.Row.{row, noneFrom};
 ghost use Rattle.command.specs.Code.{consoleCount};
 ghost use Rattle.store.specs.Layout.{headerSize, rowSize, blockSize, storeSize, countAt, entriesAt, commonsEnd, blockAt, holdsStore};
-ghost use Rattle.store.specs.Check.{entriesPart, commonIn, behindHeads, contentsRight};
+ghost use Rattle.store.specs.Check.{rowPart, entriesPart, commonIn, behindHeads, contentsRight};
 
 // The most versions that a store can hold.
 const MAX_CAPACITY: usize = 1024;
@@ -48,9 +49,9 @@ fn rest_right(s: &[u8], capacity: usize, n: usize) -> bool
 fn heads_right(s: &[u8], n: usize) -> bool
     requires { ⌜ blockAt n ≤ length (now s) ⌝ }
     requires { ⌜ ((c : ℕ) → c < consoleCount → commonIn (now s) c c ≤ n) ⌝ }
-    ensures { λ r. ⌜ r ≡ (ltb 0 (commonIn (now (s .entry)) 0 0) && same (behindHeads (now (s .entry)) consoleCount) (row (λ v. ltb v n) rowSize)) ⌝ }
+    ensures { λ r. ⌜ r ≡ (ltb 0 (commonIn (now (s .entry)) 0 0) && same (behindHeads (now (s .entry)) (rowPart (now (s .entry))) consoleCount) (row (λ v. ltb v n) rowSize)) ⌝ }
 {
-    (0 < word_at(s, COMMONS)) & behind_right(s, n)
+    (0 < word_at(s, COMMONS)) & behind_right(s, s, HEADER + NODE, BLOCK, n)
 }
 
 // A store of this capacity with n versions.

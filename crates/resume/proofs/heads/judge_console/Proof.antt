@@ -7,19 +7,19 @@ use Rattle.resume.proofs.heads.judge_console.Statement.{statement}
 use Rattle.resume.proofs.heads.judge_console.Tie as tie
 
 abbrev Inv-loop : tie.InvT-loop
-Inv-loop rows table₀ c ok₀ d₀ table ok d = Paired rows table₀ c d table ok
+Inv-loop rows header₀ c ok₀ d₀ header ok d = Paired rows header₀ c d header ok
 
 abbrev μ-loop : tie.MeasureT-loop
-μ-loop rows table₀ c ok₀ d₀ table ok d = c - d
+μ-loop rows header₀ c ok₀ d₀ header ok d = c - d
 
 loop-holds : tie.Need-loop-holds Inv-loop μ-loop
 loop-holds c = paired-none _ _ _ (c .before .before .pre .1 .0)
 
-field-in-requires : tie.Need-field-in-requires Inv-loop μ-loop
-field-in-requires c κs = omega arith
+common-in-requires : tie.Need-common-in-requires Inv-loop μ-loop
+common-in-requires c κs = omega arith
 
-field-in-requires-2 : tie.Need-field-in-requires-2 Inv-loop μ-loop
-field-in-requires-2 c κs = omega arith
+common-in-requires-2 : tie.Need-common-in-requires-2 Inv-loop μ-loop
+common-in-requires-2 c κs = omega arith
 
 judge-pair-requires : tie.Need-judge-pair-requires Inv-loop μ-loop
 judge-pair-requires c κs =
@@ -47,7 +47,7 @@ loop-again c =
     let first = second .before .before in
     let turn = first .before .before in
     let start = turn .before .before .before .before in
-    paired-more (turn .before .loop .inv) (start .pre .1 .1 .0) (turn .loop-test .taken) (first .field-in .ensures .0) (second .field-in2 .ensures .0)
+    paired-more (turn .before .loop .inv) (start .pre .1 .1 .0) (turn .loop-test .taken) (first .common-in .ensures .0) (second .common-in2 .ensures .0)
     (call .judge-pair .ensures .0) (call .judge-pair .ensures .1)
 
 same-length : tie.Need-same-length Inv-loop μ-loop
@@ -63,8 +63,8 @@ judge-console-spec =
     Inv-loop
     μ-loop
     loop-holds
-    field-in-requires
-    field-in-requires-2
+    common-in-requires
+    common-in-requires-2
     judge-pair-requires
     add-d
     loop-less

@@ -2,7 +2,7 @@
 -- Assumes nothing.
 use mathlib.Core.Path.{_∙_, ap}
 use native.Mathlib.Omega.{arith}
-use Rattle.resume.specs.Heads.{putPair}
+use Rattle.update.specs.Commons.{putCommon}
 use Rattle.resume.proofs.TableSteps.{pair-answer}
 use Rattle.resume.proofs.heads.judge_pair.Statement.{statement}
 use Rattle.resume.proofs.heads.judge_pair.Tie as tie
@@ -10,8 +10,8 @@ use Rattle.resume.proofs.heads.judge_pair.Tie as tie
 pair-field-requires : tie.Need-pair-field-requires
 pair-field-requires c κs = omega arith
 
-put-pair-requires : tie.Need-put-pair-requires
-put-pair-requires c κs = omega arith
+put-common-requires : tie.Need-put-common-requires
+put-common-requires c κs = omega arith
 
 same-length : tie.Need-same-length
 same-length c = omega arith
@@ -21,7 +21,7 @@ returns c =
     let written = c .before .before in
     let made = written .before .before in
     let a = made .before .before .before .args in
-    (pair-answer (a .rows .now) (a .x) (a .y) (made .pair-field .ensures), written .put-pair .ensures ∙ ap (putPair (a .table .now) (a .c) (a .d)) (made .pair-field .ensures))
+    (pair-answer (a .rows .now) (a .x) (a .y) (made .pair-field .ensures), written .put-common .ensures ∙ ap (putCommon (a .header .now) (a .c) (a .d)) (made .pair-field .ensures))
 
 pub judge-pair-spec : {M : Type 1} → statement M
-judge-pair-spec = tie.close (tie.spec pair-field-requires put-pair-requires same-length returns)
+judge-pair-spec = tie.close (tie.spec pair-field-requires put-common-requires same-length returns)

@@ -3,8 +3,7 @@
 use native.Mathlib.Omega.{arith}
 use native.Mathlib.Numerals.{add-one}
 use mathlib.Core.Path.{ap, _∙_}
-use Rattle.buffer.specs.Field.{putWord}
-use Rattle.resume.specs.Heads.{fieldAt}
+use Rattle.update.specs.Commons.{putHead}
 use Rattle.resume.proofs.Parents.{head-bounds}
 use borrow.Author.Needs.{needs}
 use Rattle.resume.proofs.heads.put_head.Statement.{statement}
@@ -22,33 +21,15 @@ enum-known-tape-record-3 c = omega arith
 enum-known-tape-record-4 : tie.Need-enum-known-tape-record-4
 enum-known-tape-record-4 c = omega arith
 
-mul-put-word : tie.Need-mul-put-word
-mul-put-word c =
+add-put-head : tie.Need-add-put-head
+add-put-head c =
     let told = c .before .before .before in
     let b = head-bounds (told .tape-record4 .given .1) (told .before .before .before .pre .1) in
     omega arith
 
-add-put-word : tie.Need-add-put-word
-add-put-word c =
-    let told = c .before .before .before .before in
-    let b = head-bounds (told .tape-record4 .given .1) (told .before .before .before .pre .1) in
-    omega arith
-
-mul-put-word-2 : tie.Need-mul-put-word-2
-mul-put-word-2 c =
-    let told = c .before .before .before .before in
-    let b = head-bounds (told .tape-record4 .given .1) (told .before .before .before .pre .1) in
-    omega arith
-
-add-put-word-2 : tie.Need-add-put-word-2
-add-put-word-2 c =
-    let told = c .before .before .before .before .before in
-    let b = head-bounds (told .tape-record4 .given .1) (told .before .before .before .pre .1) in
-    omega arith
-
-put-word-requires : tie.Need-put-word-requires
-put-word-requires c κs =
-    let told = c .before .before .before .before .before in
+put-head-requires : tie.Need-put-head-requires
+put-head-requires c κs =
+    let told = c .before .before .before in
     let b = head-bounds (told .tape-record4 .given .1) (told .before .before .before .pre .1) in
     omega arith
 
@@ -73,10 +54,10 @@ same-length c = omega arith
 returns-4 : tie.Need-returns-4
 returns-4 c =
     let put = c .before .before in
-    let told = put .before .before .before .before .before .before in
-    let t = told .before .before .before .args .table .now in
+    let told = put .before .before .before .before in
+    let t = told .before .before .before .args .header .now in
     let head = told .tape-record4 .given in
-    rw (head .1) (put .put-word .ensures ∙ ap (putWord t (fieldAt (head .0 .0 .0) (head .0 .0 .0))) (add-one (head .0 .1 .0 .0)))
+    rw (head .1) (put .put-head .ensures ∙ ap (putHead t (head .0 .0 .0)) (add-one (head .0 .1 .0 .0)))
 
 returns-5 : tie.Need-returns-5
 returns-5 c = search needs
@@ -92,11 +73,8 @@ put-head-spec =
     enum-known-tape-record-2
     enum-known-tape-record-3
     enum-known-tape-record-4
-    mul-put-word
-    add-put-word
-    mul-put-word-2
-    add-put-word-2
-    put-word-requires
+    add-put-head
+    put-head-requires
     enum-told
     enum-told-2
     returns

@@ -8,10 +8,10 @@ use Rattle.resume.proofs.heads.put_heads.Statement.{statement}
 use Rattle.resume.proofs.heads.put_heads.Tie as tie
 
 abbrev Inv-loop : tie.InvT-loop
-Inv-loop tape from heads table₀ at₀ j₀ table at j = Headed (contentIn tape) j at table
+Inv-loop tape from heads header₀ at₀ j₀ header at j = Headed (contentIn tape) j at header
 
 abbrev μ-loop : tie.MeasureT-loop
-μ-loop tape from heads table₀ at₀ j₀ table at j = heads - j
+μ-loop tape from heads header₀ at₀ j₀ header at j = heads - j
 
 loop-holds : tie.Need-loop-holds Inv-loop μ-loop
 loop-holds c = let p = c .before .before .pre in headed-none _ (p .1 .1 .0 .1) (p .1 .1 .1 .0) (p .1 .1 .1 .1)

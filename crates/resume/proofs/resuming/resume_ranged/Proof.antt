@@ -8,7 +8,7 @@ use borrow.Author.Tests.{ltb-false}
 use Rattle.buffer.proofs.Fields.{zeros-length}
 use Rattle.command.proofs.Limits.{within-true}
 use Rattle.room.specs.Sound.{maxCapacity}
-use Rattle.store.specs.Layout.{storeSize, commonsSize}
+use Rattle.store.specs.Layout.{headerSize, storeSize}
 use Rattle.tape.proofs.Located.{heads-last}
 use Rattle.resume.specs.Content.{contentIn}
 use Rattle.resume.specs.Rows.{rowsSize}
@@ -49,7 +49,7 @@ gives-sound-room-requires c κs =
     let start = known .before in
     let p = start .pre in
     let last = heads-last (start .args .tape .now) (contentIn (start .args .tape .now)) (λ i. known .shared-slice-known .given i .fits) (p .0) in
-    (p .0, ((p .1 .1 .0, p .1 .1 .1), ((p .1 .0 .1, omega arith, p .1 .0 .2), (zeros-length rowsSize, (zeros-length commonsSize, refl)))))
+    (p .0, ((p .1 .1 .0, p .1 .1 .1), ((p .1 .0 .1, omega arith, p .1 .0 .2), (zeros-length rowsSize, (zeros-length headerSize, refl)))))
 
 mul-last-refusal : tie.Need-mul-last-refusal
 mul-last-refusal c =
@@ -82,7 +82,7 @@ write-store-requires c κs =
     let told = judged .gives-sound-room .ensures in
     let fits = none-left (judged .gives-sound-room .result) _ (sym (answered .last-refusal .ensures) ∙ then .if1 .taken) in
     let long = ltb-false (length (start .args .store .now)) (storeSize (start .args .capacity)) (fits .1) in
-    (p .0, ((p .1 .0 .0, p .1 .0 .1), ((sym (told .0) ∙ fits .0, told .1), (told .2 (fits .0), omega (arith, long)))))
+    (p .0, ((p .1 .0 .0, p .1 .0 .1), ((sym (told .0) ∙ fits .0, told .1), ((omega arith, told .2 (fits .0)), omega (arith, long)))))
 
 same-length : tie.Need-same-length
 same-length c = omega arith

@@ -1,11 +1,11 @@
 -- `resume::sound::gives_sound_room` meets its contract: the first of the three tests that fails answers, or else the last.
 -- Assumes nothing.
 use native.Mathlib.Omega.{arith}
-use mathlib.Core.Path.{refl, sym, _∙_}
+use mathlib.Core.Path.{refl}
 use borrow.Author.Tests.{not-true, not-false}
 use Rattle.laws.proofs.Logic.{clash}
 use Rattle.resume.specs.Content.{contentIn}
-use Rattle.resume.proofs.HeadsJudged.{filled-long, filled-low, behind-told}
+use Rattle.resume.proofs.HeadsJudged.{rows-inside, behind-told}
 use Rattle.resume.proofs.RoomJudged.{in-range, range-small, versions-fail, heads-fail, behind-decides}
 use Rattle.resume.proofs.sound.gives_sound_room.Statement.{statement}
 use Rattle.resume.proofs.sound.gives_sound_room.Tie as tie
@@ -65,8 +65,8 @@ returns-2 c =
       λ h. clash h refl,
     )
 
-add-all-behind : tie.Need-add-all-behind
-add-all-behind c =
+add-behind-right : tie.Need-add-behind-right
+add-behind-right c =
     let met = c .before .before .before .before .before in
     let made = met .before .before .before .before .before .before in
     let start = made .before .before .before .before .before in
@@ -76,8 +76,8 @@ add-all-behind c =
     let small = range-small t (p .1 .0 .0) k in
     omega arith
 
-all-behind-requires : tie.Need-all-behind-requires
-all-behind-requires c κs =
+behind-right-requires : tie.Need-behind-right-requires
+behind-right-requires c κs =
     let met = c .before .before .before .before .before in
     let made = met .before .before .before .before .before .before in
     let start = made .before .before .before .before .before in
@@ -87,9 +87,8 @@ all-behind-requires c κs =
     let small = range-small t (p .1 .0 .0) k in
     let shown = made .judge-versions .ensures .1 in
     let ok = not-false (met .judge-heads .result) (c .before .before .if2 .left) in
-    let meets = sym (met .judge-heads .ensures .0) ∙ ok in
-    let written = met .judge-heads .ensures .1 ok in
-    (shown .long, (filled-long t (k .rise) (k .named) small shown meets written, filled-low t (k .rise) (k .named) small shown meets written))
+    let header = met .judge-heads .last .1 .1 .1 .1 .0 in
+    (omega arith, rows-inside t (k .rise) (k .named) small shown header (omega arith) (met .judge-heads .ensures .1 ok))
 
 same-length-4 : tie.Need-same-length-4
 same-length-4 c = omega arith
@@ -109,9 +108,9 @@ returns-3 c =
     let told = made .judge-versions .ensures in
     let based = not-false (made .judge-versions .result) (met .before .before .before .if1 .left) in
     let ok = not-false (met .judge-heads .result) (c .before .before .before .if2 .left) in
-    let meets = sym (met .judge-heads .ensures .0) ∙ ok in
     let written = met .judge-heads .ensures .1 ok in
-    let last = behind-told t (k .rise) (k .named) small (told .1) meets written (omega arith) (c .all-behind .ensures) in
+    let header = met .judge-heads .last .1 .1 .1 .1 .0 in
+    let last = behind-told t (k .rise) (k .named) small (told .1) header (omega arith) written (omega arith) (c .behind-right .ensures) in
     (behind-decides t (p .1 .0 .0) (p .1 .0 .1) (told .0) based (met .judge-heads .ensures .0) ok last, told .1, λ _. written)
 
 pub gives-sound-room-spec : {M : Type 1} → statement M
@@ -125,8 +124,8 @@ gives-sound-room-spec =
     same-length-2
     same-length-3
     returns-2
-    add-all-behind
-    all-behind-requires
+    add-behind-right
+    behind-right-requires
     same-length-4
     same-length-5
     returns-3)

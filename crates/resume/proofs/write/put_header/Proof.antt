@@ -1,10 +1,11 @@
--- `resume::write::put_header` meets its contract: the count was written, and the part of the table that was lent comes back as the table.
+-- `resume::write::put_header` meets its contract: the count was written, and the table's part that was lent comes back as the header's.
 -- Assumes nothing.
 use mathlib.Core.Path.{refl, ap, _∙_}
 use mathlib.Core.List.{List}
 use Prim.Native.Nat.{ℕ}
 use native.Mathlib.Omega.{arith}
-use Rattle.buffer.specs.Field.{withPart}
+use Rattle.buffer.specs.Field.{part, withPart}
+use Rattle.buffer.proofs.Fields.{part-length}
 use Rattle.buffer.proofs.Patches.{put-lent}
 use Rattle.store.specs.Layout.{commonsAt, commonsSize}
 use Rattle.resume.specs.Writing.{withHeader}
@@ -23,6 +24,15 @@ part-copy-start c = omega arith
 part-copy-end : tie.Need-part-copy-end
 part-copy-end c = omega arith
 
+sub-copy-2 : tie.Need-sub-copy-2
+sub-copy-2 c = omega arith
+
+part-copy-start-2 : tie.Need-part-copy-start-2
+part-copy-start-2 c = omega arith
+
+part-copy-end-2 : tie.Need-part-copy-end-2
+part-copy-end-2 c = omega arith
+
 copy-requires : tie.Need-copy-requires
 copy-requires c κs = omega arith
 
@@ -33,10 +43,10 @@ returns : tie.Need-returns
 unfolding withHeader
 returns c =
     let copied = c .before .before in
-    let put = copied .before .before .before .before in
-    let start = put .before .before .before .before in
-    let table = start .args .table .now in
-    put-lent (put .put-word .last .0) _ table commonsAt commonsAt commonsSize refl (copied .copy .ensures) (start .pre .1)
+    let put = copied .before .before .before .before .before in
+    let header = put .before .before .before .before .args .header .now in
+    let table = part header commonsAt commonsSize in
+    put-lent (put .put-word .last .0) _ table commonsAt commonsAt commonsSize refl (copied .copy .ensures) (part-length header commonsAt commonsSize (omega arith))
     ∙ ap (λ (s : List ℕ). withPart s commonsAt table) (put .put-word .ensures)
 
 pub put-header-spec : {M : Type 1} → statement M
@@ -47,6 +57,9 @@ put-header-spec =
     sub-copy
     part-copy-start
     part-copy-end
+    sub-copy-2
+    part-copy-start-2
+    part-copy-end-2
     copy-requires
     same-length
     returns)

@@ -14,10 +14,10 @@ use Rattle.resume.proofs.write.write_store.Statement.{statement}
 use Rattle.resume.proofs.write.write_store.Tie as tie
 
 abbrev Inv-loop : tie.InvT-loop
-Inv-loop store₀ tape capacity versions rows table at₀ k₀ store at k = Written (contentIn tape) store₀ k at store
+Inv-loop store₀ tape capacity versions rows header at₀ k₀ store at k = Written (contentIn tape) store₀ k at store
 
 abbrev μ-loop : tie.MeasureT-loop
-μ-loop store₀ tape capacity versions rows table at₀ k₀ store at k = versions - k
+μ-loop store₀ tape capacity versions rows header at₀ k₀ store at k = versions - k
 
 open-requires : tie.Need-open-requires Inv-loop μ-loop
 open-requires c κs =
@@ -110,9 +110,11 @@ put-header-requires c κs =
     let start = opened .before .before .before .before .before .before in
     let a = start .args in
     let p = start .pre in
-    let t = contentIn (a .tape .now) in
-    header-fits t (p .1 .1 .0 .0) (a .store .now) (a .capacity) (p .1 .0 .0) (p .1 .1 .1 .1) (opened .«open» .ensures)
-    (written-all t (turn .loop .inv) (omega arith)) (p .1 .1 .1 .0)
+    let t = contentIn (a .tape .now) in (
+      header-fits t (p .1 .1 .0 .0) (a .store .now) (a .capacity) (p .1 .0 .0) (p .1 .1 .1 .1) (opened .«open» .ensures)
+          (written-all t (turn .loop .inv) (omega arith)) (a .header .now) (p .1 .1 .1 .0 .1),
+      p .1 .1 .1 .0 .0,
+    )
 
 same-length : tie.Need-same-length Inv-loop μ-loop
 same-length c = omega arith
@@ -127,7 +129,7 @@ returns c =
     let p = start .pre in
     let t = contentIn (a .tape .now) in
     store-whole t (p .1 .1 .0 .0) (a .store .now) (a .capacity) (p .1 .0 .0) (p .1 .1 .1 .1) (opened .«open» .ensures)
-    (written-all t (turn .loop .inv) (omega arith)) (p .1 .1 .1 .0) (p .1 .0 .1) (ended .put-header .ensures)
+    (written-all t (turn .loop .inv) (omega arith)) (a .header .now) (p .1 .1 .1 .0 .1) (p .1 .0 .1) (ended .put-header .ensures)
 
 pub write-store-spec : {M : Type 1} → statement M
 write-store-spec =

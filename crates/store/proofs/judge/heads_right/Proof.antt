@@ -1,18 +1,25 @@
 -- `store::judge::heads_right` tests the head of console 0 and the rows of all heads.
 -- Assumes nothing.
 use native.Mathlib.Omega.{arith}
-use borrow.Author.Needs.{needs}
+use Rattle.command.specs.Code.{consoleCount}
+use Rattle.store.proofs.Heads.{behind-blocks}
 use Rattle.store.proofs.judge.heads_right.Statement.{statement}
 use Rattle.store.proofs.judge.heads_right.Tie as tie
 
 word-at-requires : tie.Need-word-at-requires
 word-at-requires c κs = omega arith
 
+add-behind-right : tie.Need-add-behind-right
+add-behind-right c = omega arith
+
 behind-right-requires : tie.Need-behind-right-requires
-behind-right-requires c κs = search needs
+behind-right-requires c κs = let named = c .before .before .pre .1 in (omega arith, λ k l p. omega (arith, named k l))
 
 returns : tie.Need-returns
-returns c = rw (c .before .word-at .ensures .0, c .behind-right .ensures)
+returns c =
+    let s = c .before .before .before .args .s .now in
+    rw (c .before .word-at .ensures .0, c .behind-right .ensures, behind-blocks s consoleCount)
 
 pub heads-right-spec : {M : Type 1} → statement M
-heads-right-spec = tie.close (tie.spec word-at-requires behind-right-requires returns)
+heads-right-spec =
+    tie.close (tie.spec word-at-requires add-behind-right behind-right-requires returns)
