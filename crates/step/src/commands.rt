@@ -1,8 +1,6 @@
 // A command of any kind, carried out or refused.
-use crate::moves::fast_forward;
-use crate::moves::fork;
-use crate::versions::make_entry;
-use crate::versions::make_merge;
+use crate::changes::change;
+use crate::refusals::refusal_of;
 use command::Command;
 ghost use mathlib.Core.Path.{_≡_};
 ghost use mathlib.Core.Bool.{true};
@@ -17,15 +15,10 @@ pub fn carry_out(s: &mut [u8], c: Command) -> u32
     requires { ⌜ InRange c ⌝ }
     ensures { λ r. ⌜ (r ≡ stepRefusal (roomIn (now (s .entry))) c) × (now (s .exit) ≡ afterStep (now (s .entry)) c) ⌝ }
 {
-    match c {
-        Command::Fork { new, old } => fork(s, new, old),
-        Command::Entry {
-            console,
-            code,
-            strip,
-            operand,
-        } => make_entry(s, console, code, strip, operand),
-        Command::Merge { receiver, giver } => make_merge(s, receiver, giver),
-        Command::FastForward { receiver, giver } => fast_forward(s, receiver, giver),
+    let refusal = refusal_of(s, c);
+    if refusal != 0 {
+        return refusal;
     }
+    change(s, c);
+    0
 }

@@ -1,5 +1,6 @@
 // The refusals of each command by the state of the room, tested in their order.
 use crate::third::some_third_splits;
+use command::Command;
 use command::Console;
 use query::capacity_of;
 use query::head_of;
@@ -11,6 +12,7 @@ ghost use mathlib.Core.Bool.{true, _||_};
 ghost use mathlib.Core.List.{[], _∷_};
 ghost use Prim.Native.Nat.{_<_};
 ghost use Rattle.command.specs.Code.{consoleCount};
+ghost use Rattle.command.specs.Decoding.{InRange};
 ghost use Rattle.command.specs.Refusal.{_when_, firstRefusal};
 ghost use Rattle.command.specs.declared.Command.the-variants.{Fork, Merge, FastForward};
 ghost use Rattle.room.specs.Step.{absent, behind, full, stepRefusal};
@@ -45,7 +47,7 @@ fn is_full(s: &[u8]) -> bool
 }
 
 // The first refusal of a fork, or 0.
-pub fn fork_refusal(s: &[u8], new: Console, old: Console) -> u32
+fn fork_refusal(s: &[u8], new: Console, old: Console) -> u32
     requires { ⌜ holdsStore (now s) ≡ true ⌝ }
     requires { ⌜ (new .0 < consoleCount) × (old .0 < consoleCount) ⌝ }
     ensures { λ r. ⌜ r ≡ stepRefusal (roomIn (now (s .entry))) (Fork new old) ⌝ }
@@ -60,7 +62,7 @@ pub fn fork_refusal(s: &[u8], new: Console, old: Console) -> u32
 }
 
 // The first refusal of a fast-forward, or 0.
-pub fn forward_refusal(s: &[u8], receiver: Console, giver: Console) -> u32
+fn forward_refusal(s: &[u8], receiver: Console, giver: Console) -> u32
     requires { ⌜ holdsStore (now s) ≡ true ⌝ }
     requires { ⌜ (receiver .0 < consoleCount) × (giver .0 < consoleCount) ⌝ }
     ensures { λ r. ⌜ r ≡ stepRefusal (roomIn (now (s .entry))) (FastForward receiver giver) ⌝ }
@@ -78,7 +80,7 @@ pub fn forward_refusal(s: &[u8], receiver: Console, giver: Console) -> u32
 }
 
 // The first refusal of an entry, or 0.
-pub fn entry_refusal(s: &[u8], console: Console) -> u32
+fn entry_refusal(s: &[u8], console: Console) -> u32
     requires { ⌜ holdsStore (now s) ≡ true ⌝ }
     requires { ⌜ console .0 < consoleCount ⌝ }
     ensures { λ r. ⌜ r ≡ firstRefusal (12 when absent (roomIn (now (s .entry))) (console .0) ∷ 18 when full (roomIn (now (s .entry))) ∷ []) ⌝ }
@@ -93,7 +95,7 @@ pub fn entry_refusal(s: &[u8], console: Console) -> u32
 }
 
 // The first refusal of a merge, or 0.
-pub fn merge_refusal(s: &[u8], receiver: Console, giver: Console) -> u32
+fn merge_refusal(s: &[u8], receiver: Console, giver: Console) -> u32
     requires { ⌜ holdsStore (now s) ≡ true ⌝ }
     requires { ⌜ (receiver .0 < consoleCount) × (giver .0 < consoleCount) ⌝ }
     ensures { λ r. ⌜ r ≡ stepRefusal (roomIn (now (s .entry))) (Merge receiver giver) ⌝ }
@@ -114,4 +116,18 @@ pub fn merge_refusal(s: &[u8], receiver: Console, giver: Console) -> u32
         return 18;
     }
     0
+}
+
+// The first refusal of a command by the state of the room, or 0.
+pub fn refusal_of(s: &[u8], c: Command) -> u32
+    requires { ⌜ holdsStore (now s) ≡ true ⌝ }
+    requires { ⌜ InRange c ⌝ }
+    ensures { λ r. ⌜ r ≡ stepRefusal (roomIn (now (s .entry))) c ⌝ }
+{
+    match c {
+        Command::Fork { new, old } => fork_refusal(s, new, old),
+        Command::Entry { console, .. } => entry_refusal(s, console),
+        Command::Merge { receiver, giver } => merge_refusal(s, receiver, giver),
+        Command::FastForward { receiver, giver } => forward_refusal(s, receiver, giver),
+    }
 }
