@@ -7,7 +7,7 @@ use tape::Record;
 use tape::reader::place_past;
 use tape::reader::read_at;
 ghost use mathlib.Core.Path.{_≡_};
-ghost use mathlib.Core.Bool.{_&&_};
+ghost use mathlib.Core.Bool.{true, _&&_};
 ghost use mathlib.Core.Option.{some};
 ghost use Prim.Native.Nat.{_≤_};
 ghost use lib.ListN.{length, drop};
@@ -87,9 +87,9 @@ fn console_of(tape_record: Record) -> usize
 }
 
 // What was read of a tape: whether it is in range, and the place past it.
-struct Seen {
-    ok: bool,
-    at: usize,
+pub struct Seen {
+    pub ok: bool,
+    pub at: usize,
 }
 
 // Reads the record of version v at its place.
@@ -169,16 +169,20 @@ fn heads_in_range(tape: &[u8], first: usize, count: usize, heads: usize) -> bool
     ok
 }
 
-// Whether what a whole tape says is in range: refusal 9 is its negation.
-pub fn in_range(tape: &[u8], capacity: usize, versions: usize, heads: usize) -> bool
+// Whether what a whole tape says is in range, and then where its first head record stands. Refusal 9 is for one that is not.
+pub fn see_tape(tape: &[u8], capacity: usize, versions: usize, heads: usize) -> Seen
     requires { ⌜ contentOf (now tape) ≡ some (contentIn (now tape)) ⌝ }
     requires { ⌜ (capacity ≡ contentIn (now tape) .capacity) × (versions ≡ length (contentIn (now tape) .versions)) × (heads ≡ length (contentIn (now tape) .heads)) ⌝ }
-    ensures { λ r. ⌜ r ≡ inRange (contentIn (now (tape .entry))) ⌝ }
+    ensures { λ r. ⌜ (r .ok ≡ inRange (contentIn (now (tape .entry)))) × (r .ok ≡ true → r .at ≡ headPlace (contentIn (now (tape .entry))) 0) ⌝ }
 {
     if capacity <= versions {
-        return false;
+        return Seen { ok: false, at: 0 };
     }
     let seen = see_versions(tape, versions);
-    let first = seen.at;
-    seen.ok & heads_in_range(tape, first, versions + 1, heads)
+    let at = seen.at;
+    let named = heads_in_range(tape, at, versions + 1, heads);
+    Seen {
+        ok: seen.ok & named,
+        at,
+    }
 }

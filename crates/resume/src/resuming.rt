@@ -1,5 +1,5 @@
 // Resume of a tape: the refusals 7 to 10 and 19 in their order, all judged before a byte of the lent buffer is written.
-use crate::ranges::in_range;
+use crate::ranges::see_tape;
 use crate::sound::gives_sound_room;
 use crate::write::write_store;
 use store::places::BLOCK;
@@ -15,6 +15,7 @@ ghost use lib.ListN.{length};
 ghost use Rattle.command.specs.Refusal.{_when_, firstRefusal};
 ghost use Rattle.room.specs.Sound.{isCapacity};
 ghost use Rattle.tape.specs.Tape.{contentOf, inRange};
+ghost use Rattle.tape.specs.Reader.{headPlace};
 ghost use Rattle.resume.specs.Content.{contentIn};
 ghost use Rattle.resume.specs.Resumed.{resumeRefusal, resumedStore};
 
@@ -44,23 +45,22 @@ fn last_refusal(unsound: bool, short: bool) -> u32
     first_of(when(10, unsound), when(19, short))
 }
 
-// Resumes a whole tape whose numbers are in range.
+// Resumes a whole tape whose numbers are in range, with its first head record at `from`.
 fn resume_ranged(
     tape: &[u8],
     store: &mut [u8],
     capacity: usize,
     versions: usize,
+    from: usize,
     heads: usize,
 ) -> u32
     requires { ⌜ contentOf (now tape) ≡ some (contentIn (now tape)) ⌝ }
-    requires { ⌜ (capacity ≡ contentIn (now tape) .capacity) × (versions ≡ length (contentIn (now tape) .versions)) × (heads ≡ length (contentIn (now tape) .heads)) ⌝ }
+    requires { ⌜ (capacity ≡ contentIn (now tape) .capacity) × (versions ≡ length (contentIn (now tape) .versions)) × (from ≡ headPlace (contentIn (now tape)) 0) × (heads ≡ length (contentIn (now tape) .heads)) ⌝ }
     requires { ⌜ (isCapacity (contentIn (now tape) .capacity) ≡ true) × (inRange (contentIn (now tape)) ≡ true) ⌝ }
     ensures { λ r. ⌜ (r ≡ resumeRefusal (some (contentIn (now (tape .entry)))) (now (store .entry))) × (now (store .exit) ≡ resumedStore (some (contentIn (now (tape .entry)))) (now (store .entry))) ⌝ }
 {
     let mut rows = [0u8; ROWS];
     let mut header = [0u8; HEADER];
-    // a head record takes 4 bytes, and the last byte of the tape comes right behind the last of them
-    let from = tape.len() - (4 * heads + 1);
     let sound = gives_sound_room(tape, versions, from, heads, &mut rows, &mut header);
     let refusal = last_refusal(!sound, store.len() < HEADER + BLOCK * capacity);
     if refusal == 0 {
@@ -87,10 +87,11 @@ fn resume_whole(
     if MAX_CAPACITY < capacity {
         return 8;
     }
-    if !in_range(tape, capacity, versions, heads) {
+    let seen = see_tape(tape, capacity, versions, heads);
+    if !seen.ok {
         return 9;
     }
-    resume_ranged(tape, store, capacity, versions, heads)
+    resume_ranged(tape, store, capacity, versions, seen.at, heads)
 }
 
 // Resumes the room of a tape: 0, or the refusal that applies; the buffer is written only where it is 0.

@@ -154,13 +154,3 @@ module _ (tape : List ℕ) (t : Content) (bytes : Bytes tape) (says : contentOf 
         first = one-more heads j (0, 0) l;
         record-at = rw in-heads (rw (far j (omega arith), far (suc j) (omega arith)) at there);
       }
-
-  -- the heads stand right before the last byte
-  pub heads-last : headPlace t 0 + 4 * length (t .heads) + 1 ≡ length tape
-  unfolding recordBytes
-  heads-last =
-      let g = t .versions in
-      let all : length tape ≡ 3 + length (versionRecords g) + (4 * length (t .heads) + 1) =
-      ap length in-heads ∙ simp (length-append, head-bytes-length) (omega arith)
-      in
-      rw (all-first g) (omega arith)

@@ -9,33 +9,11 @@ use Rattle.buffer.proofs.Fields.{zeros-length}
 use Rattle.command.proofs.Limits.{within-true}
 use Rattle.room.specs.Sound.{maxCapacity}
 use Rattle.store.specs.Layout.{headerSize, storeSize}
-use Rattle.tape.proofs.Located.{heads-last}
 use Rattle.resume.specs.Content.{contentIn}
 use Rattle.resume.specs.Rows.{rowsSize}
 use Rattle.resume.proofs.Resumes.{none-left, last-refused, resumed}
 use Rattle.resume.proofs.resuming.resume_ranged.Statement.{statement}
 use Rattle.resume.proofs.resuming.resume_ranged.Tie as tie
-
-mul-from : tie.Need-mul-from
-mul-from c =
-    let known = c .before in
-    let start = known .before in
-    let last = heads-last (start .args .tape .now) (contentIn (start .args .tape .now)) (λ i. known .shared-slice-known .given i .fits) (start .pre .0) in
-    omega arith
-
-add-from : tie.Need-add-from
-add-from c =
-    let known = c .before in
-    let start = known .before in
-    let last = heads-last (start .args .tape .now) (contentIn (start .args .tape .now)) (λ i. known .shared-slice-known .given i .fits) (start .pre .0) in
-    omega arith
-
-sub-from : tie.Need-sub-from
-sub-from c =
-    let known = c .before in
-    let start = known .before in
-    let last = heads-last (start .args .tape .now) (contentIn (start .args .tape .now)) (λ i. known .shared-slice-known .given i .fits) (start .pre .0) in
-    omega arith
 
 slice-aggregate-gives-sound-room : tie.Need-slice-aggregate-gives-sound-room
 slice-aggregate-gives-sound-room c = omega arith
@@ -45,11 +23,8 @@ slice-aggregate-gives-sound-room-2 c = omega arith
 
 gives-sound-room-requires : tie.Need-gives-sound-room-requires
 gives-sound-room-requires c κs =
-    let known = c .before .before .before in
-    let start = known .before in
-    let p = start .pre in
-    let last = heads-last (start .args .tape .now) (contentIn (start .args .tape .now)) (λ i. known .shared-slice-known .given i .fits) (p .0) in
-    (p .0, ((p .1 .1 .0, p .1 .1 .1), ((p .1 .0 .1, omega arith, p .1 .0 .2), (zeros-length rowsSize, (zeros-length headerSize, refl)))))
+    let p = c .before .before .before .before .pre in
+    (p .0, ((p .1 .1 .0, p .1 .1 .1), ((p .1 .0 .1, p .1 .0 .2, p .1 .0 .3), (zeros-length rowsSize, (zeros-length headerSize, refl)))))
 
 mul-last-refusal : tie.Need-mul-last-refusal
 mul-last-refusal c =
@@ -111,9 +86,6 @@ pub resume-ranged-spec : {M : Type 1} → statement M
 resume-ranged-spec =
     tie.close
     (tie.spec
-    mul-from
-    add-from
-    sub-from
     slice-aggregate-gives-sound-room
     slice-aggregate-gives-sound-room-2
     gives-sound-room-requires

@@ -22,23 +22,27 @@ returns-2 c =
     let t = contentIn (a .tape .now) in
     no-capacity t (a .store .now) (capacity-high (t .capacity) (omega arith))
 
-in-range-requires : tie.Need-in-range-requires
-in-range-requires c κs = search needs
+see-tape-requires : tie.Need-see-tape-requires
+see-tape-requires c κs = search needs
 
 returns-3 : tie.Need-returns-3
 returns-3 c =
-    let a = c .before .before .before .before .before .before .args in
+    let found = c .before .before in
+    let a = found .before .before .before .before .before .args in
     let t = contentIn (a .tape .now) in
-    let found = c .before .in-range in
-    out-of-range t (a .store .now) (capacity-in (t .capacity) (omega arith) (omega arith)) (sym (found .ensures) ∙ not-true (found .result) (c .if3 .taken))
+    let seen = found .see-tape in
+    out-of-range t (a .store .now) (capacity-in (t .capacity) (omega arith) (omega arith)) (sym (seen .ensures .0) ∙ not-true (seen .result .ok) (c .if3 .taken))
 
 resume-ranged-requires : tie.Need-resume-ranged-requires
 resume-ranged-requires c κs =
     let passed = c .before in
-    let start = passed .before .before .before .before .before .before in
+    let found = passed .before .before in
+    let start = found .before .before .before .before .before in
     let t = contentIn (start .args .tape .now) in
-    let found = passed .before .in-range in
-    (start .pre .0, (start .pre .1, (capacity-in (t .capacity) (omega arith) (omega arith), sym (found .ensures) ∙ not-false (found .result) (passed .if3 .left))))
+    let seen = found .see-tape in
+    let ok = not-false (seen .result .ok) (passed .if3 .left) in
+    let p = start .pre .1 in
+    (start .pre .0, ((p .0, p .1, seen .ensures .1 ok, p .2), (capacity-in (t .capacity) (omega arith) (omega arith), sym (seen .ensures .0) ∙ ok)))
 
 same-length : tie.Need-same-length
 same-length c = omega arith
@@ -52,7 +56,7 @@ resume-whole-spec =
     (tie.spec
     returns
     returns-2
-    in-range-requires
+    see-tape-requires
     returns-3
     resume-ranged-requires
     same-length
