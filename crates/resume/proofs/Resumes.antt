@@ -35,7 +35,6 @@ unfolding resumedStore
 refused o old n l e = (e, sym (cond-false _ _ _ (ap (λ (k : ℕ). eqb k 0) (sym e) ∙ ne-eqb n 0 (omega arith))))
 
 pub no-tape : (old : List ℕ) → Resumed none old 7 old
-unfolding resumeRefusal
 no-tape old = refused none old 7 (omega arith) refl
 
 -- the first of two refusals, as the code finds it
@@ -54,18 +53,18 @@ none-left false short e = absurd (omega arith)
 
 module _ (t : Content) (old : List ℕ) where
   pub no-capacity : isCapacity (t .capacity) ≡ false → Resumed (some t) old 8 old
-  unfolding resumeRefusal firstRefusal
+  unfolding firstRefusal
   no-capacity a = refused (some t) old 8 (omega arith) (rw a)
 
   module _ (a : isCapacity (t .capacity) ≡ true) where
     pub out-of-range : inRange t ≡ false → Resumed (some t) old 9 old
-    unfolding resumeRefusal firstRefusal
+    unfolding firstRefusal
     out-of-range b = refused (some t) old 9 (omega arith) (rw (a, b))
 
     -- the last two tests, made of a tape in range
     module _ (b : inRange t ≡ true) {sound short : Bool} (c : sound ≡ soundRoom (roomOf t)) (d : short ≡ ltb (length old) (storeSize (t .capacity))) {n : ℕ} (e : n ≡ firstRefusal (10 when not sound ∷ 19 when short ∷ [])) where
       answer : n ≡ resumeRefusal (some t) old
-      unfolding resumeRefusal firstRefusal
+      unfolding firstRefusal
       answer = rw (e, a, b, c, d)
 
       pub last-refused : (n ≡ 0 → ⊥) → Resumed (some t) old n old

@@ -12,7 +12,7 @@ use Rattle.tape.specs.Tape.{Content, contentTests, roomOf}
 use Rattle.resume.specs.Content.{told}
 
 -- "7 tape isn't such a sequence of whole records", 8 to 10, "19 lent output or store buffer too short."
-unfoldable pub resumeRefusal : Option Content → List ℕ → ℕ
+abbrev pub resumeRefusal : Option Content → List ℕ → ℕ
 resumeRefusal none store = 7
 resumeRefusal (some t) store =
     firstRefusal (contentTests t ++ (19 when ltb (length store) (storeSize (t .capacity)) ∷ []))

@@ -10,7 +10,7 @@ use Rattle.unit.specs.Calls.{replied, resumed, resumeOutcome}
 
 resumed-told : (o : Option Content) (old new : List ℕ) (n : ℕ) → n ≡ resumeRefusal o old → new ≡ resumedStore o old
     → (replied n 0 ≡ resumed o old .reply) × (new ≡ resumed o old .buffer)
-unfolding resumed resumeRefusal resumedStore
+unfolding resumed resumedStore
 resumed-told none old new n e f = (rw e, f)
 resumed-told (some t) old new n e f = (rw e, f)
 

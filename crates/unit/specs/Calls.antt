@@ -19,7 +19,8 @@ use Rattle.room.specs.Sound.{isCapacity}
 use Rattle.room.specs.Boards.{boardOf}
 use Rattle.room.specs.Step.{absent, stepRefusal, step}
 use Rattle.store.specs.Layout.{storeSize, encode, roomIn, holdsStore}
-use Rattle.tape.specs.Tape.{Content, contentOf, contentTests, roomOf, tapeOf}
+use Rattle.tape.specs.Tape.{Content, contentOf, roomOf, tapeOf}
+use Rattle.resume.specs.Resumed.{resumeRefusal}
 use Rattle.unit.specs.declared.Reply.{Reply}
 
 pub record Outcome : Type 0 where
@@ -44,13 +45,12 @@ abbrev pub holdsNoStore : List ℕ → Bool
 holdsNoStore store = not (holdsStore store)
 
 -- "Opening makes version 0 with console 0 on it."
+abbrev pub openRefusal : ℕ → List ℕ → ℕ
+openRefusal capacity store =
+    firstRefusal (8 when not (isCapacity capacity) ∷ 19 when tooShort store (storeSize capacity) ∷ [])
+
 unfoldable pub openOutcome : ℕ → List ℕ → Outcome
-openOutcome capacity store =
-    written
-    (firstRefusal (8 when not (isCapacity capacity) ∷ 19 when tooShort store (storeSize capacity) ∷ []))
-    0
-    (encode (fresh capacity))
-    store
+openOutcome capacity store = written (openRefusal capacity store) 0 (encode (fresh capacity)) store
 
 -- what was decoded, on a store
 unfoldable pub stepOutcome : List ℕ → Decoded → Outcome
@@ -76,29 +76,28 @@ pauseOutcome store output =
 
 -- resume: the store of the room that the tape gives
 unfoldable pub resumed : Option Content → List ℕ → Outcome
-resumed none store = written 7 0 [] store
-resumed (some t) store =
-    written
-    (firstRefusal (contentTests t ++ (19 when tooShort store (storeSize (t .capacity)) ∷ [])))
-    0
-    (encode (roomOf t))
-    store
+resumed none store = written (resumeRefusal none store) 0 [] store
+resumed (some t) store = written (resumeRefusal (some t) store) 0 (encode (roomOf t)) store
 
 unfoldable pub resumeOutcome : List ℕ → List ℕ → Outcome
 resumeOutcome tape store = resumed (contentOf tape) store
 
+-- why a store can't be asked after a console
+abbrev pub consoleTests : List ℕ → ℕ → List (ℕ × Bool)
+consoleTests store console =
+    3 when not (isConsole console)
+    ∷ 11 when holdsNoStore store
+    ∷ 12 when absent (roomIn store) console
+    ∷ []
+
 -- "a console's board copied out"
+abbrev pub boardRefusal : List ℕ → ℕ → List ℕ → ℕ
+boardRefusal store console output = firstRefusal (consoleTests store console ++ (19 when tooShort output boardSize ∷ []))
+
 unfoldable pub boardOutcome : List ℕ → ℕ → List ℕ → Outcome
 boardOutcome store console output =
     let room : Room = roomIn store in
-    written
-    (firstRefusal
-    (3 when not (isConsole console)
-    ∷ 11 when holdsNoStore store
-    ∷ 12 when absent room console
-    ∷ 19 when tooShort output boardSize
-    ∷ []))
-    boardSize
+    written (boardRefusal store console output) boardSize
     (boardOf (room .versions) (head room console))
     output
 
@@ -107,19 +106,22 @@ unfoldable pub heardReply : List ℕ → ℕ → Reply
 heardReply store console =
     let room : Room = roomIn store in
     replied
-    (firstRefusal (3 when not (isConsole console) ∷ 11 when holdsNoStore store ∷ 12 when absent room console ∷ []))
+    (firstRefusal (consoleTests store console))
     (heardCount room console)
 
 -- "the common version of two consoles (of a console with itself: its head)"
+abbrev pub pairRefusal : List ℕ → ℕ → ℕ → ℕ
+pairRefusal store first second =
+    firstRefusal
+    (3 when (not (isConsole first) || not (isConsole second))
+    ∷ 11 when holdsNoStore store
+    ∷ 12 when (absent (roomIn store) first || absent (roomIn store) second)
+    ∷ [])
+
 unfoldable pub commonReply : List ℕ → ℕ → ℕ → Reply
 commonReply store first second =
     let room : Room = roomIn store in
-    replied
-    (firstRefusal
-    (3 when (not (isConsole first) || not (isConsole second))
-    ∷ 11 when holdsNoStore store
-    ∷ 12 when (absent room first || absent room second)
-    ∷ []))
+    replied (pairRefusal store first second)
     (common room first second)
 
 -- A call on a store: its kind, its numbers, and what is lent to it beside the store.

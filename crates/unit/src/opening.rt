@@ -7,19 +7,14 @@ use store::places::BLOCK;
 use store::places::HEADER;
 use update::open::open;
 ghost use mathlib.Core.Path.{_≡_};
-ghost use mathlib.Core.Bool.{not};
-ghost use mathlib.Core.List.{[], _∷_};
-ghost use Rattle.command.specs.Refusal.{_when_, firstRefusal};
-ghost use Rattle.room.specs.Sound.{isCapacity};
-ghost use Rattle.store.specs.Layout.{storeSize};
-ghost use Rattle.unit.specs.Calls.{tooShort, openOutcome};
+ghost use Rattle.unit.specs.Calls.{openRefusal, openOutcome};
 
 // The most versions that a store can hold.
 const MAX_CAPACITY: u32 = 1024;
 
 // Why a room of this capacity can't be opened in this buffer, or 0.
 fn opening_refusal(capacity: u32, store: &[u8]) -> u32
-    ensures { λ r. ⌜ r ≡ firstRefusal (8 when not (isCapacity capacity) ∷ 19 when tooShort (now (store .entry)) (storeSize capacity) ∷ []) ⌝ }
+    ensures { λ r. ⌜ r ≡ openRefusal capacity (now (store .entry)) ⌝ }
 {
     if capacity < 1 {
         return 8;

@@ -13,25 +13,14 @@ use query::is_present;
 use store::judge::holds;
 use store::places::BOARD;
 ghost use mathlib.Core.Path.{_≡_};
-ghost use mathlib.Core.Bool.{not, _||_};
-ghost use mathlib.Core.List.{[], _∷_};
-ghost use Rattle.board.specs.Board.{boardSize};
-ghost use Rattle.command.specs.Refusal.{_when_, firstRefusal};
-ghost use Rattle.command.specs.Code.{isConsole};
-ghost use Rattle.room.specs.Step.{absent};
-ghost use Rattle.store.specs.Layout.{roomIn};
-ghost use Rattle.unit.specs.Calls.{tooShort, holdsNoStore, boardOutcome, heardReply, commonReply};
+ghost use Rattle.unit.specs.Calls.{boardRefusal, boardOutcome, heardReply, pairRefusal, commonReply};
 
 // The number of consoles.
 const CONSOLES: u32 = 16;
 
 // Why two consoles of a store can't be asked after, or 0.
 fn pair_refusal(store: &[u8], first: u32, second: u32) -> u32
-    ensures { λ r. ⌜ r ≡ firstRefusal
-        (3 when (not (isConsole first) || not (isConsole second))
-        ∷ 11 when holdsNoStore (now (store .entry))
-        ∷ 12 when (absent (roomIn (now (store .entry))) first || absent (roomIn (now (store .entry))) second)
-        ∷ []) ⌝ }
+    ensures { λ r. ⌜ r ≡ pairRefusal (now (store .entry)) first second ⌝ }
 {
     if CONSOLES <= first {
         return 3;
@@ -53,12 +42,7 @@ fn pair_refusal(store: &[u8], first: u32, second: u32) -> u32
 
 // Why a console's board can't be copied out into this buffer, or 0.
 fn board_refusal(store: &[u8], console: u32, board: &[u8]) -> u32
-    ensures { λ r. ⌜ r ≡ firstRefusal
-        (3 when not (isConsole console)
-        ∷ 11 when holdsNoStore (now (store .entry))
-        ∷ 12 when absent (roomIn (now (store .entry))) console
-        ∷ 19 when tooShort (now (board .entry)) boardSize
-        ∷ []) ⌝ }
+    ensures { λ r. ⌜ r ≡ boardRefusal (now (store .entry)) console (now (board .entry)) ⌝ }
 {
     let refusal = pair_refusal(store, console, console);
     if refusal != 0 {
