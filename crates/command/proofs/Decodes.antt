@@ -15,8 +15,7 @@ use Rattle.command.specs.declared.Command.the-variants.{Fork, Entry, Mer
 use Rattle.command.specs.declared.Decoded.the-variants.{Whole, Refused}
 use Rattle.command.specs.Refusal.{firstRefusal}
 use Rattle.command.specs.Code.{shapeOf, lengthOf, numberAt, operandsOf, isEntryCode}
-use Rattle.command.specs.Decode.{codeIn, isCommandCode, operandsIn, commandRefusal, commandOf, decode}
-use Rattle.command.specs.Decoding.{numberTests}
+use Rattle.command.specs.Decode.{codeIn, isCommandCode, operandsIn, numberTests, commandRefusal, commandOf, decode}
 use Rattle.command.proofs.Refusals.{given-here, given-later}
 
 -- the number at a place, by its width

@@ -24,8 +24,8 @@ use Rattle.command.specs.declared.Command.the-variants.{Fork, Entry, Mer
 use Rattle.command.specs.declared.Decoded.the-variants.{Whole}
 use Rattle.command.specs.Refusal.{firstRefusal}
 use Rattle.command.specs.Code.{consoleCount, shapeOf, lengthOf, numberAt, operandsOf, isEntryCode, isStrip, isOperand}
-use Rattle.command.specs.Decode.{codeIn, isCommandCode, operandsIn, commandRefusal, commandOf, decode, operandBytes, commandBytes}
-use Rattle.command.specs.Decoding.{numberTests, TwoConsoles, InRange}
+use Rattle.command.specs.Decode.{codeIn, isCommandCode, operandsIn, numberTests, commandRefusal, commandOf, decode, operandBytes, commandBytes}
+use Rattle.command.specs.Decoding.{TwoConsoles, InRange}
 use Rattle.command.proofs.Refusals.{none-applies}
 use Rattle.command.proofs.Limits.{within-true, within-i, within-false, operand-below}
 use Rattle.command.proofs.Carried.{operand-none}

@@ -24,21 +24,22 @@ isCommandCode code = within 0x01 0x0A code
 abbrev pub operandsIn : List ℕ → Operands
 operandsIn s = operandsOf (shapeOf (codeIn s)) s
 
--- "1 empty command, or code outside 01 to 0A. 2 length not the code's. 3 console above 15. 4 strip above 31. 5 level above 600,
--- heading above 360, mark above 15. 6 the same console twice in 01, 09, 0A." Codes 02 to 08 name a console and a strip,
--- 02 to 05 an operand besides, the others two consoles.
+-- "3 console above 15. 4 strip above 31. 5 level above 600, heading above 360, mark above 15. 6 the same console twice in 01, 09, 0A."
+-- Codes 02 to 08 name a console and a strip, 02 to 05 an operand besides, the others two consoles.
+abbrev pub numberTests : ℕ → Operands → List (ℕ × Bool)
+numberTests code o =
+    3 when (not (isConsole (o .first)) || (not (isEntryCode code) && not (isConsole (o .second))))
+    ∷ 4 when (isEntryCode code && not (isStrip (o .second)))
+    ∷ 5 when (isEntryCode code && not (isOperand code (o .third)))
+    ∷ 6 when (not (isEntryCode code) && eqb (o .first) (o .second))
+    ∷ []
+
+-- "1 empty command, or code outside 01 to 0A. 2 length not the code's."
 unfoldable pub commandRefusal : List ℕ → ℕ
 commandRefusal s =
     let code : ℕ = codeIn s in
     let o : Operands = operandsIn s in
-    firstRefusal
-    (1 when not (isCommandCode code)
-    ∷ 2 when not (eqb (length s) (lengthOf (shapeOf code)))
-    ∷ 3 when (not (isConsole (o .first)) || (not (isEntryCode code) && not (isConsole (o .second))))
-    ∷ 4 when (isEntryCode code && not (isStrip (o .second)))
-    ∷ 5 when (isEntryCode code && not (isOperand code (o .third)))
-    ∷ 6 when (not (isEntryCode code) && eqb (o .first) (o .second))
-    ∷ [])
+    firstRefusal (1 when not (isCommandCode code) ∷ 2 when not (eqb (length s) (lengthOf (shapeOf code))) ∷ numberTests code o)
 
 -- the command of a code and its operands
 unfoldable pub commandOf : ℕ → Operands → Command

@@ -1,31 +1,18 @@
--- What the contracts of the decoder's parts and of its callers cite: the bound on widths, the tests of the numbers that a command carries, and
--- what is true of the numbers of a command that passed them.
+-- What the contracts of the decoder's parts and of its callers cite: the bound on widths, and what is true of the numbers of a command that
+-- passed their tests.
 use Prim.Native.Nat.{ℕ, _<_, _≤_}
 use mathlib.Core.Path.{_≡_}
-use mathlib.Core.Bool.{Bool, true, not, _&&_, _||_}
-use mathlib.Core.List.{List, [], _∷_}
-use lib.Dec.{eqb}
+use mathlib.Core.Bool.{true, _&&_}
 use Rattle.command.specs.declared.Shape.{Shape}
 use Rattle.command.specs.declared.Shape.the-variants.{Known, Unknown}
-use Rattle.command.specs.declared.Operands.{Operands}
 use Rattle.command.specs.declared.Command.{Command}
 use Rattle.command.specs.declared.Command.the-variants.{Fork, Entry, Merge, FastForward}
-use Rattle.command.specs.Refusal.{_when_}
-use Rattle.command.specs.Code.{consoleCount, isEntryCode, isConsole, isStrip, isOperand}
+use Rattle.command.specs.Code.{consoleCount, isEntryCode, isStrip, isOperand}
 
 -- no operand is wider than two bytes
 abbrev pub narrow : Shape → Type 0
 narrow (Known a b c d) = (a ≤ 2) × (b ≤ 2) × (c ≤ 2) × (d ≤ 2)
 narrow Unknown = Unit {0}
-
--- the refusals 3 to 6 of a command of this code and these operands
-abbrev pub numberTests : ℕ → Operands → List (ℕ × Bool)
-numberTests code o =
-    3 when (not (isConsole (o .first)) || (not (isEntryCode code) && not (isConsole (o .second))))
-    ∷ 4 when (isEntryCode code && not (isStrip (o .second)))
-    ∷ 5 when (isEntryCode code && not (isOperand code (o .third)))
-    ∷ 6 when (not (isEntryCode code) && eqb (o .first) (o .second))
-    ∷ []
 
 -- two different consoles
 abbrev pub TwoConsoles : ℕ → ℕ → Type 0

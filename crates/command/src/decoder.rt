@@ -19,8 +19,8 @@ ghost use lib.Dec.{eqb};
 ghost use lib.ListN.{length};
 ghost use Rattle.command.specs.Refusal.{firstRefusal};
 ghost use Rattle.command.specs.Code.{shapeOf, lengthOf, numberAt, operandsOf, isEntryCode, isConsole, isStrip, isOperand};
-ghost use Rattle.command.specs.Decoding.{narrow, numberTests};
-ghost use Rattle.command.specs.Decode.{commandOf, decode, refusalOf};
+ghost use Rattle.command.specs.Decoding.{narrow};
+ghost use Rattle.command.specs.Decode.{numberTests, commandOf, decode, refusalOf};
 
 // A shape, by its widths in their order.
 fn widths(first: usize, second: usize, third: usize, fourth: usize) -> Shape
