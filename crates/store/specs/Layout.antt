@@ -113,12 +113,17 @@ header r =
     ++ zeros (headerSize - commonsEnd)
 
 -- The node of a version: 09 stands for the code of a merge, 0 for that of version 0; what a version does not have is 0.
+abbrev pub entryNodeBytes : ℕ → ℕ → ℕ → ℕ → List ℕ
+entryNodeBytes p code strip operand = byte code ∷ byte strip ∷ word operand ++ word p ++ zeros (nodeSize - 6)
+
+-- with l, the base of the merge of q into p
+abbrev pub mergeNodeBytes : ℕ → ℕ → ℕ → List ℕ
+mergeNodeBytes p q l = 0x09 ∷ 0 ∷ 0 ∷ 0 ∷ word p ++ word q ++ word l ++ zeros (nodeSize - 10)
+
 unfoldable pub nodeBytes : Graph → Option Node → List ℕ
 nodeBytes g none = zeros nodeSize
-nodeBytes g (some (entry p code strip operand)) =
-    byte code ∷ byte strip ∷ word operand ++ word p ++ zeros (nodeSize - 6)
-nodeBytes g (some (merge p q)) =
-    0x09 ∷ 0 ∷ 0 ∷ 0 ∷ word p ++ word q ++ word (baseOf g p q) ++ zeros (nodeSize - 10)
+nodeBytes g (some (entry p code strip operand)) = entryNodeBytes p code strip operand
+nodeBytes g (some (merge p q)) = mergeNodeBytes p q (baseOf g p q)
 
 -- the block of version v of a graph
 unfoldable pub block : Graph → ℕ → List ℕ

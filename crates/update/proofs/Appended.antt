@@ -13,28 +13,18 @@ use Rattle.buffer.proofs.Bytewise.{bytewise-length}
 use Rattle.buffer.proofs.Patches.{with-length, with-part, with-next}
 use Rattle.board.specs.Board.{boardSize, enter, mergeBoard}
 use Rattle.board.proofs.Length.{enter-length, mergeBoard-length}
-use Rattle.store.specs.Layout.{nodeSize, rowSize, blockSize, entriesAt, blockAt, rowAt, boardAt}
+use Rattle.store.specs.Layout.{nodeSize, rowSize, blockSize, entriesAt, blockAt, rowAt, boardAt, entryNodeBytes, mergeNodeBytes}
 use Rattle.store.specs.Check.{rowPart, boardPart, entriesPart}
-use Rattle.update.specs.Append.{entryNote, mergeNote, entryBlock, mergeBlock, withEntry, withMerge}
+use Rattle.update.specs.Append.{entryBlock, mergeBlock, withEntry, withMerge}
 
 -- the nodes, from their first byte on
 pub entry-noted : (note z a b c d : List ℕ) (p code strip operand : ℕ) → length note ≡ nodeSize → z ≡ zeros (length note)
-    → a ≡ set z 0 (byte code) → b ≡ set a 1 (byte strip) → c ≡ putWord b 2 operand → d ≡ putWord c 4 p → d ≡ entryNote p code strip operand
-unfolding entryNote
+    → a ≡ set z 0 (byte code) → b ≡ set a 1 (byte strip) → c ≡ putWord b 2 operand → d ≡ putWord c 4 p → d ≡ entryNodeBytes p code strip operand
 entry-noted note z a b c d p code strip operand l ez ea eb ec ed = rw (ed, ec, eb, ea, ez, l)
 
 pub merge-noted : (note z a b c d : List ℕ) (p q l : ℕ) → length note ≡ nodeSize → z ≡ zeros (length note)
-    → a ≡ set z 0 (byte 9) → b ≡ putWord a 4 p → c ≡ putWord b 6 q → d ≡ putWord c 8 l → d ≡ mergeNote p q l
-unfolding mergeNote
+    → a ≡ set z 0 (byte 9) → b ≡ putWord a 4 p → c ≡ putWord b 6 q → d ≡ putWord c 8 l → d ≡ mergeNodeBytes p q l
 merge-noted note z a b c d p q l long ez ea eb ec ed = rw (ed, ec, eb, ea, ez, long)
-
-pub entryNote-length : (p code strip operand : ℕ) → length (entryNote p code strip operand) ≡ nodeSize
-unfolding entryNote
-entryNote-length p code strip operand = refl
-
-pub mergeNote-length : (p q l : ℕ) → length (mergeNote p q l) ≡ nodeSize
-unfolding mergeNote
-mergeNote-length p q l = refl
 
 -- rows and boards keep their lengths
 pub member-keeps : (n v : ℕ) (x : List ℕ) → length x ≡ n → length (withMember x v) ≡ n
@@ -96,15 +86,15 @@ module _ (s : List ℕ) (n : ℕ) (fits : blockAt (suc n) ≤ length s) where
     pub entryBlock-length : length (entryBlock s n p code strip operand) ≡ blockSize
     unfolding entryBlock
     entryBlock-length =
-        block-long s (entryNote p code strip operand) entryLine entryBoard n fits (entryNote-length p code strip operand) entryLine-length entryBoard-length
+        block-long s (entryNodeBytes p code strip operand) entryLine entryBoard n fits refl entryLine-length entryBoard-length
 
-    pub entry-appended : (a b c d : List ℕ) → a ≡ withPart s (blockAt n) (entryNote p code strip operand)
+    pub entry-appended : (a b c d : List ℕ) → a ≡ withPart s (blockAt n) (entryNodeBytes p code strip operand)
         → b ≡ withPart a (rowAt n) (withMember (rowPart a p) n) → c ≡ withPart b (boardAt n) (enter code strip operand (boardPart b p))
         → d ≡ withPart c entriesAt (withMember (entriesPart c) n) → d ≡ withEntry s n p code strip operand
     unfolding withEntry entryBlock
     entry-appended a b c d ea eb ec ed =
-        let note : List ℕ = entryNote p code strip operand in
-        let ln = entryNote-length p code strip operand in
+        let note : List ℕ = entryNodeBytes p code strip operand in
+        let ln : length note ≡ nodeSize = refl in
         let ll = entryLine-length in
         let one : rowPart a p ≡ rowPart s p = rw ea (row-kept s note n (blockAt n) p lower (omega arith) (omega arith)) in
         let two : b ≡ withPart a (rowAt n) entryLine = rw one at eb in
@@ -137,15 +127,15 @@ module _ (s : List ℕ) (n : ℕ) (fits : blockAt (suc n) ≤ length s) where
 
     pub mergeBlock-length : length (mergeBlock s n p q l) ≡ blockSize
     unfolding mergeBlock
-    mergeBlock-length = block-long s (mergeNote p q l) mergeLine mergedBoard n fits (mergeNote-length p q l) mergeLine-length mergedBoard-length
+    mergeBlock-length = block-long s (mergeNodeBytes p q l) mergeLine mergedBoard n fits refl mergeLine-length mergedBoard-length
 
-    pub merge-appended : (a b c : List ℕ) → a ≡ withPart s (blockAt n) (mergeNote p q l)
+    pub merge-appended : (a b c : List ℕ) → a ≡ withPart s (blockAt n) (mergeNodeBytes p q l)
         → b ≡ withPart a (rowAt n) (withMember (union (rowPart a p) (rowPart a q)) n)
         → c ≡ withPart b (boardAt n) (mergeBoard (boardPart b l) (boardPart b p) (boardPart b q)) → c ≡ withMerge s n p q l
     unfolding withMerge mergeBlock
     merge-appended a b c ea eb ec =
-        let note : List ℕ = mergeNote p q l in
-        let ln = mergeNote-length p q l in
+        let note : List ℕ = mergeNodeBytes p q l in
+        let ln : length note ≡ nodeSize = refl in
         let ll = mergeLine-length in
         let row : (v : ℕ) → v < n → rowPart a v ≡ rowPart s v =
         λ v i. rw ea (row-kept s note n (blockAt n) v i (omega arith) (omega arith)) in

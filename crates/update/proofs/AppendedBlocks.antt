@@ -31,7 +31,7 @@ use Rattle.store.proofs.Blocks.{block-length, block-row, block-board}
 use Rattle.store.proofs.Diagonal.{meetNumber-below}
 use Rattle.store.proofs.Lineage.{lineage, entry-lineage, merge-lineage}
 use Rattle.store.proofs.Shown.{Shown, made, shown-old, shown-new, no-entry}
-use Rattle.update.specs.Append.{entryNote, mergeNote, entryBlock, mergeBlock, withEntry, withMerge}
+use Rattle.update.specs.Append.{entryBlock, mergeBlock, withEntry, withMerge}
 use Rattle.update.proofs.Appended.{member-keeps, entryBlock-length, mergeBlock-length}
 
 -- the blocks of a graph and the row of its entries stand in the bytes
@@ -105,7 +105,7 @@ module _ (s : List ℕ) (g : Graph) (h : Standing s g) (lower : everyVersion par
   -- an entry
   module _ (p code strip operand : ℕ) (parent : p < versionCount g) where
     pub entry-block : entryBlock s (versionCount g) p code strip operand ≡ block (entry p code strip operand ∷ g) (versionCount g)
-    unfolding entryBlock entryNote nodeBytes boardMade
+    unfolding entryBlock nodeBytes boardMade
     entry-block =
         rw (row-shown p parent, board-shown p parent, entry-lineage g p n small)
         (sym (block-new (entry p code strip operand) g (lt-ltb p n parent)))
@@ -157,7 +157,7 @@ module _ (s : List ℕ) (g : Graph) (h : Standing s g) (lower : everyVersion par
     third = rw base (meetNumber-below g p q)
 
     pub merge-block : mergeBlock s (versionCount g) p q l ≡ block (merge p q ∷ g) (versionCount g)
-    unfolding mergeBlock mergeNote nodeBytes boardMade
+    unfolding mergeBlock nodeBytes boardMade
     merge-block =
         rw (row-shown p first, row-shown q second, board-shown l third, board-shown p first, board-shown q second, merge-lineage g p q n small, base)
         (sym (block-new (merge p q) g (and-i _ _ (lt-ltb p n first) (lt-ltb q n second))))

@@ -24,9 +24,9 @@ ghost use lib.ListN.{length, set};
 ghost use Rattle.buffer.specs.Field.{byte, withPart};
 ghost use Rattle.buffer.specs.Row.{withMember, union};
 ghost use Rattle.board.specs.Board.{stripCount, enter, mergeBoard};
-ghost use Rattle.store.specs.Layout.{headerSize, nodeSize, entriesAt, blockAt, rowAt, boardAt};
+ghost use Rattle.store.specs.Layout.{headerSize, nodeSize, entriesAt, blockAt, rowAt, boardAt, entryNodeBytes, mergeNodeBytes};
 ghost use Rattle.store.specs.Check.{rowPart, boardPart, entriesPart};
-ghost use Rattle.update.specs.Append.{entryNote, mergeNote, withEntry, withMerge};
+ghost use Rattle.update.specs.Append.{withEntry, withMerge};
 
 // The place of the block of a version.
 fn block_at(v: usize) -> usize
@@ -63,7 +63,7 @@ fn put_byte(s: &mut [u8], at: usize, x: usize)
 // Writes the node of an entry, all of its bytes.
 fn write_entry(note: &mut [u8], p: usize, code: usize, strip: usize, operand: usize)
     requires { ⌜ length (now note) ≡ nodeSize ⌝ }
-    ensures { λ _. ⌜ now (note .exit) ≡ entryNote p code strip operand ⌝ }
+    ensures { λ _. ⌜ now (note .exit) ≡ entryNodeBytes p code strip operand ⌝ }
 {
     clear(note);
     put_byte(note, 0, code);
@@ -75,7 +75,7 @@ fn write_entry(note: &mut [u8], p: usize, code: usize, strip: usize, operand: us
 // Writes the node of a merge, all of its bytes.
 fn write_merge(note: &mut [u8], p: usize, q: usize, l: usize)
     requires { ⌜ length (now note) ≡ nodeSize ⌝ }
-    ensures { λ _. ⌜ now (note .exit) ≡ mergeNote p q l ⌝ }
+    ensures { λ _. ⌜ now (note .exit) ≡ mergeNodeBytes p q l ⌝ }
 {
     clear(note);
     put_byte(note, 0, 9);
@@ -87,7 +87,7 @@ fn write_merge(note: &mut [u8], p: usize, q: usize, l: usize)
 // Puts the node of an entry into the block of version n.
 fn put_entry_note(s: &mut [u8], n: usize, p: usize, code: usize, strip: usize, operand: usize)
     requires { ⌜ (n < 1024) × (blockAt (suc n) ≤ length (now s)) ⌝ }
-    ensures { λ _. ⌜ now (s .exit) ≡ withPart (now (s .entry)) (blockAt n) (entryNote p code strip operand) ⌝ }
+    ensures { λ _. ⌜ now (s .exit) ≡ withPart (now (s .entry)) (blockAt n) (entryNodeBytes p code strip operand) ⌝ }
 {
     let at = block_at(n);
     let end = at + NODE;
@@ -97,7 +97,7 @@ fn put_entry_note(s: &mut [u8], n: usize, p: usize, code: usize, strip: usize, o
 // Puts the node of a merge into the block of version n.
 fn put_merge_note(s: &mut [u8], n: usize, p: usize, q: usize, l: usize)
     requires { ⌜ (n < 1024) × (blockAt (suc n) ≤ length (now s)) ⌝ }
-    ensures { λ _. ⌜ now (s .exit) ≡ withPart (now (s .entry)) (blockAt n) (mergeNote p q l) ⌝ }
+    ensures { λ _. ⌜ now (s .exit) ≡ withPart (now (s .entry)) (blockAt n) (mergeNodeBytes p q l) ⌝ }
 {
     let at = block_at(n);
     let end = at + NODE;

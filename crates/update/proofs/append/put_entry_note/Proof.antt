@@ -1,11 +1,10 @@
 -- `update::append::put_entry_note` meets its contract.
 -- Assumes nothing.
+use mathlib.Core.Path.{refl}
 use native.Mathlib.Omega.{arith}
 use denote.Ref.{now}
-use Rattle.store.specs.Layout.{nodeSize}
-use Rattle.update.specs.Append.{entryNote}
+use Rattle.store.specs.Layout.{nodeSize, entryNodeBytes}
 use Rattle.buffer.proofs.Patches.{put-lent}
-use Rattle.update.proofs.Appended.{entryNote-length}
 use Rattle.update.proofs.append.put_entry_note.Statement.{statement}
 use Rattle.update.proofs.append.put_entry_note.Tie as tie
 
@@ -34,9 +33,8 @@ returns : tie.Need-returns
 returns c =
     let start = c .before .before .before .before .before .before in
     let note = start .args in
-    put-lent (now (note .s)) _ (entryNote (note .p) (note .code) (note .strip) (note .operand)) _ _ nodeSize
-    (c .before .before .before .before .block-at .ensures) (c .before .before .write-entry .ensures)
-    (entryNote-length (note .p) (note .code) (note .strip) (note .operand))
+    put-lent (now (note .s)) _ (entryNodeBytes (note .p) (note .code) (note .strip) (note .operand)) _ _ nodeSize
+    (c .before .before .before .before .block-at .ensures) (c .before .before .write-entry .ensures) refl
 
 pub put-entry-note-spec : {M : Type 1} → statement M
 put-entry-note-spec =

@@ -1,11 +1,10 @@
 -- `update::append::put_merge_note` meets its contract.
 -- Assumes nothing.
+use mathlib.Core.Path.{refl}
 use native.Mathlib.Omega.{arith}
 use denote.Ref.{now}
-use Rattle.store.specs.Layout.{nodeSize}
-use Rattle.update.specs.Append.{mergeNote}
+use Rattle.store.specs.Layout.{nodeSize, mergeNodeBytes}
 use Rattle.buffer.proofs.Patches.{put-lent}
-use Rattle.update.proofs.Appended.{mergeNote-length}
 use Rattle.update.proofs.append.put_merge_note.Statement.{statement}
 use Rattle.update.proofs.append.put_merge_note.Tie as tie
 
@@ -34,9 +33,8 @@ returns : tie.Need-returns
 returns c =
     let start = c .before .before .before .before .before .before in
     let note = start .args in
-    put-lent (now (note .s)) _ (mergeNote (note .p) (note .q) (note .l)) _ _ nodeSize
-    (c .before .before .before .before .block-at .ensures) (c .before .before .write-merge .ensures)
-    (mergeNote-length (note .p) (note .q) (note .l))
+    put-lent (now (note .s)) _ (mergeNodeBytes (note .p) (note .q) (note .l)) _ _ nodeSize
+    (c .before .before .before .before .block-at .ensures) (c .before .before .write-merge .ensures) refl
 
 pub put-merge-note-spec : {M : Type 1} → statement M
 put-merge-note-spec =
