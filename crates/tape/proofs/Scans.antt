@@ -7,6 +7,7 @@ use mathlib.Core.Bool.{Bool, true, false, cond}
 use mathlib.Core.List.{List, []}
 use mathlib.Core.Option.{none, some}
 use native.Mathlib.Omega.{arith}
+use native.Mathlib.Numerals.{add-one}
 use lib.Dec.{eqb, ltb}
 use lib.ListN.{length, getD, drop, length-drop, drop-of-length-le}
 use lib.Seq.{drop-drop}
@@ -17,6 +18,8 @@ use Rattle.command.specs.Code.{shapeOf, lengthOf}
 use Rattle.graph.specs.Graph.{Node, entry, merge}
 use Rattle.tape.specs.declared.Record.{Record}
 use Rattle.tape.specs.declared.Record.the-variants.{Start, Entry, Merge, Head, End, Broken}
+use Rattle.tape.specs.declared.scan.Kind.{Kind}
+use Rattle.tape.specs.declared.scan.Kind.the-variants as kind-is
 use Rattle.tape.specs.declared.scan.Scanned.{Scanned}
 use Rattle.tape.specs.declared.scan.Scanned.the-variants as scanned-is
 use Rattle.tape.specs.Record.{recordIn, recordLength, recordFrom}
@@ -51,28 +54,39 @@ past t there =
     nonzero : (n : ℕ) → (n ≡ 0 → ⊥) → 0 < n
     nonzero n h = omega arith
 
+-- what the scan does not refuse
+abbrev pub Placed : Kind → Type 0
+Placed kind-is.Misplaced = ⊥
+Placed kind-is.Version = Unit {0}
+Placed kind-is.Head = Unit {0}
+Placed kind-is.End = Unit {0}
+
 -- a record that the scan does not refuse is there
-there : (x : Record) (heads : ℕ) → (kindOf x heads ≡ 0 → ⊥) → x ≡ Broken → ⊥
+there : (x : Record) (heads : ℕ) → Placed (kindOf x heads) → x ≡ Broken → ⊥
 unfolding kindOf
-there x heads h e = h (rw e)
+there x heads h e = rw e at h
 
 -- one step of the scan, by what the record at the front is to it
-module _ (k capacity versions heads : ℕ) (rest : List ℕ) (kind : ℕ) (e : kind ≡ kindOf (recordIn rest) heads) where
-  scan-refused : kind ≡ 0 → scanOn (suc k) capacity versions heads rest ≡ scanned-is.Broken
+module _ (k capacity versions heads : ℕ) (rest : List ℕ) where
+  scan-refused : kind-is.Misplaced ≡ kindOf (recordIn rest) heads → scanOn (suc k) capacity versions heads rest ≡ scanned-is.Broken
   unfolding scanOn
-  scan-refused z = rw (← e, z)
+  scan-refused e = rw (← e, scanOn)
 
-  scan-ended : kind ≡ 3
+  scan-version : kind-is.Version ≡ kindOf (recordIn rest) heads
+      → scanOn (suc k) capacity versions heads rest ≡ scanOn k capacity (suc versions) heads (drop (recordLength rest) rest)
+  unfolding scanOn
+  scan-version e = rw (← e, scanOn)
+
+  scan-head : kind-is.Head ≡ kindOf (recordIn rest) heads
+      → scanOn (suc k) capacity versions heads rest ≡ scanOn k capacity versions (suc heads) (drop (recordLength rest) rest)
+  unfolding scanOn
+  scan-head e = rw (← e, scanOn)
+
+  scan-ended : kind-is.End ≡ kindOf (recordIn rest) heads
       → scanOn (suc k) capacity versions heads rest
       ≡ cond (eqb (length rest) (recordLength rest)) (scanned-is.Whole capacity versions heads) scanned-is.Broken
   unfolding scanOn
-  scan-ended z = rw (← e, z)
-
-  scan-more : (kind ≡ 0 → ⊥) → (kind ≡ 3 → ⊥)
-      → scanOn (suc k) capacity versions heads rest
-      ≡ scanOn k capacity (versions + (2 - kind)) (heads + (kind - 1)) (drop (recordLength rest) rest)
-  unfolding scanOn
-  scan-more z f = rw (← e, ne-eqb kind 0 z, ne-eqb kind 3 f)
+  scan-ended e = rw (← e, scanOn)
 
 -- at the end of the tape there is no record
 scan-nothing : (k capacity versions heads : ℕ) → scanOn k capacity versions heads [] ≡ scanned-is.Broken
@@ -96,12 +110,12 @@ module _ (k : ℕ) (later : Scans k) (stage : Stage) (t : Content) (rest : List 
   abbrev Agree : Type 0
   Agree = scannedOf (readOn (suc k) stage t rest) ≡ scanFrom (suc k) t rest
 
-  refuses : afterRecord stage t (recordIn rest) ≡ refuse → 0 ≡ kindOf (recordIn rest) (length (t .heads)) → Agree
-  refuses a e = ap scannedOf (read-step k stage t rest refuse a) ∙ sym (scan-refused k _ _ _ rest 0 e refl)
+  refuses : afterRecord stage t (recordIn rest) ≡ refuse → kind-is.Misplaced ≡ kindOf (recordIn rest) (length (t .heads)) → Agree
+  refuses a e = ap scannedOf (read-step k stage t rest refuse a) ∙ sym (scan-refused k _ _ _ rest e)
 
-  finishes : afterRecord stage t (recordIn rest) ≡ finish → 3 ≡ kindOf (recordIn rest) (length (t .heads)) → Agree
+  finishes : afterRecord stage t (recordIn rest) ≡ finish → kind-is.End ≡ kindOf (recordIn rest) (length (t .heads)) → Agree
   finishes a e =
-      ap scannedOf (read-step k stage t rest finish a) ∙ answer (eqb (length rest) (recordLength rest)) ∙ sym (scan-ended k _ _ _ rest 3 e refl)
+      ap scannedOf (read-step k stage t rest finish a) ∙ answer (eqb (length rest) (recordLength rest)) ∙ sym (scan-ended k _ _ _ rest e)
     where
       answer : (b : Bool)
           → scannedOf (cond b (some t) none) ≡ cond b (scanned-is.Whole (t .capacity) (length (t .versions)) (length (t .heads))) scanned-is.Broken
@@ -109,28 +123,16 @@ module _ (k : ℕ) (later : Scans k) (stage : Stage) (t : Content) (rest : List 
       answer false = refl
 
   goes-version : (n : Node) → afterRecord stage t (recordIn rest) ≡ goOn inVersions (withVersion t n)
-      → 1 ≡ kindOf (recordIn rest) (length (t .heads)) → length (t .heads) ≡ 0 → Agree
+      → kind-is.Version ≡ kindOf (recordIn rest) (length (t .heads)) → length (t .heads) ≡ 0 → Agree
   goes-version n a e none-yet =
       ap scannedOf (read-step k stage t rest (goOn inVersions (withVersion t n)) a) ∙ later inVersions (withVersion t n) _ none-yet
-      ∙ counts ∙ sym (scan-more k _ _ _ rest 1 e (omega arith) (omega arith))
-    where
-      counts : scanOn k (t .capacity) (suc (length (t .versions))) (length (t .heads)) (drop (recordLength rest) rest)
-          ≡ scanOn k (t .capacity) (length (t .versions) + (2 - 1)) (length (t .heads) + (1 - 1)) (drop (recordLength rest) rest)
-      counts =
-          let v : suc (length (t .versions)) ≡ length (t .versions) + (2 - 1) = omega arith in
-          let h : length (t .heads) ≡ length (t .heads) + (1 - 1) = omega arith in cc
+      ∙ sym (scan-version k _ _ _ rest e)
 
   goes-head : (c v : ℕ) → afterRecord stage t (recordIn rest) ≡ goOn inHeads (withHead t c v)
-      → 2 ≡ kindOf (recordIn rest) (length (t .heads)) → Agree
+      → kind-is.Head ≡ kindOf (recordIn rest) (length (t .heads)) → Agree
   goes-head c v a e =
       ap scannedOf (read-step k stage t rest (goOn inHeads (withHead t c v)) a) ∙ later inHeads (withHead t c v) _ (omega arith)
-      ∙ counts ∙ sym (scan-more k _ _ _ rest 2 e (omega arith) (omega arith))
-    where
-      counts : scanOn k (t .capacity) (length (t .versions)) (suc (length (t .heads))) (drop (recordLength rest) rest)
-          ≡ scanOn k (t .capacity) (length (t .versions) + (2 - 2)) (length (t .heads) + (2 - 1)) (drop (recordLength rest) rest)
-      counts =
-          let n : length (t .versions) ≡ length (t .versions) + (2 - 2) = omega arith in
-          let h : suc (length (t .heads)) ≡ length (t .heads) + (2 - 1) = omega arith in cc
+      ∙ sym (scan-head k _ _ _ rest e)
 
 agrees : (k : ℕ) → Scans k → (stage : Stage) (t : Content) (rest : List ℕ) (x : Record) → recordIn rest ≡ x → Staged stage t
     → scannedOf (readOn (suc k) stage t rest) ≡ scanFrom (suc k) t rest
@@ -195,20 +197,6 @@ scan-unstarted t x y e f no-start = rw (← e, f) (none-read y no-start)
     none-read End n = refl
     none-read Broken n = refl
 
-small : (b : Bool) (m n : ℕ) → m ≤ 3 → n ≤ 3 → cond b m n ≤ 3
-small true m n h l = h
-small false m n h l = l
-
--- what a record is to the scan is one of four
-pub kind-small : (x : Record) (heads : ℕ) → kindOf x heads ≤ 3
-unfolding kindOf
-kind-small (Start capacity) heads = omega arith
-kind-small (Entry parent code strip operand) heads = small (eqb heads 0) 1 0 (omega arith) (omega arith)
-kind-small (Merge receiver giver) heads = small (eqb heads 0) 1 0 (omega arith) (omega arith)
-kind-small (Head console version) heads = omega arith
-kind-small End heads = small (eqb heads 0) 0 3 (omega arith) (omega arith)
-kind-small Broken heads = omega arith
-
 -- the loop: what is left to scan, with what was counted, is what was to scan at the start
 pub record Scanning (t : List ℕ) (start capacity at versions heads : ℕ) : Type 0 where
   pub within : at ≤ length t
@@ -223,23 +211,23 @@ module _ (t : List ℕ) (start capacity at versions heads : ℕ) (i : Scanning t
   pub scanning-out : length t ≤ at → scanned-is.Broken ≡ scanOn (length t) capacity 0 0 (drop start t)
   scanning-out h = sym (i .same ∙ rw (drop-of-length-le t h) (scan-nothing _ capacity versions heads))
 
-  module _ (more : at < length t) (x : Record) (e : x ≡ recordIn (drop at t)) (kind : ℕ) (is : kind ≡ kindOf x heads) where
+  module _ (more : at < length t) (x : Record) (e : x ≡ recordIn (drop at t)) (kind : Kind) (is : kind ≡ kindOf x heads) where
     fuel : length t - (versions + heads) ≡ suc (length t - suc (versions + heads))
     fuel = let p = i .passed in omega arith
 
-    sort : kind ≡ kindOf (recordIn (drop at t)) heads
-    sort = rw e at is
+    sort : (found : Kind) → kind ≡ found → found ≡ kindOf (recordIn (drop at t)) heads
+    sort found told = sym told ∙ is ∙ ap (λ (y : Record). kindOf y heads) e
 
     step : (y : Scanned) → scanOn (suc (length t - suc (versions + heads))) capacity versions heads (drop at t) ≡ y
         → scanOn (length t) capacity 0 0 (drop start t) ≡ y
     step y h = i .same ∙ ap (λ (k : ℕ). scanOn k capacity versions heads (drop at t)) fuel ∙ h
 
-    pub scanning-refused : kind ≡ 0 → scanned-is.Broken ≡ scanOn (length t) capacity 0 0 (drop start t)
-    scanning-refused z = sym (step _ (scan-refused _ _ _ _ _ kind sort z))
+    pub scanning-refused : kind ≡ kind-is.Misplaced → scanned-is.Broken ≡ scanOn (length t) capacity 0 0 (drop start t)
+    scanning-refused told = sym (step _ (scan-refused _ _ _ _ _ (sort _ told)))
 
-    module _ (unrefused : kind ≡ 0 → ⊥) (next : ℕ) (n : next ≡ placeAfter t at) where
+    module _ (next : ℕ) (n : next ≡ placeAfter t at) (found : Kind) (told : kind ≡ found) (placed : Placed found) where
       here : Past (drop at t)
-      here = past (drop at t) (there (recordIn (drop at t)) heads (λ z. unrefused (sort ∙ z)))
+      here = past (drop at t) (there (recordIn (drop at t)) heads (rw (← sort found told) placed))
 
       ahead : next ≡ at + recordLength (drop at t)
       ahead = n ∙ rw (le-ltb (length (drop at t)) (recordLength (drop at t)) (here .whole))
@@ -247,30 +235,35 @@ module _ (t : List ℕ) (start capacity at versions heads : ℕ) (i : Scanning t
       pub scanning-forth : at < next
       scanning-forth = omega (arith, ahead, here .long)
 
-      pub scanning-ended : kind ≡ 3 → (y : Scanned) → y ≡ cond (eqb next (length t)) (scanned-is.Whole capacity versions heads) scanned-is.Broken
+      -- one record more was counted
+      goes-on : (v h : ℕ) → v + h ≡ suc (versions + heads) → next ≤ length t
+          → scanOn (suc (length t - suc (versions + heads))) capacity versions heads (drop at t)
+          ≡ scanOn (length t - suc (versions + heads)) capacity v h (drop (recordLength (drop at t)) (drop at t))
+          → Scanning t start capacity next v h
+      goes-on v h one w counted = record { within = w; passed = omega (arith, i .passed, scanning-forth); same = step _ (counted ∙ on) }
+        where
+          on : scanOn (length t - suc (versions + heads)) capacity v h (drop (recordLength (drop at t)) (drop at t))
+              ≡ scanOn (length t - (v + h)) capacity v h (drop next t)
+          on =
+              let d : drop (recordLength (drop at t)) (drop at t) ≡ drop next t = drop-drop (recordLength (drop at t)) at t ∙ ap (λ (m : ℕ). drop m t) (sym ahead) in
+              cc
+
+    module _ (next : ℕ) (n : next ≡ placeAfter t at) where
+      pub scanning-version : kind ≡ kind-is.Version → next ≤ length t → Scanning t start capacity next (versions + 1) heads
+      scanning-version told w = rw (add-one versions) (goes-on next n _ told tt (suc versions) heads (omega arith) w (scan-version _ _ _ _ _ (sort _ told)))
+
+      pub scanning-head : kind ≡ kind-is.Head → next ≤ length t → Scanning t start capacity next versions (heads + 1)
+      scanning-head told w = rw (add-one heads) (goes-on next n _ told tt versions (suc heads) (omega arith) w (scan-head _ _ _ _ _ (sort _ told)))
+
+      pub scanning-ended : kind ≡ kind-is.End → (y : Scanned)
+          → y ≡ cond (eqb next (length t)) (scanned-is.Whole capacity versions heads) scanned-is.Broken
           → y ≡ scanOn (length t) capacity 0 0 (drop start t)
-      scanning-ended z y h =
-          h ∙ ap (λ (b : Bool). cond b (scanned-is.Whole capacity versions heads) scanned-is.Broken) last ∙ sym (step _ (scan-ended _ _ _ _ _ kind sort z))
+      scanning-ended told y h =
+          h ∙ ap (λ (b : Bool). cond b (scanned-is.Whole capacity versions heads) scanned-is.Broken) last ∙ sym (step _ (scan-ended _ _ _ _ _ (sort _ told)))
         where
           last : eqb next (length t) ≡ eqb (length (drop at t)) (recordLength (drop at t))
           last =
+              let place = ahead next n _ told tt in
               bool-ext _ _
-              (λ p. eq-eqb (length (drop at t)) (recordLength (drop at t)) (omega (arith, eqb-true next (length t) p, ahead, length-drop at t)))
-              (λ p. eq-eqb next (length t) (omega (arith, eqb-true (length (drop at t)) (recordLength (drop at t)) p, ahead, length-drop at t, i .within)))
-
-      pub scanning-more : (kind ≡ 3 → ⊥) → next ≤ length t → Scanning t start capacity next (versions + (2 - kind)) (heads + (kind - 1))
-      scanning-more f w = record {
-        within = w;
-        passed = omega (arith, i .passed, scanning-forth, bound);
-        same = step _ (scan-more _ _ _ _ _ kind sort unrefused f ∙ on);
-      }
-        where
-          bound : kind ≤ 3
-          bound = rw is (kind-small x heads)
-
-          on : scanOn (length t - suc (versions + heads)) capacity (versions + (2 - kind)) (heads + (kind - 1)) (drop (recordLength (drop at t)) (drop at t))
-              ≡ scanOn (length t - (versions + (2 - kind) + (heads + (kind - 1)))) capacity (versions + (2 - kind)) (heads + (kind - 1)) (drop next t)
-          on =
-              let k : length t - suc (versions + heads) ≡ length t - (versions + (2 - kind) + (heads + (kind - 1))) = omega (arith, bound) in
-              let d : drop (recordLength (drop at t)) (drop at t) ≡ drop next t = drop-drop (recordLength (drop at t)) at t ∙ ap (λ (m : ℕ). drop m t) (sym ahead) in
-              cc
+              (λ p. eq-eqb (length (drop at t)) (recordLength (drop at t)) (omega (arith, eqb-true next (length t) p, place, length-drop at t)))
+              (λ p. eq-eqb next (length t) (omega (arith, eqb-true (length (drop at t)) (recordLength (drop at t)) p, place, length-drop at t, i .within)))

@@ -8,6 +8,8 @@ use lib.ListN.{length, getD, drop}
 use Rattle.graph.specs.Graph.{Graph, Node, merge}
 use Rattle.tape.specs.declared.Record.{Record}
 use Rattle.tape.specs.declared.Record.the-variants as record-is
+use Rattle.tape.specs.declared.scan.Kind.{Kind}
+use Rattle.tape.specs.declared.scan.Kind.the-variants as kind-is
 use Rattle.tape.specs.declared.scan.Scanned.{Scanned}
 use Rattle.tape.specs.declared.scan.Scanned.the-variants.{Whole, Broken}
 use Rattle.tape.specs.Record.{recordIn, recordLength}
@@ -46,20 +48,22 @@ abbrev pub scannedOf : Option Content → Scanned
 scannedOf none = Broken
 scannedOf (some t) = Whole (t .capacity) (length (t .versions)) (length (t .heads))
 
--- what a record is to the scan after so many heads: 0 one that may not stand there, 1 a version, 2 a head, 3 the end
-unfoldable pub kindOf : Record → ℕ → ℕ
-kindOf (record-is.Start capacity) heads = 0
-kindOf (record-is.Entry parent code strip operand) heads = cond (eqb heads 0) 1 0
-kindOf (record-is.Merge receiver giver) heads = cond (eqb heads 0) 1 0
-kindOf (record-is.Head console version) heads = 2
-kindOf record-is.End heads = cond (eqb heads 0) 0 3
-kindOf record-is.Broken heads = 0
+-- what a record is to the scan after so many heads
+unfoldable pub kindOf : Record → ℕ → Kind
+kindOf (record-is.Start capacity) heads = kind-is.Misplaced
+kindOf (record-is.Entry parent code strip operand) heads = cond (eqb heads 0) kind-is.Version kind-is.Misplaced
+kindOf (record-is.Merge receiver giver) heads = cond (eqb heads 0) kind-is.Version kind-is.Misplaced
+kindOf (record-is.Head console version) heads = kind-is.Head
+kindOf record-is.End heads = cond (eqb heads 0) kind-is.Misplaced kind-is.End
+kindOf record-is.Broken heads = kind-is.Misplaced
 
 -- the scan of the rest of a tape, with so many versions and heads behind it; the first number bounds the records, as in `readOn`
 unfoldable pub scanOn : ℕ → ℕ → ℕ → ℕ → List ℕ → Scanned
 scanOn zero capacity versions heads rest = Broken
 scanOn (suc k) capacity versions heads rest =
-    let kind : ℕ = kindOf (recordIn rest) heads in
-    let on : Scanned = scanOn k capacity (versions + (2 - kind)) (heads + (kind - 1)) (drop (recordLength rest) rest) in
-    cond (eqb kind 0) Broken
-    (cond (eqb kind 3) (cond (eqb (length rest) (recordLength rest)) (Whole capacity versions heads) Broken) on)
+    elim (kindOf (recordIn rest) heads) [
+      | kind-is.Misplaced ↦ Broken
+      | kind-is.Version ↦ scanOn k capacity (suc versions) heads (drop (recordLength rest) rest)
+      | kind-is.Head ↦ scanOn k capacity versions (suc heads) (drop (recordLength rest) rest)
+      | kind-is.End ↦ cond (eqb (length rest) (recordLength rest)) (Whole capacity versions heads) Broken
+    ]

@@ -19,8 +19,16 @@ pub enum Scanned {
     Broken,
 }
 
-// A number where no head was read, another where one was.
-fn by_heads(heads: usize, none: usize, some: usize) -> usize
+// What a record is to the scan: one that may not stand there, a version, a head, or the end.
+enum Kind {
+    Misplaced,
+    Version,
+    Head,
+    End,
+}
+
+// One kind where no head was read, another where one was.
+fn by_heads(heads: usize, none: Kind, some: Kind) -> Kind
     ensures { λ r. ⌜ r ≡ cond (eqb heads 0) none some ⌝ }
 {
     if heads == 0 {
@@ -30,27 +38,27 @@ fn by_heads(heads: usize, none: usize, some: usize) -> usize
 }
 
 // What a record is to the scan after so many heads.
-fn kind_of(x: Record, heads: usize) -> usize
+fn kind_of(x: Record, heads: usize) -> Kind
     ensures { λ r. ⌜ r ≡ kindOf x heads ⌝ }
 {
     match x {
-        Record::Start { capacity: _ } => 0,
+        Record::Start { capacity: _ } => Kind::Misplaced,
         Record::Entry {
             parent: _,
             code: _,
             strip: _,
             operand: _,
-        } => by_heads(heads, 1, 0),
+        } => by_heads(heads, Kind::Version, Kind::Misplaced),
         Record::Merge {
             receiver: _,
             giver: _,
-        } => by_heads(heads, 1, 0),
+        } => by_heads(heads, Kind::Version, Kind::Misplaced),
         Record::Head {
             console: _,
             version: _,
-        } => 2,
-        Record::End => by_heads(heads, 0, 3),
-        Record::Broken => 0,
+        } => Kind::Head,
+        Record::End => by_heads(heads, Kind::Misplaced, Kind::End),
+        Record::Broken => Kind::Misplaced,
     }
 }
 
@@ -80,16 +88,21 @@ fn scan_on(tape: &[u8], start: usize, capacity: usize) -> Scanned
         let taken = read_at(tape, at);
         let found = taken.record;
         let kind = kind_of(found, heads);
-        let past = taken.next.at;
-        if kind == 0 {
-            return Scanned::Broken;
+        at = taken.next.at;
+        match kind {
+            Kind::Misplaced => {
+                return Scanned::Broken;
+            }
+            Kind::Version => {
+                versions = versions + 1;
+            }
+            Kind::Head => {
+                heads = heads + 1;
+            }
+            Kind::End => {
+                return scan_end(at == tape.len(), capacity, versions, heads);
+            }
         }
-        if kind == 3 {
-            return scan_end(past == tape.len(), capacity, versions, heads);
-        }
-        versions = versions + (2 - kind);
-        heads = heads + (kind - 1);
-        at = past;
     }
     Scanned::Broken
 }

@@ -1,9 +1,10 @@
 -- `tape::scan::scan_on` meets its contract. The loop's invariant: what is left to scan, with what was counted, is what was to scan at the start. The measure is what is left of the tape.
 -- Assumes nothing.
-use Prim.Native.Nat.{_-_, _≤_}
+use Prim.Native.Nat.{_-_}
 use native.Mathlib.Omega.{arith}
+use borrow.Author.Needs.{needs}
 use lib.ListN.{length}
-use Rattle.tape.proofs.Scans.{Scanning, scanning-starts, scanning-out, scanning-refused, scanning-forth, scanning-ended, scanning-more, kind-small}
+use Rattle.tape.proofs.Scans.{Scanning, scanning-starts, scanning-out, scanning-refused, scanning-forth, scanning-version, scanning-head, scanning-ended}
 use Rattle.tape.proofs.scan.scan_on.Statement.{statement}
 use Rattle.tape.proofs.scan.scan_on.Tie as tie
 
@@ -22,44 +23,67 @@ read-at-requires c κs = omega arith
 kind-of-requires : tie.Need-kind-of-requires Inv-loop μ-loop
 kind-of-requires c κs = tt
 
+enum-told : tie.Need-enum-told Inv-loop μ-loop
+enum-told c = search needs
+
 returns : tie.Need-returns Inv-loop μ-loop
 returns c =
-    let k = c .before in scanning-refused _ _ _ _ _ _ (k .before .before .before .loop .inv) (k .before .before .loop-test .taken) _ (k .before .read-at .ensures .0) _ (k .kind-of .ensures) (c .if1 .taken)
+    let k = c .before .before in
+    let r = k .before in
+    scanning-refused _ _ _ _ _ _ (r .before .before .loop .inv) (r .before .loop-test .taken) _ (r .read-at .ensures .0) _ (k .kind-of .ensures) (c .enum-told .given .1)
+
+enum-told-2 : tie.Need-enum-told-2 Inv-loop μ-loop
+enum-told-2 c = search needs
+
+add-versions : tie.Need-add-versions Inv-loop μ-loop
+add-versions c = omega arith
+
+loop-less : tie.Need-loop-less Inv-loop μ-loop
+loop-less c =
+    let k = c .before .before in
+    let r = k .before in
+    let forth = scanning-forth _ _ _ _ _ _ (r .before .before .loop .inv) (r .before .loop-test .taken) _ (r .read-at .ensures .0) _ (k .kind-of .ensures) _ (r .read-at .ensures .1) _ (c .enum-told2 .given .1) tt in
+    omega arith
+
+loop-again : tie.Need-loop-again Inv-loop μ-loop
+loop-again c =
+    let k = c .before .before in
+    let r = k .before in
+    scanning-version _ _ _ _ _ _ (r .before .before .loop .inv) (r .before .loop-test .taken) _ (r .read-at .ensures .0) _ (k .kind-of .ensures) _ (r .read-at .ensures .1)
+    (c .enum-told2 .given .1) (r .read-at .ensures .2)
+
+enum-told-3 : tie.Need-enum-told-3 Inv-loop μ-loop
+enum-told-3 c = search needs
+
+add-heads : tie.Need-add-heads Inv-loop μ-loop
+add-heads c = omega arith
+
+loop-less-2 : tie.Need-loop-less-2 Inv-loop μ-loop
+loop-less-2 c =
+    let k = c .before .before in
+    let r = k .before in
+    let forth = scanning-forth _ _ _ _ _ _ (r .before .before .loop .inv) (r .before .loop-test .taken) _ (r .read-at .ensures .0) _ (k .kind-of .ensures) _ (r .read-at .ensures .1) _ (c .enum-told3 .given .1) tt in
+    omega arith
+
+loop-again-2 : tie.Need-loop-again-2 Inv-loop μ-loop
+loop-again-2 c =
+    let k = c .before .before in
+    let r = k .before in
+    scanning-head _ _ _ _ _ _ (r .before .before .loop .inv) (r .before .loop-test .taken) _ (r .read-at .ensures .0) _ (k .kind-of .ensures) _ (r .read-at .ensures .1)
+    (c .enum-told3 .given .1) (r .read-at .ensures .2)
+
+enum-told-4 : tie.Need-enum-told-4 Inv-loop μ-loop
+enum-told-4 c = search needs
 
 scan-end-requires : tie.Need-scan-end-requires Inv-loop μ-loop
 scan-end-requires c κs = tt
 
 returns-2 : tie.Need-returns-2 Inv-loop μ-loop
 returns-2 c =
-    let e = c .before .before in
-    let k = e .before in
-    scanning-ended _ _ _ _ _ _ (k .before .before .before .loop .inv) (k .before .before .loop-test .taken) _ (k .before .read-at .ensures .0) _ (k .kind-of .ensures)
-    (e .if1 .left) _ (k .before .read-at .ensures .1) (c .before .if2 .taken) _ (c .scan-end .ensures)
-
-sub-versions : tie.Need-sub-versions Inv-loop μ-loop
-sub-versions c = let small : c .before .before .kind-of .result ≤ 3 = rw (c .before .before .kind-of .ensures) (kind-small _ _) in omega arith
-
-add-versions : tie.Need-add-versions Inv-loop μ-loop
-add-versions c = let small : c .before .before .kind-of .result ≤ 3 = rw (c .before .before .kind-of .ensures) (kind-small _ _) in omega arith
-
-sub-heads : tie.Need-sub-heads Inv-loop μ-loop
-sub-heads c = let small : c .before .before .kind-of .result ≤ 3 = rw (c .before .before .kind-of .ensures) (kind-small _ _) in omega arith
-
-add-heads : tie.Need-add-heads Inv-loop μ-loop
-add-heads c = let small : c .before .before .kind-of .result ≤ 3 = rw (c .before .before .kind-of .ensures) (kind-small _ _) in omega arith
-
-loop-less : tie.Need-loop-less Inv-loop μ-loop
-loop-less c =
-    let e = c .before in
-    let k = e .before in
-    let forth = scanning-forth _ _ _ _ _ _ (k .before .before .before .loop .inv) (k .before .before .loop-test .taken) _ (k .before .read-at .ensures .0) _ (k .kind-of .ensures) (e .if1 .left) _ (k .before .read-at .ensures .1) in omega arith
-
-loop-again : tie.Need-loop-again Inv-loop μ-loop
-loop-again c =
-    let e = c .before in
-    let k = e .before in
-    scanning-more _ _ _ _ _ _ (k .before .before .before .loop .inv) (k .before .before .loop-test .taken) _ (k .before .read-at .ensures .0) _ (k .kind-of .ensures)
-    (e .if1 .left) _ (k .before .read-at .ensures .1) (c .if2 .left) (k .before .read-at .ensures .2)
+    let k = c .before .before .before in
+    let r = k .before in
+    scanning-ended _ _ _ _ _ _ (r .before .before .loop .inv) (r .before .loop-test .taken) _ (r .read-at .ensures .0) _ (k .kind-of .ensures) _ (r .read-at .ensures .1)
+    (c .before .enum-told4 .given .1) _ (c .scan-end .ensures)
 
 returns-3 : tie.Need-returns-3 Inv-loop μ-loop
 returns-3 c = scanning-out _ _ _ _ _ _ (c .before .loop .inv) (c .loop-test .left)
@@ -73,13 +97,17 @@ scan-on-spec =
     loop-holds
     read-at-requires
     kind-of-requires
+    enum-told
     returns
-    scan-end-requires
-    returns-2
-    sub-versions
+    enum-told-2
     add-versions
-    sub-heads
-    add-heads
     loop-less
     loop-again
+    enum-told-3
+    add-heads
+    loop-less-2
+    loop-again-2
+    enum-told-4
+    scan-end-requires
+    returns-2
     returns-3)
