@@ -1,9 +1,10 @@
 // Records of the tape, each written at a place of a buffer that has room for it there.
+use buffer::put_word;
 ghost use mathlib.Core.Path.{_≡_};
 ghost use mathlib.Core.List.{[], _∷_};
 ghost use Prim.Native.Nat.{_+_, _<_, _≤_};
 ghost use lib.ListN.{length};
-ghost use Rattle.buffer.specs.Field.{byte, word, withPart};
+ghost use Rattle.buffer.specs.Field.{byte, withPart};
 ghost use Rattle.graph.specs.Graph.{entry, merge};
 ghost use Rattle.tape.specs.declared.Record.the-variants.{Start, Head, End};
 ghost use Rattle.tape.specs.Record.{recordBytes};
@@ -17,22 +18,13 @@ fn put_byte(tape: &mut [u8], at: usize, x: usize)
     tape[at] = (x % 256) as u8;
 }
 
-// Writes a number's 16 bits at a place.
-fn put_field(tape: &mut [u8], at: usize, x: usize)
-    requires { ⌜ at + 2 ≤ length (now tape) ⌝ }
-    ensures { λ _. ⌜ now (tape .exit) ≡ withPart (now (tape .entry)) at (word x) ⌝ }
-{
-    put_byte(tape, at, x / 256);
-    put_byte(tape, at + 1, x);
-}
-
 // Writes the record of the capacity, which every tape begins with.
 pub fn put_start(tape: &mut [u8], capacity: usize)
     requires { ⌜ 3 ≤ length (now tape) ⌝ }
     ensures { λ _. ⌜ now (tape .exit) ≡ withPart (now (tape .entry)) 0 (recordBytes (Start capacity)) ⌝ }
 {
     put_byte(tape, 0, 0x20);
-    put_field(tape, 1, capacity);
+    put_word(tape, 1, capacity);
 }
 
 // Writes the record of an entry version at a place.
@@ -48,10 +40,10 @@ pub fn put_entry(
     ensures { λ _. ⌜ now (tape .exit) ≡ withPart (now (tape .entry)) at (recordBytes (versionRecord (entry parent code strip operand))) ⌝ }
 {
     put_byte(tape, at, 0x21);
-    put_field(tape, at + 1, parent);
+    put_word(tape, at + 1, parent);
     put_byte(tape, at + 3, code);
     put_byte(tape, at + 4, strip);
-    put_field(tape, at + 5, operand);
+    put_word(tape, at + 5, operand);
 }
 
 // Writes the record of a merge version at a place.
@@ -60,8 +52,8 @@ pub fn put_merge(tape: &mut [u8], at: usize, receiver: usize, giver: usize)
     ensures { λ _. ⌜ now (tape .exit) ≡ withPart (now (tape .entry)) at (recordBytes (versionRecord (merge receiver giver))) ⌝ }
 {
     put_byte(tape, at, 0x22);
-    put_field(tape, at + 1, receiver);
-    put_field(tape, at + 3, giver);
+    put_word(tape, at + 1, receiver);
+    put_word(tape, at + 3, giver);
 }
 
 // Writes the head record of a console at a place.
@@ -71,7 +63,7 @@ pub fn put_head(tape: &mut [u8], at: usize, console: usize, version: usize)
 {
     put_byte(tape, at, 0x23);
     put_byte(tape, at + 1, console);
-    put_field(tape, at + 2, version);
+    put_word(tape, at + 2, version);
 }
 
 // Writes the last byte of a tape at a place.

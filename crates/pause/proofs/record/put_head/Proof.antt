@@ -2,9 +2,9 @@
 -- Assumes nothing.
 use native.Mathlib.Omega.{arith}
 use mathlib.Core.List.{[], _∷_}
-use Rattle.buffer.specs.Field.{byte, word}
+use Rattle.buffer.specs.Field.{byte}
 use Rattle.tape.specs.Record.{recordBytes}
-use Rattle.pause.proofs.Grown.{grown-one, grown-more}
+use Rattle.pause.proofs.Grown.{grown-one, grown-more, grown-word}
 use Rattle.pause.proofs.record.put_head.Statement.{statement}
 use Rattle.pause.proofs.record.put_head.Tie as tie
 
@@ -17,11 +17,11 @@ add-put-byte c = omega arith
 put-byte-requires-2 : tie.Need-put-byte-requires-2
 put-byte-requires-2 c κs = omega arith
 
-add-put-field : tie.Need-add-put-field
-add-put-field c = omega arith
+add-put-word : tie.Need-add-put-word
+add-put-word c = omega arith
 
-put-field-requires : tie.Need-put-field-requires
-put-field-requires c κs = omega arith
+put-word-requires : tie.Need-put-word-requires
+put-word-requires c κs = omega arith
 
 same-length : tie.Need-same-length
 same-length c = omega arith
@@ -32,7 +32,7 @@ returns c =
     let a = c .before .before .before .before .before .before .before .before .before .before .before .before .before .args in
     let g1 = grown-one {new = 0x23 ∷ []} (c .before .before .before .before .before .before .before .before .before .before .put-byte .ensures) (omega arith) in
     let g2 = grown-more (byte (a .console) ∷ []) g1 (c .before .before .before .before .before .before .put-byte2 .ensures) (omega arith) (omega arith) in
-    (grown-more (word (a .version)) g2 (c .before .before .put-field .ensures) (omega arith) (omega arith)) .reads
+    (grown-word (a .version) g2 (c .before .before .put-word .ensures) (omega arith) (omega arith)) .reads
 
 pub put-head-spec : {M : Type 1} → statement M
 put-head-spec =
@@ -41,7 +41,7 @@ put-head-spec =
     put-byte-requires
     add-put-byte
     put-byte-requires-2
-    add-put-field
-    put-field-requires
+    add-put-word
+    put-word-requires
     same-length
     returns)

@@ -2,26 +2,25 @@
 -- Assumes nothing.
 use native.Mathlib.Omega.{arith}
 use mathlib.Core.List.{[], _∷_}
-use Rattle.buffer.specs.Field.{word}
 use Rattle.tape.specs.Record.{recordBytes}
-use Rattle.pause.proofs.Grown.{grown-one, grown-more}
+use Rattle.pause.proofs.Grown.{grown-one, grown-word}
 use Rattle.pause.proofs.record.put_merge.Statement.{statement}
 use Rattle.pause.proofs.record.put_merge.Tie as tie
 
 put-byte-requires : tie.Need-put-byte-requires
 put-byte-requires c κs = omega arith
 
-add-put-field : tie.Need-add-put-field
-add-put-field c = omega arith
+add-put-word : tie.Need-add-put-word
+add-put-word c = omega arith
 
-put-field-requires : tie.Need-put-field-requires
-put-field-requires c κs = omega arith
+put-word-requires : tie.Need-put-word-requires
+put-word-requires c κs = omega arith
 
-add-put-field-2 : tie.Need-add-put-field-2
-add-put-field-2 c = omega arith
+add-put-word-2 : tie.Need-add-put-word-2
+add-put-word-2 c = omega arith
 
-put-field-requires-2 : tie.Need-put-field-requires-2
-put-field-requires-2 c κs = omega arith
+put-word-requires-2 : tie.Need-put-word-requires-2
+put-word-requires-2 c κs = omega arith
 
 same-length : tie.Need-same-length
 same-length c = omega arith
@@ -31,17 +30,17 @@ unfolding recordBytes
 returns c =
     let a = c .before .before .before .before .before .before .before .before .before .before .before .before .before .args in
     let g1 = grown-one {new = 0x22 ∷ []} (c .before .before .before .before .before .before .before .before .before .before .put-byte .ensures) (omega arith) in
-    let g2 = grown-more (word (a .receiver)) g1 (c .before .before .before .before .before .before .put-field .ensures) (omega arith) (omega arith) in
-    (grown-more (word (a .giver)) g2 (c .before .before .put-field2 .ensures) (omega arith) (omega arith)) .reads
+    let g2 = grown-word (a .receiver) g1 (c .before .before .before .before .before .before .put-word .ensures) (omega arith) (omega arith) in
+    (grown-word (a .giver) g2 (c .before .before .put-word2 .ensures) (omega arith) (omega arith)) .reads
 
 pub put-merge-spec : {M : Type 1} → statement M
 put-merge-spec =
     tie.close
     (tie.spec
     put-byte-requires
-    add-put-field
-    put-field-requires
-    add-put-field-2
-    put-field-requires-2
+    add-put-word
+    put-word-requires
+    add-put-word-2
+    put-word-requires-2
     same-length
     returns)
