@@ -10,14 +10,11 @@ use lib.ListN.{length, getD, drop, length-drop, length-replicate, List·getD-app
 use lib.Seq.{getD-append-add, length-take-le}
 use borrow.Author.Tests.{eqb-true, eq-eqb}
 use Rattle.laws.proofs.Logic.{and-l, and-r, and-i, clash}
-use Rattle.buffer.specs.Field.{byte, word, wordAt, zeros, part, same}
+use Rattle.buffer.specs.Field.{byte, wordAt, zeros, part, same}
 
 -- the two bytes of a number of 16 bits give it back
 pub bytes-word : (x : ℕ) → x < 65536 → byte (x / 256) * 256 + byte x ≡ x
 bytes-word x h = omega arith
-
-pub wordAt-word : (x : ℕ) (rest : List ℕ) → x < 65536 → wordAt (word x ++ rest) 0 ≡ x
-wordAt-word x rest h = bytes-word x h
 
 -- a field before the seam, and one after it
 pub wordAt-left : (xs ys : List ℕ) (i : ℕ) → i + 1 < length xs → wordAt (xs ++ ys) i ≡ wordAt xs i

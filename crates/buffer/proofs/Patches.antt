@@ -102,7 +102,7 @@ module _ (s new : List ℕ) (at : ℕ) (fits : at + length new ≤ length s) whe
       rw (← there, drop-append-add (take at s) (new ++ rest) (length new + n), drop-append-add new rest n, drop-drop n (at + length new) s, there, here)
 
   -- a part replaced twice
-  pub with-again : (next : List ℕ) → length next ≡ length new → withPart (withPart s at new) at next ≡ withPart s at next
+  with-again : (next : List ℕ) → length next ≡ length new → withPart (withPart s at new) at next ≡ withPart s at next
   unfolding withPart
   with-again next e =
       ap₂ (λ (x y : List ℕ). x ++ (next ++ y))

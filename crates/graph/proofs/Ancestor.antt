@@ -126,11 +126,8 @@ ancestor-trans (n ∷ g) u v w h k =
       | before t l ↦ cc (ancestor-old n g u w l, older w t)
     ]
 
-pub ancestor-antisym : (g : Graph) (u v : ℕ) → ancestor g u v ≡ true → ancestor g v u ≡ true → u ≡ v
-ancestor-antisym g u v h k = omega (arith, ancestor-le g u v h, ancestor-le g v u k)
-
 -- version 0 is behind all
-pub ancestor-zero : (g : Graph) (v : ℕ) → everyVersion parentsLower g ≡ true → v < versionCount g → ancestor g 0 v ≡ true
+ancestor-zero : (g : Graph) (v : ℕ) → everyVersion parentsLower g ≡ true → v < versionCount g → ancestor g 0 v ≡ true
 ancestor-zero [] v w l = only-self 0 v refl (omega arith)
 ancestor-zero (n ∷ g) v w l =
     let older : (p : ℕ) → p < versionCount g → ancestor g 0 p ≡ true = λ p. ancestor-zero g p (every-old parentsLower n g w) in

@@ -52,7 +52,7 @@ highest-some (suc n) f m h =
       | inr t ↦ let r = highest-some n f m (cc) in (omega arith, r .1, λ k a l. more (λ j. m < j → f j ≡ false) n (λ j b c. r .2 j c b) (λ _. t) k l a)
     ]
 
-pub highest-none : (n : ℕ) (f : ℕ → Bool) → highestBelow n f ≡ none → (k : ℕ) → k < n → f k ≡ false
+highest-none : (n : ℕ) (f : ℕ → Bool) → highestBelow n f ≡ none → (k : ℕ) → k < n → f k ≡ false
 unfolding highestBelow
 highest-none zero f h = λ k l. absurd (omega arith)
 highest-none (suc n) f h =
@@ -89,7 +89,7 @@ weight-both : (a b : Bool) → cond {A = ℕ} (a || b) 1 0 + cond (a && b) 1 0 �
 weight-both true b = omega arith
 weight-both false b = omega arith
 
-pub count-mono : (n : ℕ) (f g : ℕ → Bool) → ((k : ℕ) → k < n → f k ≡ true → g k ≡ true) → countBelow n f ≤ countBelow n g
+count-mono : (n : ℕ) (f g : ℕ → Bool) → ((k : ℕ) → k < n → f k ≡ true → g k ≡ true) → countBelow n f ≤ countBelow n g
 unfolding countBelow
 count-mono zero f g h = omega arith
 count-mono (suc n) f g h = omega (arith, count-mono n f g (λ k l. h k (omega arith)), weight-mono (f n) (g n) (h n (omega arith)))
@@ -104,7 +104,7 @@ count-past n (suc m) f l h =
       | no d ↦ rw (h m (omega arith)) (omega (arith, count-past n m f (omega arith) h))
     ]
 
-pub count-le : (n : ℕ) (f : ℕ → Bool) → countBelow n f ≤ n
+count-le : (n : ℕ) (f : ℕ → Bool) → countBelow n f ≤ n
 unfolding countBelow
 count-le zero f = omega arith
 count-le (suc n) f = omega (arith, count-le n f, weight-mono (f n) true (λ _. refl))

@@ -2,16 +2,16 @@
 -- Assumes nothing.
 use Prim.Native.Nat.{ℕ, _+_, _≤_, _<_}
 use mathlib.Core.Path.{_≡_}
-use mathlib.Core.Bool.{Bool, true, false, cond, _&&_, _||_, and-true, and-false, and-or-distrib-left}
+use mathlib.Core.Bool.{Bool, false, cond, _&&_, _||_, and-true, and-false, and-or-distrib-left}
 use mathlib.Core.List.{_∷_}
 use native.Mathlib.Omega.{arith}
 use lib.ListN.{length}
 use borrow.Author.Tests.{ne-eqb}
-use Rattle.laws.proofs.Logic.{refuted, and-l, and-r, and-i, and-both}
+use Rattle.laws.proofs.Logic.{refuted, and-both}
 use Rattle.graph.specs.Below.{countBelow}
 use Rattle.graph.specs.Graph.{Node, merge, entry, Graph, versionCount, someParent, ancestor}
-use Rattle.graph.proofs.Below.{count-ext, count-more, count-mono, count-lt, inclusion-exclusion}
-use Rattle.graph.proofs.Ancestor.{ancestor-new, ancestor-old, ancestor-same, ancestor-le, ancestor-trans}
+use Rattle.graph.proofs.Below.{count-ext, count-more, count-lt, inclusion-exclusion}
+use Rattle.graph.proofs.Ancestor.{ancestor-new, ancestor-old, ancestor-same, ancestor-le}
 use Rattle.graph.proofs.Meet.{Meet}
 use Rattle.graph.proofs.Growth.{meet-entries}
 
@@ -50,12 +50,6 @@ module _ (f : ℕ → Bool) where
       let both = count-ext (versionCount g) (λ e. f e && ancestor g e l) (λ e. left e && right e) (λ e _. common e) in
       let itself : cond {A = ℕ} (f (versionCount g)) 1 0 ≡ 0 = cc in
       omega (arith, held-new (merge p q) g, inclusion-exclusion (versionCount g) left right)
-
-  pub held-behind : (g : Graph) (l a : ℕ) → ancestor g l a ≡ true → held f g l ≤ held f g a
-  unfolding held
-  held-behind g l a h =
-      let still : (e : ℕ) → f e && ancestor g e l ≡ true → f e && ancestor g e a ≡ true = λ e t. and-i (f e) (ancestor g e a) (and-l (f e) (ancestor g e l) t) (ancestor-trans g e l a (and-r (f e) (ancestor g e l) t) h) in
-      count-mono (versionCount g) (λ e. f e && ancestor g e l) (λ e. f e && ancestor g e a) (λ e _. still e)
 
   pub held-bound : (g : Graph) (v : ℕ) → f 0 ≡ false → held f g v ≤ length g
   unfolding held

@@ -76,7 +76,7 @@ strict-growth (n ∷ g) m a w h d = elim (ways n g m a h) [
 ]
 
 -- if v holds the entries of u, then their meet is u
-pub meet-holds : {g : Graph} {u v m : ℕ} → WellFormed g → Meet g u v m → ((e : ℕ) → isEntry g e ≡ true → ancestor g e u ≡ true → ancestor g e v ≡ true) → m ≡ u
+meet-holds : {g : Graph} {u v m : ℕ} → WellFormed g → Meet g u v m → ((e : ℕ) → isEntry g e ≡ true → ancestor g e u ≡ true → ancestor g e v ≡ true) → m ≡ u
 meet-holds {g} {u} {v} {m} w b h =
     elim (ℕ-discrete m u) [
       | yes e ↦ e

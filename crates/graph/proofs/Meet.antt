@@ -54,7 +54,7 @@ meet-found {g} {u} {v} {m} h =
 pub meet-none : (g : Graph) (u v : ℕ) → meet g u v ≡ none → (m : ℕ) → Meet g u v m → ⊥
 meet-none g u v e m h = let z : _≡_ {A = ℕ} 0 1 = cc (meet-found h) in omega arith
 
-pub meet-unique : {g : Graph} {u v m k : ℕ} → Meet g u v m → Meet g u v k → m ≡ k
+meet-unique : {g : Graph} {u v m k : ℕ} → Meet g u v m → Meet g u v k → m ≡ k
 meet-unique a b = cc (meet-found a, meet-found b)
 
 pub meet-sym : {g : Graph} {u v m : ℕ} → Meet g u v m → Meet g v u m
@@ -82,7 +82,7 @@ Meet-new {g} {u} {v} {m} n h =
     let old : (x : ℕ) → x < versionCount g → (w : ℕ) → ancestor (n ∷ g) w x ≡ ancestor g w x = λ x l w. ancestor-old n g w x l in
     Meet-rows (old u (ancestor-named g m u (h .first))) (old v (ancestor-named g m v (h .second))) (old m (ancestor-below g m u (h .first))) h
 
-pub Meet-old : {g : Graph} {u v m : ℕ} (n : Node) → u < versionCount g → v < versionCount g → Meet (n ∷ g) u v m → Meet g u v m
+Meet-old : {g : Graph} {u v m : ℕ} (n : Node) → u < versionCount g → v < versionCount g → Meet (n ∷ g) u v m → Meet g u v m
 Meet-old {g} {u} {v} {m} n a b h =
     let old : (x : ℕ) → x < versionCount g → (w : ℕ) → ancestor g w x ≡ ancestor (n ∷ g) w x = λ x l w. sym (ancestor-old n g w x l) in
     Meet-rows (old u a) (old v b) (old m (omega (arith, ancestor-le (n ∷ g) m u (h .first)))) h

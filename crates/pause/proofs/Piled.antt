@@ -20,7 +20,7 @@ module _ {w piece : ℕ → List ℕ} (p : Pieces w piece) where
   more-length k = ap length (p .more k) ∙ length-append (w k) (piece k)
 
   -- more pieces are no shorter
-  pub pieces-rise : (k n : ℕ) → k ≤ n → length (w k) ≤ length (w n)
+  pieces-rise : (k n : ℕ) → k ≤ n → length (w k) ≤ length (w n)
   pieces-rise k zero l = let e : k ≡ 0 = omega arith in rw e (omega arith)
   pieces-rise k (suc n) l =
       elim (ℕ-discrete k (suc n)) [

@@ -51,7 +51,7 @@ members-from f v (suc n) =
     let e : v + 8 * suc n ≡ v + 8 + 8 * n = omega arith in
     rw e (omega (arith, eight-more f v, members-from f (v + 8) n))
 
-pub row-members : (f : ℕ → Bool) (n : ℕ) → memberCount (row f n) ≡ countBelow (8 * n) f
+row-members : (f : ℕ → Bool) (n : ℕ) → memberCount (row f n) ≡ countBelow (8 * n) f
 unfolding countBelow
 row-members f n = omega (arith, rw (zero-add (8 * n)) at (members-from f 0 n))
 

@@ -119,7 +119,7 @@ module _ (w : ℕ) (place : ℕ → ℕ)
   unfolding Counts boardOf held countBelow nodeOf
   at-first v = empty k inside
 
-  pub counter-tally : (g : Graph) (v : ℕ) → WellFormed g → length g < 65535 → v < versionCount g → wordAt (boardOf g v) (place k) ≡ tally w k g v
+  counter-tally : (g : Graph) (v : ℕ) → WellFormed g → length g < 65535 → v < versionCount g → wordAt (boardOf g v) (place k) ≡ tally w k g v
   unfolding Counts
   counter-tally [] v wf small l = at-first v
   counter-tally (n ∷ g) v wf small l =

@@ -12,7 +12,7 @@ use Rattle.board.proofs.Length.{enter-length, mergeBoard-length}
 use Rattle.graph.specs.Graph.{Graph, Node, entry, merge, versionCount, meetNumber}
 use Rattle.room.specs.Boards.{boardMade, boardOf}
 
-pub boardMade-length : (board : ℕ → List ℕ) (base : ℕ → ℕ → ℕ) (n : Node)
+boardMade-length : (board : ℕ → List ℕ) (base : ℕ → ℕ → ℕ) (n : Node)
     → ((v : ℕ) → length (board v) ≡ boardSize) → length (boardMade board base n) ≡ boardSize
 unfolding boardMade
 boardMade-length board base (entry p code strip operand) h = enter-length code strip operand (board p) ∙ h p

@@ -21,10 +21,10 @@ use Rattle.room.specs.Step.{moved, grown}
 use Rattle.room.proofs.Sound.{Sound, present-console}
 
 module _ (r : Room) (c : ℕ) (h : Option ℕ) where
-  pub head-set : c < length (r .heads) → headOf (moved r c h) c ≡ h
+  head-set : c < length (r .heads) → headOf (moved r c h) c ≡ h
   head-set l = getD-set-same (r .heads) c h none l
 
-  pub head-kept : (k : ℕ) → (k ≡ c → ⊥) → headOf (moved r c h) k ≡ headOf r k
+  head-kept : (k : ℕ) → (k ≡ c → ⊥) → headOf (moved r c h) k ≡ headOf r k
   head-kept k ne = getD-set-other (r .heads) c k h none ne
 
 -- what follows for a console whose head is that of another console of another room

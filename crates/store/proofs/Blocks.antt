@@ -106,7 +106,7 @@ module _ {s : List ℕ} (g : Graph) (v : ℕ) (h : Stands s (blockAt v) (block g
   unfolding block
   stands-ahead = stands-left (note ++ lineage) (boardOf g v) h
 
-  pub block-record : Stands s (blockAt v) (nodeBytes g (nodeOf g v))
+  block-record : Stands s (blockAt v) (nodeBytes g (nodeOf g v))
   block-record = stands-left note lineage stands-ahead
 
   pub block-row : Stands s (rowAt v) (row (λ u. ancestor g u v) rowSize)

@@ -8,7 +8,7 @@ use mathlib.Core.Logic.{inl, inr}
 use Prim.Native.Nat.{ℕ, suc, pred, max, _≤_, _<_}
 use native.Mathlib.Omega.{arith}
 use Rattle.laws.proofs.Logic.{clash, refuted}
-use Rattle.graph.specs.Graph.{Node, entry, merge, versionCount, ancestor, isSome}
+use Rattle.graph.specs.Graph.{Node, entry, merge, versionCount, isSome}
 use Rattle.graph.proofs.Ancestor.{ancestor-le, ancestor-trans}
 use Rattle.graph.proofs.Meet.{Meet, meet-self, Meet-new}
 use Rattle.command.specs.Code.{consoleCount}
@@ -34,7 +34,7 @@ follow-field {r′} {z = z} f g keep w =
 
 module _ (r : Room) (s : Sound r) where
   -- the fields of a sound room
-  pub sound-field : (c k : ℕ) → Field r c k (commonField r c k)
+  sound-field : (c k : ℕ) → Field r c k (commonField r c k)
   sound-field c k = field-of r c k (s .meets c k)
 
   pub commonField-sym : (c k : ℕ) → commonField r c k ≡ commonField r k c

@@ -25,7 +25,7 @@ use Rattle.command.proofs.Limits.{operand-below}
 use Rattle.store.proofs.Ranges.{Ranges}
 
 -- a version in range reads back from its record; the graph g that its base is taken from does not matter
-pub node-read : (s : List ℕ) (v : ℕ) (g before : Graph) (n : Node)
+node-read : (s : List ℕ) (v : ℕ) (g before : Graph) (n : Node)
     → Stands s (blockAt v) (nodeBytes g (some n))
     → length before < 1024 → parentsLower before n ≡ true → entryInRange before n ≡ true
     → nodeIn s v ≡ n
@@ -113,7 +113,7 @@ module _ (s : List ℕ) (r : Room) (h : Stands s 0 (encode r)) (k : Ranges r) wh
   common-read c d i j = stands-word (commonField r c d) (stands-common r h c d i j)
       (omega (arith, field-below (present r c && present r d) r c d))
 
-  pub head-read : (c : ℕ) → c < consoleCount → headFrom (wordAt s (headAt c)) ≡ headOf r c
+  head-read : (c : ℕ) → c < consoleCount → headFrom (wordAt s (headAt c)) ≡ headOf r c
   head-read c i = ap headFrom (common-read c c i i) ∙ field-self r c (headOf r c) refl (k .heads c i)
 
   pub heads-read : headsIn s 0 consoleCount ≡ r .heads

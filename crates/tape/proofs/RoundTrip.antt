@@ -83,7 +83,3 @@ tape-forth t c bytes e a =
     let range = accepted c a .range in
     let rise : consolesRise (c .heads) ≡ true = search (and-l, and-r) in
     simp (slots-forth (c .heads) rise, tape-written t c bytes e, append-assoc)
-
--- the room of an accepted tape is sound
-pub accepted-sound : (c : Content) → contentRefusal (some c) ≡ 0 → soundRoom (roomOf c) ≡ true
-accepted-sound c a = accepted c a .room

@@ -89,7 +89,7 @@ fn next_at(tape: &[u8], at: usize) -> usize
 }
 
 // The record at a place, and the place past it.
-pub fn take_at(tape: &[u8], place: Place) -> Taken
+fn take_at(tape: &[u8], place: Place) -> Taken
     requires { ⌜ place .at ≤ length (now tape) ⌝ }
     ensures { λ r. ⌜ (r .record ≡ recordIn (drop (place .at) (now (tape .entry)))) × (r .next .at ≡ placeAfter (now (tape .entry)) (place .at)) × (r .next .at ≤ length (now (tape .entry))) ⌝ }
 {

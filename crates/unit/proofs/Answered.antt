@@ -24,14 +24,14 @@ use Rattle.store.specs.Layout.{storeSize, encode, roomIn, holdsStore}
 use Rattle.unit.specs.Calls.{replied, written, tooShort, holdsNoStore, openOutcome, boardOutcome, heardReply, commonReply}
 
 -- replies
-pub replied-refused : (n count : ℕ) → 0 < n → replied n 0 ≡ replied n count
+replied-refused : (n count : ℕ) → 0 < n → replied n 0 ≡ replied n count
 replied-refused n count p = rw (ne-eqb n 0 (omega arith))
 
 pub written-refused : (n count : ℕ) (new old : List ℕ) → 0 < n
     → (replied n 0 ≡ written n count new old .reply) × (old ≡ written n count new old .buffer)
 written-refused n count new old p = rw (ne-eqb n 0 (omega arith)) (refl, refl)
 
-pub written-done : (n count : ℕ) (new old t : List ℕ) → n ≡ 0 → t ≡ overwrite new old
+written-done : (n count : ℕ) (new old t : List ℕ) → n ≡ 0 → t ≡ overwrite new old
     → (replied 0 count ≡ written n count new old .reply) × (t ≡ written n count new old .buffer)
 written-done n count new old t e w = rw e (refl, w)
 

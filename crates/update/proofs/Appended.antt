@@ -51,7 +51,7 @@ module _ (s x : List ℕ) (n at v : ℕ) (lower : v < n) (behind : blockAt n ≤
 -- a block written node, row and board
 module _ (s note line board : List ℕ) (n : ℕ) (fits : blockAt (suc n) ≤ length s) (ln : length note ≡ nodeSize) (ll : length line ≡ rowSize)
     (lb : length board ≡ boardSize) where
-  pub block-long : length (note ++ line ++ board) ≡ blockSize
+  block-long : length (note ++ line ++ board) ≡ blockSize
   block-long = rw (length-append, length-append) (omega arith)
 
   block-written : {a b c : List ℕ} → a ≡ withPart s (blockAt n) note → b ≡ withPart a (rowAt n) line → c ≡ withPart b (boardAt n) board

@@ -50,11 +50,11 @@ pub record Grew (s t : List ℕ) (g : Graph) (m : Node) : Type 0 where
 abbrev laid : Shown → List ℕ
 laid w = w .note ++ w .line ++ w .board
 
-pub block-new : (m : Node) (g : Graph) → parentsLower g m ≡ true → block (m ∷ g) (versionCount g) ≡ laid (made g m)
+block-new : (m : Node) (g : Graph) → parentsLower g m ≡ true → block (m ∷ g) (versionCount g) ≡ laid (made g m)
 unfolding block
 block-new m g h = ap laid (shown-new m g h)
 
-pub block-old : (m : Node) (g : Graph) (v : ℕ) → everyVersion parentsLower g ≡ true → v < versionCount g → block (m ∷ g) v ≡ block g v
+block-old : (m : Node) (g : Graph) (v : ℕ) → everyVersion parentsLower g ≡ true → v < versionCount g → block (m ∷ g) v ≡ block g v
 unfolding block
 block-old m g v h l = ap laid (shown-old m g v h l)
 
@@ -104,7 +104,7 @@ module _ (s : List ℕ) (g : Graph) (h : Standing s g) (lower : everyVersion par
 
   -- an entry
   module _ (p code strip operand : ℕ) (parent : p < versionCount g) where
-    pub entry-block : entryBlock s (versionCount g) p code strip operand ≡ block (entry p code strip operand ∷ g) (versionCount g)
+    entry-block : entryBlock s (versionCount g) p code strip operand ≡ block (entry p code strip operand ∷ g) (versionCount g)
     unfolding entryBlock nodeBytes boardMade
     entry-block =
         rw (row-shown p parent, board-shown p parent, entry-lineage g p n small)
@@ -156,7 +156,7 @@ module _ (s : List ℕ) (g : Graph) (h : Standing s g) (lower : everyVersion par
     third : l < versionCount g
     third = rw base (meetNumber-below g p q)
 
-    pub merge-block : mergeBlock s (versionCount g) p q l ≡ block (merge p q ∷ g) (versionCount g)
+    merge-block : mergeBlock s (versionCount g) p q l ≡ block (merge p q ∷ g) (versionCount g)
     unfolding mergeBlock nodeBytes boardMade
     merge-block =
         rw (row-shown p first, row-shown q second, board-shown l third, board-shown p first, board-shown q second, merge-lineage g p q n small, base)

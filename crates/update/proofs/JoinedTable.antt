@@ -11,7 +11,7 @@ use lib.ListN.{length, getD}
 use borrow.Author.Tests.{eq-eqb, ne-eqb}
 use Rattle.laws.proofs.Logic.{cond-true, cond-false}
 use Rattle.buffer.specs.Field.{word, putWord}
-use Rattle.buffer.proofs.Stands.{Stands, stands-kept, stands-word}
+use Rattle.buffer.proofs.Stands.{Stands, stands-kept}
 use Rattle.buffer.proofs.Parts.{put-stands}
 use Rattle.buffer.proofs.Writes.{put-length, put-other}
 use Rattle.command.specs.Code.{consoleCount}
@@ -53,7 +53,7 @@ module _ (s : List ℕ) (c d : ℕ) where
   unfolding joinedCommon
   other-console k ne = cond-false _ _ _ (ne-eqb k c ne)
 
-  pub joined-one : (k : ℕ) → length (joinedCommon s c d k) ≡ length s
+  joined-one : (k : ℕ) → length (joinedCommon s c d k) ≡ length s
   joined-one k =
       elim (ℕ-discrete k c)
       [ yes e ↦ ap length (same-console k e) | no ne ↦ ap length (other-console k ne) ∙ common-length s c k _ ]
@@ -74,7 +74,7 @@ module _ (s : List ℕ) (c d : ℕ) where
   joined-length (suc n) = joined-one (joinedCommons s c d n) c d n ∙ joined-length n
 
   -- a byte that is in no field of c and one of the first n consoles stays
-  pub joined-kept : (n i : ℕ) → ((k : ℕ) → k < n → (k ≡ c → ⊥) → Clear c k i) → getD (joinedCommons s c d n) i 0 ≡ getD s i 0
+  joined-kept : (n i : ℕ) → ((k : ℕ) → k < n → (k ≡ c → ⊥) → Clear c k i) → getD (joinedCommons s c d n) i 0 ≡ getD s i 0
   unfolding joinedCommons
   joined-kept zero i f = refl
   joined-kept (suc n) i f =
@@ -96,7 +96,7 @@ module _ (s : List ℕ) (c d : ℕ) where
         ap₂ (λ (a b : ℕ). a * 256 + b) (clear (commonAt j n) (omega arith) (omega arith)) (clear (commonAt j n + 1) (omega arith) (omega arith))
 
     -- the field of c and a console before n, at both of its places
-    pub joined-fields : headerSize ≤ length s → (n k : ℕ) → n ≤ consoleCount → k < n → (k ≡ c → ⊥)
+    joined-fields : headerSize ≤ length s → (n k : ℕ) → n ≤ consoleCount → k < n → (k ≡ c → ⊥)
         → Stands (joinedCommons s c d n) (commonAt c k) (word (max (commonIn s c k) (commonIn s d k)))
         × Stands (joinedCommons s c d n) (commonAt k c) (word (max (commonIn s c k) (commonIn s d k)))
     unfolding joinedCommons
@@ -119,14 +119,6 @@ module _ (s : List ℕ) (c d : ℕ) where
                     (stands-kept (old .0) (λ i p q. put-kept t c n x i (omega arith)), stands-kept (old .1) (λ i p q. put-kept t c n x i (omega arith)))
               ]
         ]
-
-    -- which read as the higher of the two fields
-    pub joined-read : headerSize ≤ length s → (k : ℕ) → k < consoleCount → (k ≡ c → ⊥) → commonIn s c k < 65536 → commonIn s d k < 65536
-        → (commonIn (joinedCommons s c d consoleCount) c k ≡ max (commonIn s c k) (commonIn s d k))
-        × (commonIn (joinedCommons s c d consoleCount) k c ≡ max (commonIn s c k) (commonIn s d k))
-    joined-read long k kl kc x y =
-        let both = joined-fields long consoleCount k (omega arith) kl kc in
-        (stands-word _ (both .0) (omega arith), stands-word _ (both .1) (omega arith))
 
     -- The table with the fields of c joined and its head written: where the old fields were `old`, the new ones are `new`.
     module _ (x : ℕ) (long : headerSize ≤ length s) where

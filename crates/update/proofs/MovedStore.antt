@@ -5,7 +5,7 @@ use mathlib.Core.Bool.{true}
 use mathlib.Core.List.{List}
 use Prim.Native.Nat.{ℕ, _≤_, _<_}
 use native.Mathlib.Omega.{arith}
-use lib.ListN.{length, getD}
+use lib.ListN.{getD}
 use Rattle.buffer.specs.Field.{overwrite}
 use Rattle.buffer.proofs.Rows.{rowFrom-length}
 use Rattle.buffer.proofs.Stands.{stands-kept}

@@ -76,7 +76,6 @@ pub fn put_head(s: &mut [u8], c: Console, field: usize)
 pub fn move_console(s: &mut [u8], c: Console, d: Console)
     requires { ⌜ holdsStore (now s) ≡ true ⌝ }
     requires { ⌜ (c .0 < consoleCount) × (d .0 < consoleCount) ⌝ }
-    requires { ⌜ (c .0 ≡ d .0 → ⊥) ⌝ }
     requires { ⌜ present (roomIn (now s)) (d .0) ≡ true ⌝ }
     requires { ⌜ (present (roomIn (now s)) (c .0) ≡ true → ancestor (roomIn (now s) .versions) (head (roomIn (now s)) (c .0)) (head (roomIn (now s)) (d .0)) ≡ true) ⌝ }
     ensures { λ _. ⌜ now (s .exit) ≡ overwrite (encode (moved (roomIn (now (s .entry))) (c .0) (headOf (roomIn (now (s .entry))) (d .0)))) (now (s .entry)) ⌝ }

@@ -23,8 +23,8 @@ Accepted s c = InRange c × (stepRefusal (roomIn s) c ≡ 0)
 
 -- what `move_console` asks for, of a fork and of a fast-forward
 move-asks : (s : List ℕ) (c d : Console) → TwoConsoles (c .0) (d .0) → MayMove (roomIn s) (c .0) (d .0)
-    → ((c .0 < consoleCount) × (d .0 < consoleCount)) × ((c .0 ≡ d .0 → ⊥) × MayMove (roomIn s) (c .0) (d .0))
-move-asks s c d two may = ((two .0, two .1), (two .2, may))
+    → ((c .0 < consoleCount) × (d .0 < consoleCount)) × MayMove (roomIn s) (c .0) (d .0)
+move-asks s c d two may = ((two .0, two .1), may)
 
 enum-known-c : tie.Need-enum-known-c
 enum-known-c c = search needs
