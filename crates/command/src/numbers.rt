@@ -3,6 +3,9 @@ ghost use mathlib.Core.Path.{_≡_};
 ghost use Rattle.command.specs.Code.{isEntryCode, isConsole, isStrip, isOperand};
 ghost use Rattle.command.specs.Decode.{isCommandCode};
 
+// The number of consoles.
+pub const CONSOLES: usize = 16;
+
 // Whether a code is a command's.
 pub fn is_command_code(code: usize) -> bool
     ensures { λ r. ⌜ r ≡ isCommandCode code ⌝ }
@@ -21,7 +24,7 @@ pub fn is_entry_code(code: usize) -> bool
 pub fn is_console(c: usize) -> bool
     ensures { λ r. ⌜ r ≡ isConsole c ⌝ }
 {
-    c < 16
+    c < CONSOLES
 }
 
 // Whether a number is a strip's.

@@ -7,6 +7,10 @@ use buffer::word_at;
 use store::places::BLOCK;
 use store::places::CONSOLES;
 use store::places::HEADER;
+use store::places::NODE_GIVER;
+use store::places::NODE_OPERAND;
+use store::places::NODE_PARENT;
+use store::places::NODE_STRIP;
 use store::places::common_in;
 ghost use mathlib.Core.Path.{_≡_};
 ghost use Prim.Native.Nat.{suc, _+_, _<_, _≤_};
@@ -24,9 +28,9 @@ fn put_version(s: &[u8], v: usize, tape: &mut [u8], at: usize) -> usize
 {
     let node = HEADER + BLOCK * v;
     let code = wide(s[node]);
-    let parent = word_at(s, node + 4);
+    let parent = word_at(s, node + NODE_PARENT);
     if code == 9 {
-        put_merge(tape, at, parent, word_at(s, node + 6));
+        put_merge(tape, at, parent, word_at(s, node + NODE_GIVER));
         return at + 5;
     }
     put_entry(
@@ -34,8 +38,8 @@ fn put_version(s: &[u8], v: usize, tape: &mut [u8], at: usize) -> usize
         at,
         parent,
         code,
-        wide(s[node + 1]),
-        word_at(s, node + 2),
+        wide(s[node + NODE_STRIP]),
+        word_at(s, node + NODE_OPERAND),
     );
     at + 7
 }

@@ -5,6 +5,8 @@ use buffer::has_member;
 use buffer::word_at;
 use command::Console;
 use graph::Version;
+use store::places::CAPACITY;
+use store::places::COUNT;
 use store::places::common_in;
 use store::places::entries_of;
 use store::places::row_of;
@@ -24,7 +26,7 @@ pub fn capacity_of(s: &[u8]) -> usize
     requires { ⌜ holdsStore (now s) ≡ true ⌝ }
     ensures { λ r. ⌜ (r ≡ roomIn (now (s .entry)) .capacity) × (r ≤ 1024) ⌝ }
 {
-    word_at(s, 0)
+    word_at(s, CAPACITY)
 }
 
 // How many versions it holds, version 0 included.
@@ -32,7 +34,7 @@ pub fn version_count(s: &[u8]) -> usize
     requires { ⌜ holdsStore (now s) ≡ true ⌝ }
     ensures { λ r. ⌜ (r ≡ versionCount (roomIn (now (s .entry)) .versions)) × (r ≤ 1024) ⌝ }
 {
-    word_at(s, 2)
+    word_at(s, COUNT)
 }
 
 // Whether a console is present.

@@ -8,6 +8,7 @@ use command::numbers::is_command_code;
 use io::print_decimal;
 use io::read_full;
 use io::write_all;
+use store::places::COUNT;
 use unit::commands::room_command;
 use unit::opening::room_open;
 use unit::questions::room_common;
@@ -22,9 +23,6 @@ const STORE_BYTES: usize = 38912;
 
 // The longest command.
 const LONGEST: usize = 5;
-
-// Where the store has its number of versions.
-const COUNT: usize = 2;
 
 const STDIN: i32 = 0;
 

@@ -7,7 +7,12 @@ ghost use Rattle.command.specs.Code.{consoleCount};
 ghost use Rattle.store.specs.Layout.{headerSize, rowSize, blockAt, commonAt};
 ghost use Rattle.store.specs.Check.{rowPart, boardPart, entriesPart, commonIn};
 
-// Sizes in bytes; COMMONS is where the table of commons starts, CONSOLES the number of consoles.
+// The most versions that a store can hold, and the number of consoles.
+pub const MAX_CAPACITY: usize = 1024;
+
+pub const CONSOLES: usize = command::numbers::CONSOLES;
+
+// Sizes in bytes.
 pub const HEADER: usize = 4096;
 
 pub const BLOCK: usize = 544;
@@ -18,7 +23,11 @@ pub const ROW: usize = 128;
 
 pub const BOARD: usize = 384;
 
-// The spare bytes behind capacity and count, the row of entries, the table of commons and its end.
+// Places in the header: the capacity, the number of versions, the spare bytes behind them, the row of entries, the table of commons and its end.
+pub const CAPACITY: usize = 0;
+
+pub const COUNT: usize = 2;
+
 pub const SPARE: usize = 4;
 
 pub const ENTRIES: usize = 128;
@@ -27,7 +36,16 @@ pub const COMMONS: usize = 256;
 
 pub const COMMONS_END: usize = 768;
 
-pub const CONSOLES: usize = 16;
+// Places in a node, which has its code at its front. The parent of a merge is the receiver's version.
+pub const NODE_STRIP: usize = 1;
+
+pub const NODE_OPERAND: usize = 2;
+
+pub const NODE_PARENT: usize = 4;
+
+pub const NODE_GIVER: usize = 6;
+
+pub const NODE_BASE: usize = 8;
 
 // The place of the field of two consoles in the table of commons.
 pub fn common_at(c: usize, d: usize) -> usize

@@ -5,24 +5,23 @@ use crate::answers::refused;
 use crate::answers::size;
 use store::places::BLOCK;
 use store::places::HEADER;
+use store::places::MAX_CAPACITY;
 use update::open::open;
 ghost use mathlib.Core.Path.{_≡_};
 ghost use Rattle.unit.specs.Calls.{openRefusal, openOutcome};
-
-// The most versions that a store can hold.
-const MAX_CAPACITY: u32 = 1024;
 
 // Why a room of this capacity can't be opened in this buffer, or 0.
 fn opening_refusal(capacity: u32, store: &[u8]) -> u32
     ensures { λ r. ⌜ r ≡ openRefusal capacity (now (store .entry)) ⌝ }
 {
-    if capacity < 1 {
+    let versions = size(capacity);
+    if versions < 1 {
         return 8;
     }
-    if MAX_CAPACITY < capacity {
+    if MAX_CAPACITY < versions {
         return 8;
     }
-    if store.len() < HEADER + BLOCK * size(capacity) {
+    if store.len() < HEADER + BLOCK * versions {
         return 19;
     }
     0

@@ -12,29 +12,29 @@ use query::heard_count;
 use query::is_present;
 use store::judge::holds;
 use store::places::BOARD;
+use store::places::CONSOLES;
 ghost use mathlib.Core.Path.{_≡_};
 ghost use Rattle.unit.specs.Calls.{boardRefusal, boardOutcome, heardReply, pairRefusal, commonReply};
-
-// The number of consoles.
-const CONSOLES: u32 = 16;
 
 // Why two consoles of a store can't be asked after, or 0.
 fn pair_refusal(store: &[u8], first: u32, second: u32) -> u32
     ensures { λ r. ⌜ r ≡ pairRefusal (now (store .entry)) first second ⌝ }
 {
-    if CONSOLES <= first {
+    let c = size(first);
+    let d = size(second);
+    if CONSOLES <= c {
         return 3;
     }
-    if CONSOLES <= second {
+    if CONSOLES <= d {
         return 3;
     }
     if !holds(store) {
         return 11;
     }
-    if !is_present(store, Console(size(first))) {
+    if !is_present(store, Console(c)) {
         return 12;
     }
-    if !is_present(store, Console(size(second))) {
+    if !is_present(store, Console(d)) {
         return 12;
     }
     0

@@ -16,6 +16,11 @@ use store::places::BOARD;
 use store::places::ENTRIES;
 use store::places::HEADER;
 use store::places::NODE;
+use store::places::NODE_BASE;
+use store::places::NODE_GIVER;
+use store::places::NODE_OPERAND;
+use store::places::NODE_PARENT;
+use store::places::NODE_STRIP;
 use store::places::ROW;
 use store::places::board_of;
 ghost use mathlib.Core.Path.{_≡_};
@@ -67,9 +72,9 @@ fn write_entry(note: &mut [u8], p: usize, code: usize, strip: usize, operand: us
 {
     clear(note);
     put_byte(note, 0, code);
-    put_byte(note, 1, strip);
-    put_word(note, 2, operand);
-    put_word(note, 4, p);
+    put_byte(note, NODE_STRIP, strip);
+    put_word(note, NODE_OPERAND, operand);
+    put_word(note, NODE_PARENT, p);
 }
 
 // Writes the node of a merge, all of its bytes.
@@ -79,9 +84,9 @@ fn write_merge(note: &mut [u8], p: usize, q: usize, l: usize)
 {
     clear(note);
     put_byte(note, 0, 9);
-    put_word(note, 4, p);
-    put_word(note, 6, q);
-    put_word(note, 8, l);
+    put_word(note, NODE_PARENT, p);
+    put_word(note, NODE_GIVER, q);
+    put_word(note, NODE_BASE, l);
 }
 
 // Puts the node of an entry into the block of version n.

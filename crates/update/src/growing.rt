@@ -10,6 +10,7 @@ use graph::Version;
 use query::common_of;
 use query::head_of;
 use query::version_count;
+use store::places::COUNT;
 ghost use mathlib.Core.Path.{_≡_};
 ghost use mathlib.Core.Bool.{true, false};
 ghost use Prim.Native.Nat.{_<_};
@@ -20,9 +21,6 @@ ghost use Rattle.command.specs.Code.{consoleCount, isEntryCode, isOperand};
 ghost use Rattle.room.specs.Room.{present, head};
 ghost use Rattle.room.specs.Step.{behind, someThirdSplits, grown};
 ghost use Rattle.store.specs.Layout.{encode, roomIn, holdsStore};
-
-// The place of the number of versions.
-const COUNT: usize = 2;
 
 // Makes an entry on a console's head.
 pub fn enter(s: &mut [u8], c: Console, code: usize, strip: Strip, operand: usize)

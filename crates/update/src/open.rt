@@ -2,7 +2,9 @@
 use buffer::clear;
 use buffer::put_word;
 use store::places::BLOCK;
+use store::places::CAPACITY;
 use store::places::COMMONS;
+use store::places::COUNT;
 use store::places::HEADER;
 use store::places::NODE;
 ghost use mathlib.Core.Path.{_≡_};
@@ -21,8 +23,8 @@ pub fn open(s: &mut [u8], capacity: usize)
     let end = HEADER + BLOCK * capacity;
     let row = HEADER + NODE;
     clear(&mut s[..end]);
-    put_word(s, 0, capacity);
-    put_word(s, 2, 1);
+    put_word(s, CAPACITY, capacity);
+    put_word(s, COUNT, 1);
     // console 0 is on version 0, and a field is 1 more than its version
     put_word(s, COMMONS, 1);
     // version 0 is its own only ancestor

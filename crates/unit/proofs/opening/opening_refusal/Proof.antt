@@ -6,18 +6,18 @@ use Rattle.unit.proofs.Answered.{opening-eight, opening-nineteen, openi
 use Rattle.unit.proofs.opening.opening_refusal.Statement.{statement}
 use Rattle.unit.proofs.opening.opening_refusal.Tie as tie
 
+size-requires : tie.Need-size-requires
+size-requires c κs = omega arith
+
 returns : tie.Need-returns
 returns c =
-    let a = c .before .before .args in
+    let a = c .before .before .before .args in
     opening-eight (a .capacity) (a .store .now) (capacity-low (a .capacity) (omega arith))
 
 returns-2 : tie.Need-returns-2
 returns-2 c =
-    let a = c .before .before .before .args in
+    let a = c .before .before .before .before .args in
     opening-eight (a .capacity) (a .store .now) (capacity-high (a .capacity) (omega arith))
-
-size-requires : tie.Need-size-requires
-size-requires c κs = omega arith
 
 mul-if3 : tie.Need-mul-if3
 mul-if3 c = omega arith
@@ -37,4 +37,4 @@ returns-4 c =
 
 pub opening-refusal-spec : {M : Type 1} → statement M
 opening-refusal-spec =
-    tie.close (tie.spec returns returns-2 size-requires mul-if3 add-if3 returns-3 returns-4)
+    tie.close (tie.spec size-requires returns returns-2 mul-if3 add-if3 returns-3 returns-4)
