@@ -1,8 +1,8 @@
 -- How long a command can be: its code says 3 to 5 bytes.
 -- Assumes nothing.
 use Prim.Native.Nat.{ℕ, _≤_}
-use mathlib.Core.Path.{_≡_}
-use mathlib.Core.Bool.{true}
+use mathlib.Core.Path.{_≡_, refl}
+use mathlib.Core.Bool.{true, false, cond}
 use native.Mathlib.Omega.{arith}
 use native.Mathlib.Decide.{decLe}
 use Rattle.command.specs.Code.{shapeOf, lengthOf}
@@ -10,7 +10,7 @@ use Rattle.command.specs.Decode.{isCommandCode}
 use Rattle.command.proofs.Limits.{within-true}
 use Rattle.command.proofs.Shapes.{shape-settings, shape-marks, shape-counts, shape-pairs}
 
-pub command-bound : (code : ℕ) → isCommandCode code ≡ true → (1 ≤ lengthOf (shapeOf code)) × (lengthOf (shapeOf code) ≤ 5)
+command-bound : (code : ℕ) → isCommandCode code ≡ true → (1 ≤ lengthOf (shapeOf code)) × (lengthOf (shapeOf code) ≤ 5)
 unfolding lengthOf shapeOf
 command-bound code h =
     let w = within-true 1 10 code h in
@@ -30,3 +30,13 @@ command-bound code h =
                 ]
           ]
     ]
+
+-- the answers for a command's code and for any other
+abbrev pub Length : ℕ → ℕ → Type 0
+Length code n = (n ≡ cond (isCommandCode code) (lengthOf (shapeOf code)) 1) × (1 ≤ n) × (n ≤ 5)
+
+pub length-known : (code : ℕ) {n : ℕ} → isCommandCode code ≡ true → n ≡ lengthOf (shapeOf code) → Length code n
+length-known code h e = let b = command-bound code h in rw (e, h) (refl, b .0, b .1)
+
+pub length-unknown : (code : ℕ) → isCommandCode code ≡ false → Length code 1
+length-unknown code h = rw h (refl, omega arith, omega arith)

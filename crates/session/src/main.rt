@@ -14,7 +14,11 @@ use unit::opening::room_open;
 use unit::questions::room_common;
 ghost use Prim.Native.Nat.{_≤_};
 ghost use mathlib.Core.Path.{_≡_};
+ghost use mathlib.Core.Bool.{cond, _||_};
+ghost use lib.Dec.{eqb, ltb};
 ghost use lib.ListN.{length};
+ghost use Rattle.command.specs.Code.{shapeOf, lengthOf};
+ghost use Rattle.command.specs.Decode.{isCommandCode};
 ghost use Rattle.io.specs.Counts.{Counts};
 
 const CAPACITY: u32 = 64;
@@ -30,7 +34,7 @@ const STDOUT: i32 = 1;
 
 // How many bytes a command with this code takes; an unknown code stands alone.
 fn command_length(code: usize) -> usize
-    ensures { λ r. ⌜ (1 ≤ r) × (r ≤ 5) ⌝ }
+    ensures { λ r. ⌜ (r ≡ cond (isCommandCode code) (lengthOf (shapeOf code)) 1) × (1 ≤ r) × (r ≤ 5) ⌝ }
 {
     if is_command_code(code) {
         return length_of(widths_of(code));
@@ -84,7 +88,9 @@ fn read_command(command: &mut [u8]) -> usize
 }
 
 // Whether the program goes on after this answer.
-fn goes_on(answer: u32) -> bool {
+fn goes_on(answer: u32) -> bool
+    ensures { λ r. ⌜ r ≡ (eqb answer 0 || ltb 2 answer) ⌝ }
+{
     (answer == 0) | (2 < answer)
 }
 

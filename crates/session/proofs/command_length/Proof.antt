@@ -1,8 +1,9 @@
 -- `session::command_length` meets its contract.
 -- Assumes nothing.
-use mathlib.Core.Path.{sym, _∙_}
+use mathlib.Core.Path.{sym, ap, _∙_}
+use Rattle.command.specs.Code.{lengthOf}
 use Rattle.command.proofs.Shapes.{narrow-shape}
-use Rattle.session.proofs.Lengths.{command-bound}
+use Rattle.session.proofs.Lengths.{length-known, length-unknown}
 use borrow.Author.Needs.{needs}
 use Rattle.session.proofs.command_length.Statement.{statement}
 use Rattle.session.proofs.command_length.Tie as tie
@@ -19,11 +20,11 @@ length-of-requires c κs = rw (c .widths-of .ensures) (narrow-shape (c .before .
 returns : tie.Need-returns
 returns c =
     let then = c .before .before in
-    rw (c .length-of .ensures, c .before .widths-of .ensures)
-    (command-bound (then .before .before .args .code) (sym (then .before .is-command-code .ensures) ∙ then .if1 .taken))
+    length-known (then .before .before .args .code) (sym (then .before .is-command-code .ensures) ∙ then .if1 .taken)
+    (c .length-of .ensures ∙ ap lengthOf (c .before .widths-of .ensures))
 
 returns-2 : tie.Need-returns-2
-returns-2 c = search needs
+returns-2 c = length-unknown (c .before .before .args .code) (sym (c .before .is-command-code .ensures) ∙ c .if1 .left)
 
 pub command-length-spec : {M : Type 1} → statement M
 command-length-spec =
