@@ -16,9 +16,16 @@ const PAPER_INPUT: [u8; 20] = [
 ];
 const PAPER_LINES: &str = "1 0 0\n2 0 1\n3 0 2\n4 0 3\n5 0 3\n6 14 3\nend 4\n";
 
-/// The session program that the environment's ROOM_SESSION names.
+/// The session program that the environment's ROOM_SESSION names. Without one it is said, past what captures a test's
+/// own prints, that the program is left out.
 pub fn program() -> Option<PathBuf> {
-    std::env::var_os("ROOM_SESSION").map(PathBuf::from)
+    let named = std::env::var_os("ROOM_SESSION").map(PathBuf::from);
+    if named.is_none() {
+        let skipped =
+            b"skipped: ROOM_SESSION doesn't name the session program, so it isn't compared\n";
+        io::stderr().write_all(skipped).ok();
+    }
+    named
 }
 
 /// What the program prints for an input.

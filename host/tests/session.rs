@@ -6,7 +6,6 @@ use room_host::session::{compare_program, program};
 #[test]
 fn the_session_program_prints_what_the_model_says() {
     let Some(program) = program() else {
-        println!("skipped: ROOM_SESSION doesn't name the session program");
         return;
     };
     match compare_program(&program, seed(), 60) {

@@ -27,7 +27,6 @@ fn compare_calls(tested: Calls, seed: u64) -> Outcome<()> {
 
 fn compare_session(seed: u64) -> Outcome<()> {
     let Some(program) = session::program() else {
-        println!("ROOM_SESSION isn't set: the session program isn't compared");
         return Ok(());
     };
     let (inputs, lines) = session::compare_program(&program, seed, SESSIONS)?;
