@@ -56,12 +56,17 @@ static void write_head(FILE *file, const uint8_t *record)
     fprintf(file, "  c%u -> v%u [arrowhead=none, style=dotted];\n", record[1], field(record, 2));
 }
 
+/* Whether a whole record stands at this place, other than the tape's end. */
+static int has_record(const uint8_t *tape, size_t length, size_t at)
+{
+    return at < length && tape[at] >= START && tape[at] <= HEAD && record_bytes(tape[at]) <= length - at;
+}
+
 void write_graph(FILE *file, const uint8_t *tape, size_t length)
 {
     unsigned version = 0;
     fprintf(file, "digraph room {\n  rankdir=LR;\n  v0 [label=\"0\"];\n");
-    for (size_t at = 0; at + record_bytes(tape[at]) <= length && tape[at] >= START && tape[at] <= HEAD;
-         at += record_bytes(tape[at])) {
+    for (size_t at = 0; has_record(tape, length, at); at += record_bytes(tape[at])) {
         if (tape[at] == ENTRY)
             write_entry(file, ++version, tape + at);
         else if (tape[at] == MERGE)

@@ -1,12 +1,14 @@
 /* A sample operator panel: reads typed commands, line by line, and has the room unit carry them out. `help` lists them. */
+#include <ctype.h>
 #include <stdint.h>
 #include <stdio.h>
+#include <stdlib.h>
 #include <string.h>
 
 #include "panel.h"
 #include "room.h"
 
-enum { LINE_BYTES = 256, COMMAND_BYTES = 5, FIRST_CAPACITY = 64 };
+enum { LINE_BYTES = 256, COMMAND_BYTES = 5, NUMBERS = 3, FIRST_CAPACITY = 64 };
 
 static uint8_t store[ROOM_STORE_BYTES(ROOM_MAX_CAPACITY)];
 static uint8_t tape[ROOM_TAPE_BYTES(ROOM_MAX_CAPACITY)];
@@ -51,7 +53,7 @@ static const struct named_command COMMANDS[] = {
 /* A line that was typed: a word, then up to three numbers or a file's name. */
 struct line {
     char word[16];
-    unsigned number[3];
+    uint32_t number[NUMBERS];
     int numbers;
     char file[LINE_BYTES];
 };
@@ -84,7 +86,7 @@ static void carry_out(const struct named_command *named, const struct line *line
     uint8_t bytes[COMMAND_BYTES] = {named->code};
     size_t length = 1;
     for (int i = 0; i < named->numbers; i++) {
-        unsigned number = line->number[i];
+        uint32_t number = line->number[i];
         int takes_two = named->is_wide && i == named->numbers - 1;
         if (number > (takes_two ? 65535u : 255u)) {
             printf("that number does not fit into the command\n");
@@ -97,7 +99,7 @@ static void carry_out(const struct named_command *named, const struct line *line
     say_done(room_command(store, sizeof store, bytes, length));
 }
 
-static void show_console(unsigned console)
+static void show_console(uint32_t console)
 {
     uint8_t board[ROOM_BOARD_BYTES];
     if (say(room_board(store, sizeof store, console, board, sizeof board)))
@@ -164,16 +166,32 @@ static void graph_to(const char *name)
 
 /* ---- lines ---- */
 
+/* Takes the number at the front of the text; 0 where there is none. One that 32 bits do not hold becomes their highest, for
+   which every command says no too. */
+static int take_number(const char **text, uint32_t *number)
+{
+    *text += strspn(*text, " \t\r\n");
+    if (!isdigit((unsigned char)**text))
+        return 0;
+    char *behind;
+    unsigned long typed = strtoul(*text, &behind, 10);
+    *number = typed < UINT32_MAX ? (uint32_t)typed : UINT32_MAX;
+    *text = behind;
+    return 1;
+}
+
 /* Takes a typed line apart; 0 where it is empty or a comment. */
 static int take_apart(const char *text, struct line *line)
 {
+    int word_end = 0;
     memset(line, 0, sizeof *line);
-    if (sscanf(text, "%15s", line->word) != 1 || line->word[0] == '#')
+    if (sscanf(text, "%15s%n", line->word, &word_end) != 1 || line->word[0] == '#')
         return 0;
-    int found = sscanf(text, "%*s %u %u %u", &line->number[0], &line->number[1], &line->number[2]);
-    line->numbers = found < 0 ? 0 : found;
-    if (sscanf(text, "%*s %255s", line->file) != 1)
+    text += word_end;
+    if (sscanf(text, "%255s", line->file) != 1)
         line->file[0] = '\0';
+    while (line->numbers < NUMBERS && take_number(&text, &line->number[line->numbers]))
+        line->numbers++;
     return 1;
 }
 
