@@ -103,7 +103,7 @@ struct room_reply room_board(const uint8_t *store, size_t store_length, uint32_t
 /* Counts the entries that a console has heard. Refusals 3, 11, 12. */
 struct room_reply room_heard(const uint8_t *store, size_t store_length, uint32_t console);
 
-/* Counts to the common version of two consoles; of a console with itself, its head. Refusals 3, 11, 12. */
+/* Its count is the common version of two consoles; of a console with itself, its head. Refusals 3, 11, 12. */
 struct room_reply room_common(const uint8_t *store, size_t store_length, uint32_t first, uint32_t second);
 
 #ifdef __cplusplus

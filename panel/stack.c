@@ -1,38 +1,26 @@
-/* How much stack the unit's calls use, against what room.h says: each runs in a thread on a painted stack, and what it left is counted. */
-#define _POSIX_C_SOURCE 200809L /* for pthread_attr_setstack */
+/* How much stack each of the unit's calls uses, against what room.h says: each runs in a thread on a painted stack, and what it left is
+   counted. Each is the first call of a process of its own, so that what the loader does to find the unit's C functions counts too. */
+#define _DEFAULT_SOURCE /* for pthread_attr_setstack and MAP_ANONYMOUS */
 #include <pthread.h>
 #include <stdint.h>
 #include <stdio.h>
 #include <stdlib.h>
-#include <string.h>
+#include <sys/mman.h>
+#include <sys/wait.h>
+#include <unistd.h>
 
 #include "room.h"
 
 enum { STACK_BYTES = 1 << 20, PAINT = 0xA5 };
 
-static uint8_t store[ROOM_STORE_BYTES(ROOM_MAX_CAPACITY)];
-static uint8_t tape[ROOM_TAPE_BYTES(ROOM_MAX_CAPACITY)];
-static size_t tape_length;
-static uint8_t board[ROOM_BOARD_BYTES];
+/* What the processes share: the room as the call before left it, and its tape. */
+struct shared {
+    uint8_t store[ROOM_STORE_BYTES(ROOM_MAX_CAPACITY)];
+    uint8_t tape[ROOM_TAPE_BYTES(ROOM_MAX_CAPACITY)];
+    size_t tape_length;
+};
 
-static void *resume(void *unused)
-{
-    (void)unused;
-    return (void *)(uintptr_t)room_resume(tape, tape_length, store, sizeof store).answer;
-}
-
-static void *merge(void *unused)
-{
-    static const uint8_t command[] = {ROOM_MERGE, 0, 1};
-    (void)unused;
-    return (void *)(uintptr_t)room_command(store, sizeof store, command, sizeof command).answer;
-}
-
-static void *show(void *unused)
-{
-    (void)unused;
-    return (void *)(uintptr_t)room_board(store, sizeof store, 0, board, sizeof board).answer;
-}
+static struct shared *shared;
 
 static void fail(const char *what)
 {
@@ -40,21 +28,105 @@ static void fail(const char *what)
     exit(1);
 }
 
-/* Makes an accepted call in a thread of its own; how many bytes of its stack were written, the thread's own few included. */
-static size_t used_by(void *(*call)(void *))
+/* ---- the calls, each of them accepted where main makes it ---- */
+
+static struct room_reply command(uint8_t code, uint8_t first, uint8_t second)
 {
-    uint8_t *stack = aligned_alloc(4096, STACK_BYTES);
+    uint8_t bytes[] = {code, first, second};
+    return room_command(shared->store, sizeof shared->store, bytes, sizeof bytes);
+}
+
+static struct room_reply open_room(void)
+{
+    return room_open(ROOM_MAX_CAPACITY, shared->store, sizeof shared->store);
+}
+
+static struct room_reply fork_2_off_1(void)
+{
+    return command(ROOM_FORK, 2, 1);
+}
+
+static struct room_reply enter_on_1(void)
+{
+    return command(ROOM_CALL, 1, 5);
+}
+
+static struct room_reply merge_1_into_0(void)
+{
+    return command(ROOM_MERGE, 0, 1);
+}
+
+static struct room_reply forward_1_to_0(void)
+{
+    return command(ROOM_FAST_FORWARD, 1, 0);
+}
+
+static struct room_reply pause_room(void)
+{
+    struct room_reply reply = room_pause(shared->store, sizeof shared->store, shared->tape, sizeof shared->tape);
+    shared->tape_length = reply.count;
+    return reply;
+}
+
+static struct room_reply show_board_of_0(void)
+{
+    static uint8_t board[ROOM_BOARD_BYTES];
+    return room_board(shared->store, sizeof shared->store, 0, board, sizeof board);
+}
+
+static struct room_reply ask_heard_by_0(void)
+{
+    return room_heard(shared->store, sizeof shared->store, 0);
+}
+
+static struct room_reply ask_common_of_0_and_1(void)
+{
+    return room_common(shared->store, sizeof shared->store, 0, 1);
+}
+
+static struct room_reply resume_room(void)
+{
+    return room_resume(shared->tape, shared->tape_length, shared->store, sizeof shared->store);
+}
+
+/* ---- one call measured ---- */
+
+struct measured {
+    const char *name;
+    struct room_reply (*call)(void);
+    size_t most;
+};
+
+static void *make(void *measured)
+{
+    if (((const struct measured *)measured)->call().answer != ROOM_ACCEPTED)
+        fail("a measured call was refused");
+    return NULL;
+}
+
+/* Byte by byte, since memset must not be found before a call looks for it. */
+static uint8_t *painted_stack(void)
+{
+    volatile uint8_t *stack = aligned_alloc(4096, STACK_BYTES);
+    if (stack == NULL)
+        fail("no stack");
+    for (size_t at = 0; at < STACK_BYTES; at++)
+        stack[at] = PAINT;
+    return (uint8_t *)stack;
+}
+
+/* Makes the call in a thread of its own; how many bytes of its stack were written, the thread's own few included. */
+static size_t used_by(struct measured *measured)
+{
+    uint8_t *stack = painted_stack();
     pthread_attr_t attributes;
     pthread_t thread;
-    void *answer = NULL;
-    if (stack == NULL || pthread_attr_init(&attributes) != 0)
-        fail("no stack");
-    memset(stack, PAINT, STACK_BYTES);
-    if (pthread_attr_setstack(&attributes, stack, STACK_BYTES) != 0 || pthread_create(&thread, &attributes, call, NULL) != 0)
+    if (pthread_attr_init(&attributes) != 0)
+        fail("no attributes");
+    if (pthread_attr_setstack(&attributes, stack, STACK_BYTES) != 0 || pthread_create(&thread, &attributes, make, measured) != 0)
         fail("no thread");
-    pthread_join(thread, &answer);
-    if (answer != NULL)
-        fail("the call was refused");
+    pthread_join(thread, NULL);
+    pthread_attr_destroy(&attributes);
     size_t untouched = 0;
     while (untouched < STACK_BYTES && stack[untouched] == PAINT)
         untouched++;
@@ -62,33 +134,56 @@ static size_t used_by(void *(*call)(void *))
     return STACK_BYTES - untouched;
 }
 
-static void check(const char *name, void *(*call)(void *), size_t most)
+static void check(struct measured *measured)
 {
-    size_t used = used_by(call);
-    printf("%s used %zu bytes of stack, room.h says at most %zu\n", name, used, most);
-    if (used > most)
+    size_t used = used_by(measured);
+    printf("%s used %zu bytes of stack, room.h says at most %zu\n", measured->name, used, measured->most);
+    if (used > measured->most)
         fail("too much");
 }
 
-static void command(const uint8_t *bytes, size_t length)
+/* A room with two entries and their merge, so that every measured call has one of each to judge. */
+static void prepare(struct measured *unused)
 {
-    if (room_command(store, sizeof store, bytes, length).answer != ROOM_ACCEPTED)
+    (void)unused;
+    if (open_room().answer != ROOM_ACCEPTED || command(ROOM_FORK, 1, 0).answer != ROOM_ACCEPTED
+        || command(ROOM_CALL, 0, 5).answer != ROOM_ACCEPTED || command(ROOM_CALL, 1, 5).answer != ROOM_ACCEPTED
+        || command(ROOM_MERGE, 0, 1).answer != ROOM_ACCEPTED)
         fail("a command was refused");
+}
+
+/* Runs a part in a process of its own; where that fails, so does this one. */
+static void run_apart(void (*part)(struct measured *), struct measured *measured)
+{
+    int status = 0;
+    pid_t child = fork();
+    if (child == 0) {
+        part(measured);
+        exit(0);
+    }
+    if (child < 0 || waitpid(child, &status, 0) != child || status != 0)
+        fail("a part did not end well");
 }
 
 int main(void)
 {
-    static const uint8_t fork[] = {ROOM_FORK, 1, 0};
-    static const uint8_t first[] = {ROOM_CALL, 0, 5};
-    static const uint8_t second[] = {ROOM_CALL, 1, 5};
-    if (room_open(ROOM_MAX_CAPACITY, store, sizeof store).answer != ROOM_ACCEPTED)
-        fail("opening was refused");
-    command(fork, sizeof fork);
-    command(first, sizeof first);
-    command(second, sizeof second);
-    check("a merge", merge, ROOM_STACK);
-    check("a board", show, ROOM_STACK);
-    tape_length = room_pause(store, sizeof store, tape, sizeof tape).count;
-    check("resume", resume, ROOM_RESUME_STACK);
+    struct measured measured[] = {
+        {"a fork", fork_2_off_1, ROOM_STACK},
+        {"an entry", enter_on_1, ROOM_STACK},
+        {"a merge", merge_1_into_0, ROOM_STACK},
+        {"a fast-forward", forward_1_to_0, ROOM_STACK},
+        {"pause", pause_room, ROOM_STACK},
+        {"board", show_board_of_0, ROOM_STACK},
+        {"heard", ask_heard_by_0, ROOM_STACK},
+        {"common", ask_common_of_0_and_1, ROOM_STACK},
+        {"resume", resume_room, ROOM_RESUME_STACK},
+        {"open", open_room, ROOM_STACK},
+    };
+    shared = mmap(NULL, sizeof *shared, PROT_READ | PROT_WRITE, MAP_SHARED | MAP_ANONYMOUS, -1, 0);
+    if (shared == MAP_FAILED)
+        fail("no memory to share");
+    run_apart(prepare, NULL);
+    for (size_t i = 0; i < sizeof measured / sizeof measured[0]; i++)
+        run_apart(check, &measured[i]);
     return 0;
 }
