@@ -168,6 +168,17 @@ pub fn random_room(rng: &mut Rng, capacity: usize, length: usize) -> Room {
     command_sequence(rng, capacity, length).1
 }
 
+/// So many rooms of several capacities, up to 90, that random command sequences lead to.
+pub fn random_rooms(seed: u64, count: usize) -> Vec<Room> {
+    let rng = &mut Rng::new(seed);
+    (0..count)
+        .map(|_| {
+            let (capacity, length) = (rng.between(1, 90), rng.below(120));
+            random_room(rng, capacity, length)
+        })
+        .collect()
+}
+
 /// A newly opened room with all 16 consoles on version 0.
 fn room_of_all_consoles(capacity: usize) -> Room {
     let mut room = Room::opened(capacity);

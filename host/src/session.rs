@@ -29,7 +29,7 @@ pub fn program() -> Option<PathBuf> {
 }
 
 /// What the program prints for an input.
-fn printed(program: &Path, input: &[u8]) -> io::Result<String> {
+pub fn printed(program: &Path, input: &[u8]) -> io::Result<String> {
     let mut running = Command::new(program)
         .stdin(Stdio::piped())
         .stdout(Stdio::piped())

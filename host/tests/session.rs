@@ -1,7 +1,53 @@
-// The session program against the model. Without ROOM_SESSION there is no program to run.
+// Sessions written out by hand, the paper's among them, as the model and the session program print them; then the program against the
+// model. Without ROOM_SESSION there is no program to run.
 
+use room_host::calls::session;
 use room_host::compare::seed;
-use room_host::session::{compare_program, program};
+use room_host::gen;
+use room_host::rng::Rng;
+use room_host::session::{compare_program, printed, program};
+
+/// Inputs and what is printed for them.
+const SESSIONS: [(&[u8], &str); 12] = [
+    (
+        &[
+            0x01, 0x01, 0x00, 0x02, 0x00, 0x05, 0x00, 0x64, 0x06, 0x01, 0x05, 0x09, 0x00, 0x01,
+            0x0A, 0x01, 0x00, 0x09, 0x00, 0x01,
+        ],
+        "1 0 0\n2 0 1\n3 0 2\n4 0 3\n5 0 3\n6 14 3\nend 4\n",
+    ),
+    (&[], "end 1\n"),
+    (&[0x06, 0x00], "1 2 0\nend 1\n"),
+    (&[0x06], "1 2 -\nend 1\n"),
+    (&[0x06, 0x01], "1 2 -\nend 1\n"),
+    (&[0x06, 0x10], "1 2 -\nend 1\n"),
+    (&[0x0B, 0x00, 0x00], "1 1 -\nend 1\n"),
+    (&[0x00], "1 1 -\nend 1\n"),
+    (&[0x06, 0x10, 0x00], "1 3 -\nend 1\n"),
+    (&[0x06, 0, 32, 0x06, 0, 31], "1 4 0\n2 0 1\nend 2\n"),
+    (&[0x01, 0x02, 0x01], "1 12 -\nend 1\n"),
+    (&[0x06, 0, 0, 0xFF, 0x06, 0, 0], "1 0 1\n2 1 -\nend 2\n"),
+];
+
+fn check_lines(print: impl Fn(&[u8]) -> String) {
+    for (input, expected) in SESSIONS {
+        assert_eq!(print(input), expected);
+    }
+    let full = print(&[0x06, 0, 0].repeat(65));
+    assert!(full.ends_with("\n63 0 63\n64 18 63\n65 18 63\nend 64\n"));
+}
+
+#[test]
+fn the_model_prints_these_lines() {
+    check_lines(session);
+}
+
+#[test]
+fn the_session_program_prints_these_lines() {
+    if let Some(program) = program() {
+        check_lines(|input| printed(&program, input).expect("the program runs"));
+    }
+}
 
 #[test]
 fn the_session_program_prints_what_the_model_says() {
@@ -11,5 +57,15 @@ fn the_session_program_prints_what_the_model_says() {
     match compare_program(&program, seed(), 60) {
         Ok((inputs, lines)) => println!("{inputs} inputs, {lines} lines agree"),
         Err(difference) => panic!("{difference}"),
+    }
+}
+
+#[test]
+fn the_model_ends_every_session() {
+    let mut rng = Rng::new(13);
+    for _ in 0..300 {
+        let printed = session(&gen::garbage(&mut rng, 20_000));
+        let last = printed.lines().last().unwrap_or_default();
+        assert!(last.starts_with("end "), "{last}");
     }
 }

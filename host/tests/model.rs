@@ -1,0 +1,265 @@
+// The model's own definitions, told in second ways on random rooms, and what the generators make.
+
+use room_host::gen;
+use room_host::layout::{self, encode};
+use room_host::model::{
+    decode, parents, room_of_tape, sound, step, tape_of, Command, Entry, Room, Version, CONSOLES,
+};
+use room_host::rng::Rng;
+use std::collections::BTreeSet;
+
+// ---------------------------------------------------------------- sound rooms
+
+#[test]
+fn two_hundred_rooms_come_back_from_tape_and_bytes() {
+    for room in gen::random_rooms(1, 200) {
+        assert!(sound(&room));
+        assert_eq!(room_of_tape(&tape_of(&room)).as_ref(), Ok(&room));
+        assert_eq!(layout::read(&encode(&room)).as_ref(), Some(&room));
+    }
+}
+
+#[test]
+fn every_step_keeps_the_room_sound() {
+    let mut rng = Rng::new(3);
+    for _ in 0..40 {
+        let mut room = Room::opened(48);
+        for _ in 0..150 {
+            let command = gen::likely_command(&mut rng, &room);
+            if let Ok(next) = decode(&command).and_then(|c| step(&room, &c)) {
+                assert!(sound(&next), "{command:02X?}");
+                room = next;
+            }
+        }
+    }
+}
+
+/// Refusal 17 stands exactly where the merge would leave two heads without a common version.
+#[test]
+fn refusal_17_is_exact() {
+    let (mut torn, mut merged) = (0, 0);
+    for room in gen::random_rooms(4, 60) {
+        for receiver in room.present() {
+            for giver in room.present() {
+                let outcome = step(&room, &Command::Merge { receiver, giver });
+                let (Some(one), Some(other)) = (room.head(receiver), room.head(giver)) else {
+                    continue;
+                };
+                let mut forced = room.clone();
+                forced.capacity = 1024;
+                forced.heads[receiver] = Some(forced.versions.len());
+                forced.versions.push(Version::Merge {
+                    receiver: one,
+                    giver: other,
+                });
+                match outcome {
+                    Err(17) => torn += usize::from(!sound(&forced)),
+                    Err(18) | Ok(_) => merged += usize::from(sound(&forced)),
+                    _ => {
+                        assert!(!sound(&forced));
+                        continue;
+                    }
+                }
+                assert_eq!(outcome == Err(17), !sound(&forced));
+            }
+        }
+    }
+    assert!(torn > 50 && merged > 50, "{torn} {merged}");
+}
+
+/// A room of capacity 4 with these versions after version 0, and these heads from console 0 up.
+fn small_room(later: &[Version], heads: &[Option<usize>]) -> Room {
+    let mut room = Room::opened(4);
+    room.versions.extend(later);
+    room.heads[..heads.len()].copy_from_slice(heads);
+    room
+}
+
+fn call_on(parent: usize) -> Version {
+    Version::Entry(Entry {
+        parent,
+        code: 0x06,
+        strip: 0,
+        operand: 0,
+    })
+}
+
+#[test]
+fn sound_clause_by_clause() {
+    let two = small_room(&[call_on(0), call_on(1)], &[Some(2)]);
+    assert!(sound(&two));
+    for (capacity, expected) in [
+        (0, false),
+        (2, false),
+        (3, true),
+        (1024, true),
+        (1025, false),
+    ] {
+        let resized = Room {
+            capacity,
+            ..two.clone()
+        };
+        assert_eq!(sound(&resized), expected);
+    }
+    let forward = small_room(&[call_on(2), call_on(0)], &[Some(1)]);
+    assert!(!sound(&forward), "a parent with a higher number");
+    let own = small_room(&[call_on(1)], &[Some(1)]);
+    assert!(!sound(&own), "a version that is its own parent");
+    let second_start = small_room(&[Version::Start], &[Some(0), Some(1)]);
+    assert!(!sound(&second_start));
+    let mut without_start = small_room(&[], &[Some(0)]);
+    without_start.versions[0] = call_on(0);
+    assert!(!sound(&without_start));
+    let without_0 = small_room(&[call_on(0)], &[None, Some(1)]);
+    assert!(!sound(&without_0));
+    assert_eq!(layout::read(&encode(&without_0)), None);
+    let no_version = small_room(&[], &[Some(0), Some(1)]);
+    assert!(!sound(&no_version), "a head that names no version");
+    let mut nothing = Room::opened(4);
+    nothing.versions.clear();
+    assert!(!sound(&nothing));
+}
+
+/// Soundness of a graph whose fields are in range, told in another way: the ancestors that two versions share are
+/// exactly the ancestors of some one version.
+fn sound_by_sets(room: &Room) -> bool {
+    let count = room.versions.len();
+    let mut sets: Vec<BTreeSet<usize>> = Vec::new();
+    for (number, version) in room.versions.iter().enumerate() {
+        let mut set = BTreeSet::from([number]);
+        for parent in parents(version) {
+            set.extend(&sets[parent]);
+        }
+        sets.push(set);
+    }
+    let shared = |one: usize, other: usize| -> Option<usize> {
+        let both: BTreeSet<usize> = sets[one].intersection(&sets[other]).copied().collect();
+        (0..count).find(|&version| sets[version] == both)
+    };
+    let merges = room.versions.iter().all(|version| match *version {
+        Version::Merge { receiver, giver } => {
+            shared(receiver, giver).is_some_and(|base| base != receiver && base != giver)
+        }
+        _ => true,
+    });
+    let heads = room.present_heads();
+    let commons = heads
+        .iter()
+        .all(|&one| heads.iter().all(|&other| shared(one, other).is_some()));
+    let heard: BTreeSet<usize> = heads
+        .iter()
+        .flat_map(|&head| &sets[head])
+        .copied()
+        .collect();
+    room.heads[0].is_some() && merges && commons && heard.len() == count
+}
+
+#[test]
+fn sound_agrees_with_a_second_telling() {
+    let mut rng = Rng::new(14);
+    let mut seen = [0, 0];
+    for _ in 0..3000 {
+        let version_count = rng.between(1, 14);
+        let room = gen::random_graph(&mut rng, version_count);
+        assert_eq!(sound(&room), sound_by_sets(&room), "{room:?}");
+        seen[usize::from(sound(&room))] += 1;
+    }
+    assert!(seen[0] > 500 && seen[1] > 500, "{seen:?}");
+}
+
+// ---------------------------------------------------------------- the generators
+
+#[test]
+fn full_rooms_of_entries() {
+    for capacity in [64, 256, 1024] {
+        let room = gen::full_of_entries(&mut Rng::new(6), capacity);
+        assert!(sound(&room));
+        assert_eq!(room.versions.len(), capacity);
+        assert_eq!(room.present().len(), CONSOLES);
+        assert_eq!(entry_count(&room), capacity - 1);
+        assert_eq!(layout::read(&encode(&room)), Some(room));
+    }
+}
+
+#[test]
+fn full_rooms_with_a_merge_in_every_second_place() {
+    for capacity in [64, 256, 1024] {
+        let room = gen::full_of_merges(&mut Rng::new(7), capacity);
+        assert!(sound(&room));
+        assert_eq!(room.versions.len(), capacity);
+        assert_eq!(room.present().len(), CONSOLES);
+        for (number, version) in room.versions.iter().enumerate().skip(2) {
+            let merged = matches!(version, Version::Merge { .. });
+            assert_eq!(merged, number % 2 == 1);
+        }
+        assert_eq!(layout::read(&encode(&room)), Some(room));
+    }
+}
+
+#[test]
+fn full_rooms_of_many_seeds_and_capacities() {
+    for seed in 0..60 {
+        let mut rng = Rng::new(seed);
+        let capacity = rng.between(1, 64);
+        assert!(sound(&gen::full_of_entries(&mut rng, capacity)));
+        let room = gen::full_of_merges(&mut rng, capacity);
+        assert!(sound(&room));
+        let merges = capacity - 1 - entry_count(&room);
+        assert_eq!(merges, (capacity / 2).saturating_sub(1));
+    }
+}
+
+fn entry_count(room: &Room) -> usize {
+    let is_entry = |version: &&Version| matches!(version, Version::Entry(_));
+    room.versions.iter().filter(is_entry).count()
+}
+
+#[test]
+fn most_commands_of_a_sequence_are_accepted() {
+    let mut rng = Rng::new(15);
+    let mut accepted_codes = [0; 11];
+    for _ in 0..20 {
+        let (commands, _) = gen::command_sequence(&mut rng, 64, 100);
+        let mut room = Room::opened(64);
+        for command in &commands {
+            if let Ok(next) = decode(command).and_then(|decoded| step(&room, &decoded)) {
+                accepted_codes[usize::from(command[0])] += 1;
+                room = next;
+            }
+        }
+    }
+    assert!(accepted_codes[1..].iter().all(|&count| count > 50));
+    assert!(accepted_codes.iter().sum::<usize>() > 1400);
+}
+
+#[test]
+fn graph_tapes_are_sound_and_unsound() {
+    let mut rng = Rng::new(8);
+    let mut answers = [0; 20];
+    for _ in 0..1000 {
+        let tape = gen::graph_tape(&mut rng);
+        let answer = room_of_tape(&tape).err().unwrap_or(0);
+        answers[answer as usize] += 1;
+    }
+    assert!(answers[0] > 200 && answers[10] > 200, "{answers:?}");
+}
+
+#[test]
+fn damaged_stores_never_trap() {
+    let mut rng = Rng::new(10);
+    let (mut taken, mut refused_ones) = (0, 0);
+    for room in gen::random_rooms(11, 40) {
+        let store = encode(&room);
+        for _ in 0..30 {
+            let damaged = gen::damaged_store(&mut rng, &store);
+            match layout::read(&damaged) {
+                Some(found) => {
+                    assert!(sound(&found) && damaged.starts_with(&encode(&found)));
+                    taken += 1;
+                }
+                None => refused_ones += 1,
+            }
+        }
+    }
+    assert!(taken > 5 && refused_ones > 500, "{taken} {refused_ones}");
+}
