@@ -176,8 +176,18 @@ pub enum Call {
     Common { first: u32, second: u32 },
 }
 
-const CALL_NAMES: [&str; 7] = [
-    "open", "command", "pause", "resume", "board", "heard", "common",
+/// The calls, each with the answers that include/room.h lists for it.
+const LISTED: [(&str, &[usize]); 7] = [
+    ("open", &[0, 8, 19]),
+    (
+        "command",
+        &[0, 1, 2, 3, 4, 5, 6, 11, 12, 13, 14, 15, 16, 17, 18],
+    ),
+    ("pause", &[0, 11, 19]),
+    ("resume", &[0, 7, 8, 9, 10, 19]),
+    ("board", &[0, 3, 11, 12, 19]),
+    ("heard", &[0, 3, 11, 12]),
+    ("common", &[0, 3, 11, 12]),
 ];
 
 impl Call {
@@ -215,7 +225,7 @@ const HIGHEST_REFUSAL: usize = refusal::BUFFER_TOO_SHORT as usize;
 /// How often each call gave each answer.
 #[derive(Clone, Default)]
 pub struct Tally {
-    answers: [[u64; HIGHEST_REFUSAL + 1]; CALL_NAMES.len()],
+    answers: [[u64; HIGHEST_REFUSAL + 1]; LISTED.len()],
 }
 
 impl Tally {
@@ -227,10 +237,24 @@ impl Tally {
         self.answers.iter().map(|answers| answers[answer]).sum()
     }
 
-    /// The answers that were never met.
-    pub fn missing(&self) -> Vec<usize> {
-        (0..=HIGHEST_REFUSAL)
-            .filter(|&answer| self.of_answer(answer) == 0)
+    /// Each listed pair of a call and an answer, and how often it was met.
+    fn pairs(&self) -> impl Iterator<Item = (&'static str, usize, u64)> + '_ {
+        LISTED
+            .iter()
+            .zip(&self.answers)
+            .flat_map(|(&(name, listed), met)| listed.iter().map(move |&a| (name, a, met[a])))
+    }
+
+    /// How many of the listed pairs were met.
+    pub fn pairs_met(&self) -> usize {
+        self.pairs().filter(|&(_, _, met)| met > 0).count()
+    }
+
+    /// The listed pairs that were never met.
+    fn missing(&self) -> Vec<String> {
+        self.pairs()
+            .filter(|&(_, _, met)| met == 0)
+            .map(|(name, answer, _)| format!("{name} {answer}"))
             .collect()
     }
 }
@@ -246,7 +270,7 @@ impl AddAssign<&Tally> for Tally {
 impl fmt::Display for Tally {
     fn fmt(&self, out: &mut fmt::Formatter) -> fmt::Result {
         write!(out, "{:>6}", "answer")?;
-        for name in CALL_NAMES {
+        for (name, _) in LISTED {
             write!(out, " {name:>9}")?;
         }
         writeln!(out, " {:>9}", "all")?;
@@ -860,7 +884,8 @@ pub struct Effort {
     pub steps_at_1024: usize,
 }
 
-/// Compares the implementation with the model on all cases of the seed; every answer is met, or the run has failed.
+/// Compares the implementation with the model on all cases of the seed; each call gives each answer listed for it, or the run has
+/// failed.
 pub fn compare(tested: Calls, seed: u64, effort: Effort) -> Outcome<Tally> {
     let mut tally = Tally::default();
     for round in 0..effort.rounds {
@@ -876,7 +901,9 @@ pub fn compare(tested: Calls, seed: u64, effort: Effort) -> Outcome<Tally> {
     tally += &comparison.tally;
     match tally.missing()[..] {
         [] => Ok(tally),
-        ref missing => Err(format!("seed {seed}: answers never met: {missing:?}")),
+        ref missing => Err(format!(
+            "seed {seed}: pairs of call and answer never met: {missing:?}"
+        )),
     }
 }
 

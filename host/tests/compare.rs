@@ -11,9 +11,10 @@ fn check(tested: Calls) {
     let seed = seed();
     match compare(tested, seed, EFFORT) {
         Ok(tally) => println!(
-            "{tally}model and {} agree in {} calls, seed {seed}",
+            "{tally}model and {} agree in {} calls, {} pairs of call and answer met, seed {seed}",
             tested.name,
-            tally.calls()
+            tally.calls(),
+            tally.pairs_met()
         ),
         Err(difference) => panic!("{difference}"),
     }

@@ -17,9 +17,10 @@ fn compare_calls(tested: Calls, seed: u64) -> Outcome<()> {
     let tally = compare(tested, seed, EFFORT)?;
     print!("{tally}");
     println!(
-        "model and {} agree in {} calls, seed {seed}, {:.1} s",
+        "model and {} agree in {} calls, {} pairs of call and answer met, seed {seed}, {:.1} s",
         tested.name,
         tally.calls(),
+        tally.pairs_met(),
         start.elapsed().as_secs_f64()
     );
     Ok(())
