@@ -147,7 +147,11 @@ fn after(room: &Room, bytes: &[u8]) -> Option<Room> {
 
 /// So many commands for a room opened with this capacity, most of them accepted, and the room they lead to.
 pub fn command_sequence(rng: &mut Rng, capacity: usize, length: usize) -> (Vec<Vec<u8>>, Room) {
-    let mut room = Room::opened(capacity);
+    commands_from(rng, Room::opened(capacity), length)
+}
+
+/// The same from any room on.
+pub fn commands_from(rng: &mut Rng, mut room: Room, length: usize) -> (Vec<Vec<u8>>, Room) {
     let mut commands = Vec::new();
     for _ in 0..length {
         let bytes = if rng.chance(90) {

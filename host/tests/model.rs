@@ -243,23 +243,3 @@ fn graph_tapes_are_sound_and_unsound() {
     }
     assert!(answers[0] > 200 && answers[10] > 200, "{answers:?}");
 }
-
-#[test]
-fn damaged_stores_never_trap() {
-    let mut rng = Rng::new(10);
-    let (mut taken, mut refused_ones) = (0, 0);
-    for room in gen::random_rooms(11, 40) {
-        let store = encode(&room);
-        for _ in 0..30 {
-            let damaged = gen::damaged_store(&mut rng, &store);
-            match layout::read(&damaged) {
-                Some(found) => {
-                    assert!(sound(&found) && damaged.starts_with(&encode(&found)));
-                    taken += 1;
-                }
-                None => refused_ones += 1,
-            }
-        }
-    }
-    assert!(taken > 5 && refused_ones > 500, "{taken} {refused_ones}");
-}

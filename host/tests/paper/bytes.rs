@@ -34,6 +34,15 @@ fn the_layout_of_a_small_store() {
     assert!(block(4).iter().all(|&byte| byte == 0));
 }
 
+#[test]
+fn the_bytes_of_a_new_store() {
+    let mut expected = [0; 4096 + 544];
+    expected[..4].copy_from_slice(&[0, 1, 0, 1]);
+    expected[256..258].copy_from_slice(&[0, 1]);
+    expected[4096 + 32] = 1;
+    assert_eq!(Store::open(1).bytes[..4640], expected);
+}
+
 /// Every changed bit of a store gives 11, save in the capacity, which may name a smaller sound store.
 #[test]
 fn every_changed_bit_is_seen() {
@@ -110,6 +119,40 @@ fn damaged_tapes_never_trap() {
     for answer in [0, 7, 8, 9, 10] {
         assert!(answers[answer] > 20, "{answers:?}");
     }
+}
+
+/// Whether bytes are taken for a store; where they are, its tape must give back every byte of it and leave those behind it.
+fn is_taken(bytes: &[u8]) -> bool {
+    let mut tape = [FILLER; 8000];
+    let reply = tested::pause(bytes, &mut tape);
+    if reply == refused(11) {
+        return false;
+    }
+    assert_eq!(reply.answer, 0);
+    let length = store_bytes(usize::from(u16::from_be_bytes([bytes[0], bytes[1]])));
+    let inverted: Vec<u8> = bytes.iter().map(|byte| !byte).collect();
+    let mut again = inverted.clone();
+    let tape = &tape[..reply.count as usize];
+    assert_eq!(tested::resume(tape, &mut again), accepted(0));
+    assert!(again[..length] == bytes[..length] && again[length..] == inverted[length..]);
+    true
+}
+
+#[test]
+fn damaged_stores_are_refused_or_still_stores() {
+    let mut rng = Rng::new(10);
+    let (mut taken, mut refused_ones) = (0, 0);
+    let stores = gen::random_rooms(11, 40)
+        .into_iter()
+        .flat_map(|room| vec![encode(&room); 30]);
+    for store in stores {
+        if is_taken(&gen::damaged_store(&mut rng, &store)) {
+            taken += 1;
+        } else {
+            refused_ones += 1;
+        }
+    }
+    assert!(taken > 5 && refused_ones > 500, "{taken} {refused_ones}");
 }
 
 #[test]

@@ -46,6 +46,17 @@ impl Store {
         }
     }
 
+    /// The answer to a tape that is resumed over the store; a refusal must leave every byte.
+    pub fn resume(&mut self, tape: &[u8]) -> u32 {
+        let before = self.bytes.clone();
+        let reply = tested::resume(tape, &mut self.bytes);
+        assert_eq!(reply.count, 0);
+        if reply.answer != 0 {
+            assert!(before == self.bytes, "a refused resume wrote something");
+        }
+        reply.answer
+    }
+
     pub fn heard(&self, console: u32) -> Reply {
         tested::heard(&self.bytes, console)
     }
@@ -157,16 +168,15 @@ pub fn tape_with(records: &[&[u8]]) -> Vec<u8> {
     [&[0x20, 0x04, 0x00], records.concat().as_slice(), &[0x24]].concat()
 }
 
-/// The store of a tape, resumed into a buffer of filler, or the refusal, which must leave every byte.
+/// The store of a tape, resumed into a buffer of filler, or the refusal.
 pub fn resumed(tape: &[u8]) -> Result<Store, u32> {
-    let mut bytes = vec![FILLER; store_bytes(1024) + BEHIND];
-    let reply = tested::resume(tape, &mut bytes);
-    assert_eq!(reply.count, 0);
-    if reply.answer == 0 {
-        return Ok(Store { bytes });
+    let mut store = Store {
+        bytes: vec![FILLER; store_bytes(1024) + BEHIND],
+    };
+    match store.resume(tape) {
+        0 => Ok(store),
+        refusal => Err(refusal),
     }
-    assert!(bytes.iter().all(|&byte| byte == FILLER));
-    Err(reply.answer)
 }
 
 /// The answer to a tape.
