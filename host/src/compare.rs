@@ -7,6 +7,7 @@ use crate::model::{code, decode, record, refusal, room_of_tape, step, tape_of, R
 use crate::rng::Rng;
 use crate::{fast, gen, unit};
 use std::fmt;
+use std::iter::repeat_n;
 use std::ops::AddAssign;
 
 // ---------------------------------------------------------------- implementations
@@ -140,6 +141,12 @@ impl Pair {
         self.tested.output = Buffer::of(bytes);
     }
 
+    /// Changes bits of a byte of the store; the same once more changes them back.
+    fn change_store(&mut self, place: usize, bits: u8) {
+        self.model.store.lent_mut()[place] ^= bits;
+        self.tested.store.lent_mut()[place] ^= bits;
+    }
+
     /// Where the buffers of the two sides first differ.
     fn difference(&self) -> Option<String> {
         let sides = [
@@ -269,20 +276,26 @@ impl AddAssign<&Tally> for Tally {
 
 impl fmt::Display for Tally {
     fn fmt(&self, out: &mut fmt::Formatter) -> fmt::Result {
-        write!(out, "{:>6}", "answer")?;
-        for (name, _) in LISTED {
-            write!(out, " {name:>9}")?;
-        }
-        writeln!(out, " {:>9}", "all")?;
-        for answer in 0..=HIGHEST_REFUSAL {
-            write!(out, "{answer:>6}")?;
-            for answers in &self.answers {
-                write!(out, " {:>9}", answers[answer])?;
-            }
-            writeln!(out, " {:>9}", self.of_answer(answer))?;
-        }
-        Ok(())
+        write_row(out, "answer", LISTED.map(|(name, _)| name), "all")?;
+        (0..=HIGHEST_REFUSAL).try_for_each(|answer| {
+            let met = self.answers.map(|answers| answers[answer]);
+            write_row(out, answer, met, self.of_answer(answer))
+        })
     }
+}
+
+/// A row of the printed table, with a column for each call.
+fn write_row(
+    out: &mut fmt::Formatter,
+    first: impl fmt::Display,
+    columns: [impl fmt::Display; LISTED.len()],
+    last: impl fmt::Display,
+) -> fmt::Result {
+    write!(out, "{first:>6}")?;
+    for column in columns {
+        write!(out, " {column:>9}")?;
+    }
+    writeln!(out, " {last:>9}")
 }
 
 struct Comparison {
@@ -339,6 +352,13 @@ impl Comparison {
     fn command(&mut self, pair: &mut Pair, bytes: &[u8]) -> Outcome<Reply> {
         pair.lend_input(bytes);
         self.call(Call::Command, pair)
+    }
+
+    fn commands(&mut self, pair: &mut Pair, commands: &[&[u8]]) -> Outcome<()> {
+        for command in commands {
+            self.command(pair, command)?;
+        }
+        Ok(())
     }
 
     fn resume(&mut self, pair: &mut Pair, tape: &[u8]) -> Outcome<Reply> {
@@ -399,6 +419,14 @@ impl Comparison {
         self.call(Call::Common { first, second }, pair)?;
         Ok(())
     }
+}
+
+/// Every pair of one of the first and one of the second, in which the second changes faster.
+fn pairs<A: Copy, B: Copy>(first: &[A], second: &[B]) -> Vec<(A, B)> {
+    first
+        .iter()
+        .flat_map(|&one| second.iter().map(move |&other| (one, other)))
+        .collect()
 }
 
 fn bytes_of_length(rng: &mut Rng, length: usize) -> Vec<u8> {
@@ -618,20 +646,24 @@ fn compare_long_tapes(comparison: &mut Comparison, rng: &mut Rng) -> Outcome<()>
     let lengths = [
         1022, 1023, 1024, 65_534, 65_535, 65_536, 65_537, 65_540, 70_000,
     ];
-    for (capacity, versions) in lengths.into_iter().flat_map(|n| [(1024, n), (1023, n)]) {
-        let chained = rng.chance(50);
-        let mut tape = tape_start(capacity);
-        for version in 0..versions {
-            let parent = if chained { version as u16 } else { 0 };
-            tape.extend(entry_record(parent, code::CALL_COUNTED, 0, 0));
-        }
-        let head = if chained { versions as u16 } else { 0 };
-        tape.extend(tape_end(head));
+    for (versions, capacity) in pairs(&lengths, &[1024, 1023]) {
+        let tape = long_tape(capacity, versions, rng.chance(50));
         let length = output_length(rng, store_bytes(capacity.into()));
         let mut pair = Pair::of_store(&bytes_of_length(rng, length));
         comparison.resume(&mut pair, &tape)?;
     }
     Ok(())
+}
+
+/// A tape of so many entries, each on the one before it, or all on version 0. Numbers beyond 16 bits lose what is above them.
+fn long_tape(capacity: u16, versions: usize, is_chained: bool) -> Vec<u8> {
+    let number = |version: usize| if is_chained { version as u16 } else { 0 };
+    let mut tape = tape_start(capacity);
+    for version in 0..versions {
+        tape.extend(entry_record(number(version), code::CALL_COUNTED, 0, 0));
+    }
+    tape.extend(tape_end(number(versions)));
+    tape
 }
 
 fn tape_start(capacity: u16) -> Vec<u8> {
@@ -659,27 +691,45 @@ fn tape_end(head: u16) -> [u8; 5] {
     [record::HEAD, 0, high, low, record::END]
 }
 
+const EDGE_STRIPS: [u8; 4] = [0, 31, 32, 255];
+const EDGE_OPERANDS: [u16; 11] = [0, 1, 15, 16, 255, 256, 360, 361, 600, 601, 0xFFFF];
+
 /// Codes, strips and operands at and beyond the ends of their ranges, as commands and on tapes.
 fn compare_edges(comparison: &mut Comparison, rng: &mut Rng) -> Outcome<()> {
-    let operands = [0, 1, 15, 16, 255, 256, 360, 361, 600, 601, 0xFFFF];
     let opened = comparison.opened(rng, 3, store_bytes(3))?;
-    for (code, strip) in (0..=0x0B).flat_map(|code| [0, 31, 32, 255].map(|strip| (code, strip))) {
-        for (operand, console) in operands
-            .into_iter()
-            .flat_map(|n| [(n, 0), (n, 15), (n, 16)])
-        {
-            let [high, low] = u16::to_be_bytes(operand);
-            let command = [code, console, strip, high, low];
-            for length in [5, 4, 3] {
-                let mut pair = opened.clone();
-                comparison.command(&mut pair, &command[..length])?;
-            }
-        }
-        for operand in operands {
-            let record = entry_record(0, code, strip, operand);
-            let tape = [&tape_start(3)[..], &record, &tape_end(1)].concat();
-            comparison.resume(&mut opened.clone(), &tape)?;
-        }
+    let codes: Vec<u8> = (0..=0x0B).collect();
+    for (code, strip) in pairs(&codes, &EDGE_STRIPS) {
+        compare_edge_commands(comparison, &opened, code, strip)?;
+        compare_edge_records(comparison, &opened, code, strip)?;
+    }
+    Ok(())
+}
+
+fn compare_edge_commands(
+    comparison: &mut Comparison,
+    opened: &Pair,
+    code: u8,
+    strip: u8,
+) -> Outcome<()> {
+    let operands = pairs(&EDGE_OPERANDS, &[0, 15, 16]);
+    for ((operand, console), length) in pairs(&operands, &[5, 4, 3]) {
+        let [high, low] = operand.to_be_bytes();
+        let command = [code, console, strip, high, low];
+        comparison.command(&mut opened.clone(), &command[..length])?;
+    }
+    Ok(())
+}
+
+fn compare_edge_records(
+    comparison: &mut Comparison,
+    opened: &Pair,
+    code: u8,
+    strip: u8,
+) -> Outcome<()> {
+    for operand in EDGE_OPERANDS {
+        let record = entry_record(0, code, strip, operand);
+        let tape = [&tape_start(3)[..], &record, &tape_end(1)].concat();
+        comparison.resume(&mut opened.clone(), &tape)?;
     }
     Ok(())
 }
@@ -687,24 +737,29 @@ fn compare_edges(comparison: &mut Comparison, rng: &mut Rng) -> Outcome<()> {
 /// Damaged, truncated and plausible stores, each with every call that reads a store.
 fn compare_stores(comparison: &mut Comparison, rng: &mut Rng, count: usize) -> Outcome<()> {
     for _ in 0..count {
-        let (capacity, length) = (rng.between(1, 20), rng.below(60));
-        let store = match rng.below(5) {
-            0 => gen::plausible_store(&gen::random_graph(rng, capacity)),
-            1 => {
-                let reached = gen::random_room(rng, capacity, length);
-                let mut near = gen::near_miss(rng, &reached);
-                near.capacity = near.capacity.max(near.versions.len());
-                gen::plausible_store(&near)
-            }
-            2 => gen::garbage(rng, 8000),
-            _ => {
-                let reached = gen::random_room(rng, capacity, length);
-                gen::damaged_store(rng, &layout::encode(&reached))
-            }
-        };
+        let store = some_store(rng);
         comparison.all_calls(rng, &mut Pair::of_store(&store))?;
     }
     Ok(())
+}
+
+/// Bytes that may look like a store and mostly are none.
+fn some_store(rng: &mut Rng) -> Vec<u8> {
+    let (capacity, length) = (rng.between(1, 20), rng.below(60));
+    match rng.below(5) {
+        0 => gen::plausible_store(&gen::random_graph(rng, capacity)),
+        1 => {
+            let reached = gen::random_room(rng, capacity, length);
+            let mut near = gen::near_miss(rng, &reached);
+            near.capacity = near.capacity.max(near.versions.len());
+            gen::plausible_store(&near)
+        }
+        2 => gen::garbage(rng, 8000),
+        _ => {
+            let reached = gen::random_room(rng, capacity, length);
+            gen::damaged_store(rng, &layout::encode(&reached))
+        }
+    }
 }
 
 /// Every byte of a store changed, one at a time, and the store cut at places of every kind.
@@ -718,12 +773,14 @@ fn compare_every_byte(comparison: &mut Comparison, rng: &mut Rng, capacity: usiz
         } else {
             rng.byte()
         };
-        pair.model.store.lent_mut()[place] ^= bits;
-        pair.tested.store.lent_mut()[place] ^= bits;
+        pair.change_store(place, bits);
         comparison.call(Call::Heard { console: 0 }, &mut pair)?;
-        pair.model.store.lent_mut()[place] ^= bits;
-        pair.tested.store.lent_mut()[place] ^= bits;
+        pair.change_store(place, bits);
     }
+    compare_cut_store(comparison, &store)
+}
+
+fn compare_cut_store(comparison: &mut Comparison, store: &[u8]) -> Outcome<()> {
     for length in (0..store.len()).step_by(37).chain([store.len() - 1]) {
         let mut cut = Pair::of_store(&store[..length]);
         comparison.call(Call::Heard { console: 0 }, &mut cut)?;
@@ -759,51 +816,64 @@ fn compare_garbage(comparison: &mut Comparison, rng: &mut Rng, count: usize) -> 
     Ok(())
 }
 
-/// Numbers at and beyond the ends of their ranges.
+/// Numbers at and beyond the ends of the ranges of capacities and consoles, and of 8, 16 and 32 bits.
+const EDGE_NUMBERS: [u32; 18] = [
+    0,
+    1,
+    2,
+    15,
+    16,
+    17,
+    255,
+    256,
+    257,
+    1023,
+    1024,
+    1025,
+    65_535,
+    65_536,
+    65_537,
+    66_560,
+    1 << 31,
+    u32::MAX,
+];
+
 fn compare_numbers(comparison: &mut Comparison, rng: &mut Rng) -> Outcome<()> {
-    let numbers = [
-        0,
-        1,
-        2,
-        15,
-        16,
-        17,
-        255,
-        256,
-        257,
-        1023,
-        1024,
-        1025,
-        65_535,
-        65_536,
-        65_537,
-        66_560,
-        1 << 31,
-        u32::MAX,
-    ];
-    for capacity in numbers {
+    compare_capacities(comparison, rng)?;
+    let running = layout::encode(&gen::random_room(rng, 8, 20));
+    compare_consoles(comparison, rng, &running)?;
+    compare_consoles(comparison, rng, &[0; 5000])
+}
+
+fn compare_capacities(comparison: &mut Comparison, rng: &mut Rng) -> Outcome<()> {
+    let lengths = |capacity: u32| {
         let needed = store_bytes((capacity as usize).min(1100));
-        for length in [needed, needed - 1, needed + 9, 0, 4096] {
-            comparison.opened(rng, capacity, length)?;
-        }
+        [needed, needed - 1, needed + 9, 0, 4096].map(|length| (capacity, length))
+    };
+    for (capacity, length) in EDGE_NUMBERS.into_iter().flat_map(lengths) {
+        comparison.opened(rng, capacity, length)?;
     }
-    let stores = [layout::encode(&gen::random_room(rng, 8, 20)), vec![0; 5000]];
-    for mut pair in stores.iter().map(|store| Pair::of_store(store)) {
-        for first in numbers {
-            comparison.call(Call::Heard { console: first }, &mut pair)?;
-            comparison.output_call(rng, Call::Board { console: first }, &mut pair, 384)?;
-            comparison.output_call(rng, Call::Board { console: first }, &mut pair, 383)?;
-            for second in numbers {
-                comparison.call(Call::Common { first, second }, &mut pair)?;
-            }
-        }
+    Ok(())
+}
+
+/// The questions to these bytes, for every console and every two.
+fn compare_consoles(comparison: &mut Comparison, rng: &mut Rng, store: &[u8]) -> Outcome<()> {
+    let pair = &mut Pair::of_store(store);
+    for first in EDGE_NUMBERS {
+        comparison.call(Call::Heard { console: first }, pair)?;
+        comparison.output_call(rng, Call::Board { console: first }, pair, 384)?;
+        comparison.output_call(rng, Call::Board { console: first }, pair, 383)?;
+        EDGE_NUMBERS.into_iter().try_for_each(|second| {
+            let asked = comparison.call(Call::Common { first, second }, pair);
+            asked.map(|_| ())
+        })?;
     }
     Ok(())
 }
 
 // ---------------------------------------------------------------- the paper's rooms
 
-/// The paper's rooms as commands, and then every merge and fast-forward in each; they meet the rare refusals.
+/// The paper's rooms as commands, each with its capacity; forks, merges and fast-forwards in them meet the rare refusals.
 const PAPER_ROOMS: [(u32, &[&[u8]]); 4] = [
     (
         64,
@@ -850,15 +920,19 @@ const PAPER_ROOMS: [(u32, &[&[u8]]); 4] = [
 fn compare_paper_rooms(comparison: &mut Comparison, rng: &mut Rng) -> Outcome<()> {
     for (capacity, commands) in PAPER_ROOMS {
         let mut pair = comparison.opened(rng, capacity, store_bytes(capacity as usize))?;
-        for command in commands {
-            comparison.command(&mut pair, command)?;
-        }
-        for (first, second) in (0..5).flat_map(|first| (0..5).map(move |second| (first, second))) {
-            for code in [code::FORK, code::MERGE, code::FAST_FORWARD] {
-                comparison.command(&mut pair.clone(), &[code, first, second])?;
-            }
-        }
+        comparison.commands(&mut pair, commands)?;
+        compare_joinings(comparison, &pair)?;
         comparison.all_calls(rng, &mut pair)?;
+    }
+    Ok(())
+}
+
+/// Every fork, merge and fast-forward of two of the first five consoles.
+fn compare_joinings(comparison: &mut Comparison, pair: &Pair) -> Outcome<()> {
+    let consoles = pairs(&[0, 1, 2, 3, 4], &[0, 1, 2, 3, 4]);
+    let codes = [code::FORK, code::MERGE, code::FAST_FORWARD];
+    for ((first, second), code) in pairs(&consoles, &codes) {
+        comparison.command(&mut pair.clone(), &[code, first, second])?;
     }
     Ok(())
 }
@@ -917,17 +991,9 @@ const SMALL_SESSIONS: [(usize, usize, usize); 5] = [
 ];
 
 fn small_round(comparison: &mut Comparison, rng: &mut Rng) -> Outcome<()> {
-    for (capacity, sessions, steps) in SMALL_SESSIONS {
-        for _ in 0..sessions {
-            session_from_opening(comparison, rng, capacity, steps)?;
-        }
-    }
-    for capacity in [16, 64] {
-        let entries = gen::full_of_entries(rng, capacity);
-        session_from_room(comparison, rng, entries, 40)?;
-        let merges = gen::full_of_merges(rng, capacity);
-        session_from_room(comparison, rng, merges, 40)?;
-    }
+    small_sessions(comparison, rng)?;
+    sessions_from_full_rooms(comparison, rng, 16)?;
+    sessions_from_full_rooms(comparison, rng, 64)?;
     compare_garbage(comparison, rng, 250)?;
     compare_tapes(comparison, rng, 500)?;
     compare_cut_tapes(comparison, rng)?;
@@ -938,6 +1004,27 @@ fn small_round(comparison: &mut Comparison, rng: &mut Rng) -> Outcome<()> {
         compare_every_byte(comparison, rng, capacity)?;
     }
     Ok(())
+}
+
+fn small_sessions(comparison: &mut Comparison, rng: &mut Rng) -> Outcome<()> {
+    let all = SMALL_SESSIONS
+        .into_iter()
+        .flat_map(|(capacity, sessions, steps)| repeat_n((capacity, steps), sessions));
+    for (capacity, steps) in all {
+        session_from_opening(comparison, rng, capacity, steps)?;
+    }
+    Ok(())
+}
+
+fn sessions_from_full_rooms(
+    comparison: &mut Comparison,
+    rng: &mut Rng,
+    capacity: usize,
+) -> Outcome<()> {
+    let entries = gen::full_of_entries(rng, capacity);
+    session_from_room(comparison, rng, entries, 40)?;
+    let merges = gen::full_of_merges(rng, capacity);
+    session_from_room(comparison, rng, merges, 40)
 }
 
 /// The cases that are the same, or nearly so, for every seed.

@@ -1,7 +1,7 @@
 // A fast second implementation of the seven calls, on the bytes of docs/LAYOUT.md: what the benchmark measures the unit against.
 // It judges the whole lent store in every call that reads one, in one pass over the versions: ancestry rows are compared as
 // words, boards as slices. It uses no heap and no unsafe code and keeps nothing between calls. With the model it shares the
-// reply and the names of the refusals, nothing else.
+// reply, the names of the refusals and the way to give one (`refuse_if`), nothing else.
 
 use crate::calls::Reply;
 use crate::model::{refusal, refuse_if};
@@ -136,6 +136,10 @@ fn with_bit<const W: usize>(mut row: [u64; W], version: usize) -> [u64; W] {
 
 fn has_bit(block: &Block, version: usize) -> bool {
     block[ROW_AT + version / 8] >> (version % 8) & 1 == 1
+}
+
+fn ones(row: &Row) -> usize {
+    row.iter().map(|word| word.count_ones() as usize).sum()
 }
 
 /// The bits below the number.
@@ -500,7 +504,7 @@ fn count_heard(store: &[u8], console: usize) -> Result<usize, u32> {
     let (header, blocks) = sound_parts(store)?;
     let row = row_of(&blocks[head_of(header, console)?]);
     let heard = both(&row, &row_at(header, ENTRY_ROW_AT));
-    Ok(heard.iter().map(|word| word.count_ones() as usize).sum())
+    Ok(ones(&heard))
 }
 
 fn find_common(store: &[u8], first: usize, second: usize) -> Result<usize, u32> {
@@ -521,49 +525,56 @@ enum Command {
 }
 
 fn decode(bytes: &[u8]) -> Result<Command, u32> {
-    let entry = |console: u8, code: u8, strip: u8, operand: u16| {
-        refuse_high_console(console.into())?;
-        refuse_if(strip >= STRIPS, refusal::STRIP_TOO_HIGH)?;
-        let entry = Entry {
-            parent: 0,
-            code,
-            strip,
-            operand,
-        };
-        refuse_if(!entry.is_in_range(), refusal::OPERAND_TOO_HIGH)?;
-        Ok(Command::Entry {
-            console: console.into(),
-            entry,
-        })
-    };
     match *bytes {
-        [code @ (0x01 | 0x09 | 0x0A), first, second] => {
-            refuse_high_console(first.max(second).into())?;
-            refuse_if(first == second, refusal::SAME_CONSOLE_TWICE)?;
-            let (first, second) = (first.into(), second.into());
-            Ok(match code {
-                0x01 => Command::Fork {
-                    new: first,
-                    old: second,
-                },
-                0x09 => Command::Merge {
-                    receiver: first,
-                    giver: second,
-                },
-                _ => Command::FastForward {
-                    receiver: first,
-                    giver: second,
-                },
-            })
-        }
+        [code @ (0x01 | 0x09 | 0x0A), first, second] => decode_pair(code, first, second),
         [code @ (0x02 | 0x03), console, strip, high, low] => {
-            entry(console, code, strip, u16::from_be_bytes([high, low]))
+            decode_entry(console, code, strip, u16::from_be_bytes([high, low]))
         }
-        [code @ (0x04 | 0x05), console, strip, mark] => entry(console, code, strip, mark.into()),
-        [code @ (0x06..=0x08), console, strip] => entry(console, code, strip, 0),
+        [code @ (0x04 | 0x05), console, strip, mark] => {
+            decode_entry(console, code, strip, mark.into())
+        }
+        [code @ (0x06..=0x08), console, strip] => decode_entry(console, code, strip, 0),
         [0x01..=0x0A, ..] => Err(refusal::WRONG_LENGTH),
         _ => Err(refusal::NO_SUCH_COMMAND),
     }
+}
+
+/// A fork, merge or fast-forward of two consoles.
+fn decode_pair(code: u8, first: u8, second: u8) -> Result<Command, u32> {
+    refuse_high_console(first.max(second).into())?;
+    refuse_if(first == second, refusal::SAME_CONSOLE_TWICE)?;
+    let (first, second) = (first.into(), second.into());
+    Ok(match code {
+        0x01 => Command::Fork {
+            new: first,
+            old: second,
+        },
+        0x09 => Command::Merge {
+            receiver: first,
+            giver: second,
+        },
+        _ => Command::FastForward {
+            receiver: first,
+            giver: second,
+        },
+    })
+}
+
+/// An entry, whose parent is found in the store later.
+fn decode_entry(console: u8, code: u8, strip: u8, operand: u16) -> Result<Command, u32> {
+    refuse_high_console(console.into())?;
+    refuse_if(strip >= STRIPS, refusal::STRIP_TOO_HIGH)?;
+    let entry = Entry {
+        parent: 0,
+        code,
+        strip,
+        operand,
+    };
+    refuse_if(!entry.is_in_range(), refusal::OPERAND_TOO_HIGH)?;
+    Ok(Command::Entry {
+        console: console.into(),
+        entry,
+    })
 }
 
 fn obey(store: &mut [u8], command: &[u8]) -> Result<usize, u32> {
@@ -749,15 +760,30 @@ fn fill_merge(
 
 fn write_tape(store: &[u8], tape: &mut [u8]) -> Result<usize, u32> {
     let (header, blocks) = sound_parts(store)?;
-    let held = &blocks[1..number(header, COUNT_AT)];
-    let entries = row_at(header, ENTRY_ROW_AT);
-    let entry_count: usize = entries.iter().map(|word| word.count_ones() as usize).sum();
-    let present = |console: &usize| common_field(header, *console, *console) != 0;
-    let head_count = (0..CONSOLES).filter(present).count();
-    let length = 3 + 7 * entry_count + 5 * (held.len() - entry_count) + 4 * head_count + 1;
+    let later = &blocks[1..number(header, COUNT_AT)];
+    let length = tape_length(header, later.len());
     let tape = tape.get_mut(..length).ok_or(refusal::BUFFER_TOO_SHORT)?;
-    let mut rest = put_record(tape, [0x20, header[0], header[1]]);
-    for block in held {
+    let rest = put_record(tape, [0x20, header[0], header[1]]);
+    let rest = put_versions(rest, later);
+    let rest = put_heads(rest, header);
+    put_record(rest, [0x24]);
+    Ok(length)
+}
+
+/// The length of the tape of a store with so many versions after version 0.
+fn tape_length(header: &Header, later: usize) -> usize {
+    let entries = ones(&row_at(header, ENTRY_ROW_AT));
+    3 + 7 * entries + 5 * (later - entries) + 4 * present(header).count() + 1
+}
+
+/// The present consoles, rising.
+fn present(header: &Header) -> impl Iterator<Item = usize> + '_ {
+    (0..CONSOLES).filter(|&console| common_field(header, console, console) != 0)
+}
+
+fn put_versions<'a>(tape: &'a mut [u8], later: &[Block]) -> &'a mut [u8] {
+    let mut rest = tape;
+    for block in later {
         let [code, strip, high, low, parent_high, parent_low, giver_high, giver_low, ..] = *block;
         rest = if code == MERGE_CODE {
             put_record(rest, [0x22, parent_high, parent_low, giver_high, giver_low])
@@ -768,13 +794,17 @@ fn write_tape(store: &[u8], tape: &mut [u8]) -> Result<usize, u32> {
             )
         };
     }
-    for console in (0..CONSOLES).filter(present) {
+    rest
+}
+
+fn put_heads<'a>(tape: &'a mut [u8], header: &Header) -> &'a mut [u8] {
+    let mut rest = tape;
+    for console in present(header) {
         let head = common_field(header, console, console) - 1;
         let [high, low] = (head as u16).to_be_bytes();
         rest = put_record(rest, [0x23, console as u8, high, low]);
     }
-    put_record(rest, [0x24]);
-    Ok(length)
+    rest
 }
 
 /// Writes one record at the front, which is long enough, and gives what is behind it.
@@ -923,23 +953,37 @@ impl<const N: usize, const W: usize> Graph<N, W> {
     }
 
     /// The table of commons as fields, where every two heads have a common version and every version leads to a head.
-    fn commons(&self, tape: &Tape) -> Option<[[u16; CONSOLES]; CONSOLES]> {
-        let mut fields = [[0; CONSOLES]; CONSOLES];
+    fn commons(&self, tape: &Tape) -> Option<Commons> {
+        let mut fields = Commons::default();
         let mut covered = [0; W];
         for (place, record) in tape.heads.iter().enumerate() {
-            let (console, head) = head_in(record);
-            covered = either(&covered, &self.rows[head]);
-            for record in &tape.heads[..=place] {
-                let (other, other_head) = head_in(record);
-                let field = self.lowest_common(head, other_head)? as u16 + 1;
-                fields[console][other] = field;
-                fields[other][console] = field;
-            }
+            covered = either(&covered, &self.rows[head_in(record).1]);
+            self.put_commons(&mut fields, record, &tape.heads[..=place])?;
         }
         let all = bits_below(tape.count);
         covered.iter().eq(&all[..W]).then_some(fields)
     }
+
+    /// Puts a console's common versions with these others, where it has them.
+    fn put_commons(
+        &self,
+        fields: &mut Commons,
+        record: &[u8; 4],
+        others: &[[u8; 4]],
+    ) -> Option<()> {
+        let (console, head) = head_in(record);
+        for record in others {
+            let (other, other_head) = head_in(record);
+            let field = self.lowest_common(head, other_head)? as u16 + 1;
+            fields[console][other] = field;
+            fields[other][console] = field;
+        }
+        Some(())
+    }
 }
+
+/// The table of commons as it stands in a header.
+type Commons = [[u16; CONSOLES]; CONSOLES];
 
 // Not inlined, so that a short tape doesn't pay for the rows of a long one.
 #[inline(never)]
@@ -959,6 +1003,17 @@ fn resume_graph<const N: usize, const W: usize>(
     unused.as_flattened_mut().fill(0);
     held[0].fill(0);
     held[0][ROW_AT] = 1;
+    write_versions(&graph, tape, header, held);
+    Ok(0)
+}
+
+/// The blocks of the tape's versions, and their row of entries.
+fn write_versions<const N: usize, const W: usize>(
+    graph: &Graph<N, W>,
+    tape: &Tape,
+    header: &mut Header,
+    held: &mut [Block],
+) {
     let mut rest = tape.versions;
     for version in 1..tape.count {
         let Some((node, behind)) = split_version(rest) else {
@@ -979,5 +1034,4 @@ fn resume_graph<const N: usize, const W: usize>(
             }
         }
     }
-    Ok(0)
 }

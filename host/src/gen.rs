@@ -202,7 +202,10 @@ fn with_entry(rng: &mut Rng, room: &Room) -> Room {
 
 /// A full room of 16 consoles with entries alone.
 pub fn full_of_entries(rng: &mut Rng, capacity: usize) -> Room {
-    let mut room = room_of_all_consoles(capacity);
+    filled_with_entries(rng, room_of_all_consoles(capacity))
+}
+
+fn filled_with_entries(rng: &mut Rng, mut room: Room) -> Room {
     while room.versions.len() < room.capacity {
         room = with_entry(rng, &room);
     }
@@ -222,10 +225,7 @@ pub fn full_of_merges(rng: &mut Rng, capacity: usize) -> Room {
         };
         room = next;
     }
-    while room.versions.len() < room.capacity {
-        room = with_entry(rng, &room);
-    }
-    room
+    filled_with_entries(rng, room)
 }
 
 /// The pairs of neighbours of a random tree of the 16 consoles.
@@ -334,16 +334,9 @@ fn random_merge(rng: &mut Rng, room: &Room) -> Version {
     }
 }
 
-/// Heads that mostly cover the graph: the versions without children, then a few others, console 0 included.
+/// Heads of console 0 and some others.
 fn random_heads(rng: &mut Rng, room: &Room) -> [Option<usize>; CONSOLES] {
-    let mut chosen = rng.shuffled(&childless(room));
-    if rng.chance(15) {
-        chosen.pop();
-    }
-    chosen.truncate(CONSOLES);
-    for _ in 0..rng.below(3).max(usize::from(chosen.is_empty())) {
-        chosen.push(rng.below(room.versions.len()));
-    }
+    let chosen = chosen_heads(rng, room);
     let mut heads = [None; CONSOLES];
     let others: Vec<usize> = (1..CONSOLES).collect();
     let mut consoles = rng.shuffled(&others);
@@ -354,6 +347,19 @@ fn random_heads(rng: &mut Rng, room: &Room) -> [Option<usize>; CONSOLES] {
         }
     }
     heads
+}
+
+/// Versions that mostly cover the graph: those without children, then a few others; at least one.
+fn chosen_heads(rng: &mut Rng, room: &Room) -> Vec<usize> {
+    let mut chosen = rng.shuffled(&childless(room));
+    if rng.chance(15) {
+        chosen.pop();
+    }
+    chosen.truncate(CONSOLES);
+    for _ in 0..rng.below(3).max(usize::from(chosen.is_empty())) {
+        chosen.push(rng.below(room.versions.len()));
+    }
+    chosen
 }
 
 fn childless(room: &Room) -> Vec<usize> {

@@ -89,12 +89,14 @@ fn put_header(bytes: &mut [u8], room: &Room, common_of: &dyn Fn(usize, usize) ->
     let is_entry = |version: &Version| matches!(version, Version::Entry(_));
     let entries: Vec<bool> = room.versions.iter().map(is_entry).collect();
     put_row(bytes, ENTRY_ROW_AT, &entries);
-    for console in 0..CONSOLES {
-        for other in 0..CONSOLES {
-            if let (Some(one_head), Some(other_head)) = (room.head(console), room.head(other)) {
-                let common = common_of(one_head, other_head);
-                put_16_bits(bytes, common_at(console, other), 1 + common);
-            }
+    let present = room.present();
+    let pairs = present
+        .iter()
+        .flat_map(|&console| present.iter().map(move |&other| (console, other)));
+    for (console, other) in pairs {
+        if let (Some(one_head), Some(other_head)) = (room.head(console), room.head(other)) {
+            let common = common_of(one_head, other_head);
+            put_16_bits(bytes, common_at(console, other), 1 + common);
         }
     }
 }

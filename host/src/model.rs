@@ -685,14 +685,19 @@ pub fn tape_of(room: &Room) -> Vec<u8> {
     for version in room.versions.iter().skip(1) {
         push_version(&mut tape, version);
     }
-    for console in room.present() {
-        if let Some(head) = room.head(console) {
-            tape.extend([record::HEAD, console as u8]);
-            push_16_bits(&mut tape, head);
-        }
-    }
+    push_heads(&mut tape, room);
     tape.push(record::END);
     tape
+}
+
+/// A head record for each present console, consoles rising.
+fn push_heads(tape: &mut Vec<u8>, room: &Room) {
+    for (console, head) in room.heads.iter().enumerate() {
+        if let Some(head) = *head {
+            tape.extend([record::HEAD, console as u8]);
+            push_16_bits(tape, head);
+        }
+    }
 }
 
 fn push_16_bits(tape: &mut Vec<u8>, number: usize) {

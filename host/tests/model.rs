@@ -19,48 +19,65 @@ fn two_hundred_rooms_come_back_from_tape_and_bytes() {
     }
 }
 
+/// The accepted commands of a random sequence from opening on, each with the room after it.
+fn accepted_steps(rng: &mut Rng, capacity: usize, length: usize) -> Vec<(Vec<u8>, Room)> {
+    let (commands, _) = gen::command_sequence(rng, capacity, length);
+    let mut room = Room::opened(capacity);
+    let mut steps = Vec::new();
+    for command in commands {
+        if let Ok(next) = decode(&command).and_then(|decoded| step(&room, &decoded)) {
+            room = next;
+            steps.push((command, room.clone()));
+        }
+    }
+    steps
+}
+
 #[test]
 fn every_step_keeps_the_room_sound() {
     let mut rng = Rng::new(3);
-    for _ in 0..40 {
-        let mut room = Room::opened(48);
-        for _ in 0..150 {
-            let command = gen::likely_command(&mut rng, &room);
-            if let Ok(next) = decode(&command).and_then(|c| step(&room, &c)) {
-                assert!(sound(&next), "{command:02X?}");
-                room = next;
-            }
-        }
+    for (command, room) in (0..40).flat_map(|_| accepted_steps(&mut rng, 48, 150)) {
+        assert!(sound(&room), "{command:02X?}");
     }
+}
+
+/// The room with this merge, whatever would refuse it.
+fn forced_merge(room: &Room, receiver: usize, giver: usize) -> Room {
+    let head = |console: usize| room.head(console).expect("the console is present");
+    let mut forced = room.clone();
+    forced.capacity = 1024;
+    forced.heads[receiver] = Some(forced.versions.len());
+    forced.versions.push(Version::Merge {
+        receiver: head(receiver),
+        giver: head(giver),
+    });
+    forced
 }
 
 /// Refusal 17 stands exactly where the merge would leave two heads without a common version.
 #[test]
 fn refusal_17_is_exact() {
+    let rooms = gen::random_rooms(4, 60);
+    let merges = rooms.iter().flat_map(|room| {
+        let pairs = |receiver| {
+            room.present()
+                .into_iter()
+                .map(move |giver| (receiver, giver))
+        };
+        let merge = move |(receiver, giver)| (room, receiver, giver);
+        room.present().into_iter().flat_map(pairs).map(merge)
+    });
     let (mut torn, mut merged) = (0, 0);
-    for room in gen::random_rooms(4, 60) {
-        for receiver in room.present() {
-            for giver in room.present() {
-                let outcome = step(&room, &Command::Merge { receiver, giver });
-                let (Some(one), Some(other)) = (room.head(receiver), room.head(giver)) else {
-                    continue;
-                };
-                let mut forced = room.clone();
-                forced.capacity = 1024;
-                forced.heads[receiver] = Some(forced.versions.len());
-                forced.versions.push(Version::Merge {
-                    receiver: one,
-                    giver: other,
-                });
-                match outcome {
-                    Err(17) => torn += usize::from(!sound(&forced)),
-                    Err(18) | Ok(_) => merged += usize::from(sound(&forced)),
-                    _ => {
-                        assert!(!sound(&forced));
-                        continue;
-                    }
-                }
-                assert_eq!(outcome == Err(17), !sound(&forced));
+    for (room, receiver, giver) in merges {
+        let is_sound = sound(&forced_merge(room, receiver, giver));
+        match step(room, &Command::Merge { receiver, giver }) {
+            Ok(_) | Err(18) => {
+                assert!(is_sound);
+                merged += 1;
+            }
+            Err(refusal) => {
+                assert!(!is_sound);
+                torn += usize::from(refusal == 17);
             }
         }
     }
@@ -120,18 +137,22 @@ fn sound_clause_by_clause() {
     assert!(!sound(&nothing));
 }
 
+/// For each version the set of its ancestors, made of its parents' sets.
+fn ancestor_sets(room: &Room) -> Vec<BTreeSet<usize>> {
+    let mut sets: Vec<BTreeSet<usize>> = Vec::new();
+    for (number, version) in room.versions.iter().enumerate() {
+        let elders = parents(version).flat_map(|parent| sets[parent].iter().copied());
+        let set = elders.chain([number]).collect();
+        sets.push(set);
+    }
+    sets
+}
+
 /// Soundness of a graph whose fields are in range, told in another way: the ancestors that two versions share are
 /// exactly the ancestors of some one version.
 fn sound_by_sets(room: &Room) -> bool {
     let count = room.versions.len();
-    let mut sets: Vec<BTreeSet<usize>> = Vec::new();
-    for (number, version) in room.versions.iter().enumerate() {
-        let mut set = BTreeSet::from([number]);
-        for parent in parents(version) {
-            set.extend(&sets[parent]);
-        }
-        sets.push(set);
-    }
+    let sets = ancestor_sets(room);
     let shared = |one: usize, other: usize| -> Option<usize> {
         let both: BTreeSet<usize> = sets[one].intersection(&sets[other]).copied().collect();
         (0..count).find(|&version| sets[version] == both)
@@ -188,10 +209,10 @@ fn full_rooms_with_a_merge_in_every_second_place() {
         assert!(sound(&room));
         assert_eq!(room.versions.len(), capacity);
         assert_eq!(room.present().len(), CONSOLES);
-        for (number, version) in room.versions.iter().enumerate().skip(2) {
-            let merged = matches!(version, Version::Merge { .. });
-            assert_eq!(merged, number % 2 == 1);
-        }
+        let mut later = room.versions.iter().enumerate().skip(2);
+        assert!(later.all(|(number, version)| {
+            matches!(version, Version::Merge { .. }) == (number % 2 == 1)
+        }));
         assert_eq!(layout::read(&encode(&room)), Some(room));
     }
 }
@@ -218,15 +239,8 @@ fn entry_count(room: &Room) -> usize {
 fn most_commands_of_a_sequence_are_accepted() {
     let mut rng = Rng::new(15);
     let mut accepted_codes = [0; 11];
-    for _ in 0..20 {
-        let (commands, _) = gen::command_sequence(&mut rng, 64, 100);
-        let mut room = Room::opened(64);
-        for command in &commands {
-            if let Ok(next) = decode(command).and_then(|decoded| step(&room, &decoded)) {
-                accepted_codes[usize::from(command[0])] += 1;
-                room = next;
-            }
-        }
+    for (command, _) in (0..20).flat_map(|_| accepted_steps(&mut rng, 64, 100)) {
+        accepted_codes[usize::from(command[0])] += 1;
     }
     assert!(accepted_codes[1..].iter().all(|&count| count > 50));
     assert!(accepted_codes.iter().sum::<usize>() > 1400);

@@ -7,7 +7,9 @@ use room_host::layout::{self, BOARD_BYTES};
 use room_host::model::{code, decode, step, tape_of, Room, CONSOLES};
 use room_host::rng::Rng;
 use room_host::{gen, unit};
+use std::array;
 use std::hint::black_box;
+use std::iter::repeat_with;
 use std::time::Instant;
 
 const SEED: u64 = 20_261_115;
@@ -75,26 +77,14 @@ fn times_of(work: &Work) -> Times {
     let mut store = fresh.clone();
     let mut output = vec![0; tape_of(&work.room).len().max(BOARD_BYTES)];
     let mut shortest = [f64::MAX; 4];
-    let mut note = |place: usize, time: f64| shortest[place] = time.min(shortest[place]);
     for _ in 0..ROUNDS {
-        for _ in 0..RUNS {
-            note(
-                0,
-                seconds(|| assert!(black_box(&store) == black_box(&fresh))),
-            );
-        }
-        for _ in 0..RUNS {
-            note(1, seconds(|| judge(&store)));
-        }
-        for (place, calls) in [(2, UNIT), (3, FAST)] {
-            for _ in 0..RUNS {
-                note(
-                    place,
-                    seconds(|| make(work, &calls, &mut store, &mut output)),
-                );
-                restore(work, &mut store, &fresh);
-            }
-        }
+        let turn = [
+            shortest_of(|| seconds(|| assert!(black_box(&store) == black_box(&fresh)))),
+            shortest_of(|| seconds(|| judge(&store))),
+            shortest_of(|| call_seconds(work, &UNIT, &mut store, &mut output, &fresh)),
+            shortest_of(|| call_seconds(work, &FAST, &mut store, &mut output, &fresh)),
+        ];
+        shortest = array::from_fn(|place| turn[place].min(shortest[place]));
     }
     let [memcmp, soundness, unit, fast] = shortest;
     Times {
@@ -103,6 +93,23 @@ fn times_of(work: &Work) -> Times {
         unit,
         fast,
     }
+}
+
+/// The shortest time of the runs of one turn.
+fn shortest_of(run: impl FnMut() -> f64) -> f64 {
+    repeat_with(run).take(RUNS).fold(f64::MAX, f64::min)
+}
+
+fn call_seconds(
+    work: &Work,
+    calls: &Calls,
+    store: &mut [u8],
+    output: &mut [u8],
+    fresh: &[u8],
+) -> f64 {
+    let time = seconds(|| make(work, calls, store, output));
+    restore(work, store, fresh);
+    time
 }
 
 /// The cheapest question: its cost is the soundness test and the reading of one field.
@@ -164,22 +171,25 @@ fn bench_soundness() {
 /// Resume of tapes of several lengths, and pause of the rooms they give.
 fn bench_tapes() {
     for kind in KINDS {
-        for (name, call, limit) in [("pause", Call::Pause, 1.3), ("resume", Call::Resume, 3.0)] {
-            let what = format!("{name}_{kind}");
-            let works = TAPE_VERSIONS.map(|versions| {
-                let room = full_room(kind, versions + 1);
-                Work {
-                    what: format!("{what}_{versions}"),
-                    call,
-                    input: tape_of(&room),
-                    room,
-                    limit: Some(limit).filter(|_| versions == 1023),
-                }
-            });
-            let times = works.each_ref().map(bench);
-            print_growth(&what, "version", TAPE_VERSIONS, TAPE_VERSIONS, times);
-        }
+        bench_tapes_of("pause", Call::Pause, 1.3, kind);
+        bench_tapes_of("resume", Call::Resume, 3.0, kind);
     }
+}
+
+fn bench_tapes_of(name: &str, call: Call, limit: f64, kind: &str) {
+    let what = format!("{name}_{kind}");
+    let works = TAPE_VERSIONS.map(|versions| {
+        let room = full_room(kind, versions + 1);
+        Work {
+            what: format!("{what}_{versions}"),
+            call,
+            input: tape_of(&room),
+            room,
+            limit: Some(limit).filter(|_| versions == 1023),
+        }
+    });
+    let times = works.each_ref().map(bench);
+    print_growth(&what, "version", TAPE_VERSIONS, TAPE_VERSIONS, times);
 }
 
 /// The calls on a store of capacity 1,024 that holds 1,000 versions.

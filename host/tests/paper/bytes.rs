@@ -116,9 +116,8 @@ fn damaged_tapes_never_trap() {
         };
         answers[answer as usize] += 1;
     }
-    for answer in [0, 7, 8, 9, 10] {
-        assert!(answers[answer] > 20, "{answers:?}");
-    }
+    let often = |answer: usize| answers[answer] > 20;
+    assert!([0, 7, 8, 9, 10].into_iter().all(often), "{answers:?}");
 }
 
 /// Whether bytes are taken for a store; where they are, its tape must give back every byte of it and leave those behind it.

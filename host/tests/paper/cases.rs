@@ -155,12 +155,11 @@ pub fn stuck_store() -> Store {
 fn the_stuck_room() {
     let mut store = stuck_store();
     assert_eq!(store.heads(), [6, 6, 3, 5]);
-    for receiver in 0..16 {
-        for giver in 0..16 {
-            for code in [0x09, 0x0A] {
-                assert_ne!(store.say(&[code, receiver, giver]), 0);
-            }
-        }
+    let joinings = (0..16).flat_map(|receiver| {
+        (0..16).flat_map(move |giver| [[0x09, receiver, giver], [0x0A, receiver, giver]])
+    });
+    for joining in joinings {
+        assert_ne!(store.say(&joining), 0);
     }
     assert_eq!(store.say(&[0x09, 0, 1]), 14);
     assert_eq!(store.say(&[0x09, 0, 2]), 17);
