@@ -58,7 +58,7 @@ struct line {
     char file[LINE_BYTES];
 };
 
-/* Says an answer in words, and whether it was 0. */
+/* Says a refusal in words; whether there was none. */
 static int say(struct room_reply reply)
 {
     if (reply.answer == ROOM_ACCEPTED)

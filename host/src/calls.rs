@@ -150,7 +150,7 @@ pub fn session(input: &[u8]) -> String {
     printed + &format!("end {}\n", version_count(&store))
 }
 
-/// The bytes given to the unit next: a whole command, what is there of one, or an unknown code alone.
+/// How many bytes are taken as the next command: a whole one, what is there of one, or an unknown code alone.
 fn next_length(rest: &[u8]) -> usize {
     let length = rest.first().and_then(|&code| command_length(code));
     length.unwrap_or(1).min(rest.len())

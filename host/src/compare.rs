@@ -788,8 +788,8 @@ fn compare_cut_store(comparison: &mut Comparison, store: &[u8]) -> Outcome<()> {
     Ok(())
 }
 
-/// A store whose capacity field says more than it was made with, in a buffer that is long enough for it: sound with zeros
-/// behind the store and a capacity in range.
+/// A store whose capacity field says more than it was made with, in a buffer that is long enough for it, up to 1,100: sound with
+/// zeros behind the store and a capacity in range.
 fn compare_grown_store(comparison: &mut Comparison, rng: &mut Rng, capacity: usize) -> Outcome<()> {
     let store = layout::encode(&gen::random_room(rng, capacity, 20));
     for (grown, behind) in [(1, 0), (1, rng.byte()), (2, 0), (64_000, 0)] {

@@ -1,7 +1,7 @@
 // A fast second implementation of the seven calls, on the bytes of docs/LAYOUT.md: what the benchmark measures the unit against.
 // It judges the whole lent store in every call that reads one, in one pass over the versions: ancestry rows are compared as
-// words, boards as slices. It uses no heap and no unsafe code and keeps nothing between calls. With the model it shares the
-// reply, the names of the refusals and the way to give one (`refuse_if`), nothing else.
+// words, an entry's board as slices, a merge's many cells at a time. It uses no heap and no unsafe code and keeps nothing between
+// calls. With the model it shares the reply, the names of the refusals and the way to give one (`refuse_if`), nothing else.
 
 use crate::calls::Reply;
 use crate::model::{refusal, refuse_if};

@@ -69,7 +69,8 @@ fn fork_command(rng: &mut Rng, room: &Room) -> Vec<u8> {
     }
 }
 
-/// A merge or fast-forward of two present consoles: the first accepted one of a few tries, else the last tried.
+/// A merge or fast-forward of two present consoles: the first accepted one of a few tries, else the last tried; an entry where there
+/// are no two.
 fn joining_command(rng: &mut Rng, room: &Room, joining_code: u8) -> Vec<u8> {
     let mut bytes = entry_anywhere(rng, room);
     for _ in 0..12 {
@@ -373,7 +374,7 @@ fn childless(room: &Room) -> Vec<usize> {
         .collect()
 }
 
-/// A room one change away from a sound one: a parent, a giver, a head or the capacity is another.
+/// A room at most one change away from a sound one: a head, a parent, a whole version or the capacity is another.
 pub fn near_miss(rng: &mut Rng, sound_room: &Room) -> Room {
     let mut room = sound_room.clone();
     let number = rng.below(room.versions.len());
@@ -403,7 +404,7 @@ fn change_parent(rng: &mut Rng, version: &mut Version, number: usize) {
     }
 }
 
-/// The tape of a graph, sound or not: of commands, of random parents, or one change away from a sound one.
+/// The tape of a graph, sound or not: of commands, of random parents, or at most one change away from a sound one.
 pub fn graph_tape(rng: &mut Rng) -> Vec<u8> {
     let (capacity, length) = (rng.between(1, 40), rng.below(60));
     let room = match rng.below(4) {
@@ -450,7 +451,7 @@ fn change_bits(rng: &mut Rng, bytes: &mut [u8], place: usize) {
     }
 }
 
-/// Where the records of an undamaged tape start and end.
+/// Where the records of a tape start and end, as their codes say; in a damaged one a byte of no code passes for a record.
 fn record_places(tape: &[u8]) -> Vec<(usize, usize)> {
     let mut places = Vec::new();
     let mut start = 0;
@@ -582,7 +583,7 @@ pub fn plausible_store(room: &Room) -> Vec<u8> {
     encode_with(room, &ancestry, &highest)
 }
 
-/// Bytes of any length and content, now and then with a header that looks like a store's.
+/// So many bytes or fewer, of any content or all zero, half the time with a header that begins like a store's.
 pub fn garbage(rng: &mut Rng, longest: usize) -> Vec<u8> {
     let length = rng.below(longest + 1);
     let all_zero = rng.chance(20);

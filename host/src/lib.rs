@@ -1,5 +1,5 @@
 // The test host: an independent model of the room unit, its bytes, its calls, generators of cases, a fast second implementation,
-// the wrapper of the unit itself, and the comparison of both with the model.
+// the wrapper of the unit itself, and the comparison of both, and of the session program, with the model.
 
 pub mod calls;
 pub mod compare;

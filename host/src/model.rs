@@ -56,7 +56,7 @@ pub mod refusal {
     pub const BUFFER_TOO_SHORT: u32 = 19;
 }
 
-/// Ends the caller with the refusal where the condition holds.
+/// The refusal where the condition holds; a `?` behind it ends the caller.
 pub fn refuse_if(condition: bool, refusal: u32) -> Result<(), u32> {
     if condition {
         Err(refusal)
@@ -225,7 +225,7 @@ pub fn heard_count(room: &Room, console: usize) -> Option<usize> {
 
 // ---------------------------------------------------------------- the board
 
-/// One strip, a named cell for each field; counters are whole numbers without bound.
+/// One strip, a named cell for each field; counters have more bits than a room has versions to count.
 #[derive(Clone, Copy, Debug, Default, PartialEq, Eq)]
 pub struct Strip {
     pub level: u16,

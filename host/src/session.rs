@@ -72,7 +72,7 @@ fn ends(command: &[u8]) -> bool {
     refusal == Some(refusal::NO_SUCH_COMMAND) || refusal == Some(refusal::WRONG_LENGTH)
 }
 
-/// An input: commands of which most are accepted, whole or cut or with bytes changed, or garbage.
+/// An input: commands of which most are accepted, whole or cut or with a byte changed, or garbage.
 fn some_input(rng: &mut Rng) -> Vec<u8> {
     let length = rng.below(120);
     let (mut commands, _) = gen::command_sequence(rng, 64, length);

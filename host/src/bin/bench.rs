@@ -1,4 +1,4 @@
-// The benchmark: each line is `ratio WHAT AGAINST VALUE`, the time of one thing divided by the time of another, both measured in this run.
+// The benchmark: after the seed each line is `ratio WHAT AGAINST VALUE`, the time of one thing divided by the time of another, both measured in this run.
 // A time is the shortest of many runs, taken by turns so that both see the same machine. Buffers are warm: nothing is cleared between runs.
 // A line `limit WHAT AGAINST VALUE` behind a ratio says what it may be at most.
 
@@ -53,7 +53,7 @@ struct Times {
     fast: f64,
 }
 
-/// The store as it was before the call: what the call can have written is put back.
+/// The store as it was before the call: what the call can have written is put back. A resume writes the same store again.
 fn restore(work: &Work, store: &mut [u8], fresh: &[u8]) {
     let unused = layout::block_at(work.room.versions.len());
     match work.call {
