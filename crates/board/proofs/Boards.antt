@@ -2,19 +2,17 @@
 -- has one more after the next.
 -- Assumes nothing.
 use Prim.Native.Nat.{ℕ, _+_, _*_, _<_, _≤_}
-use mathlib.Core.Path.{_≡_, refl, sym, ap, ap₂, _∙_}
-use mathlib.Core.Bool.{Bool, true, _&&_}
+use mathlib.Core.Path.{_≡_, refl, ap, ap₂, _∙_}
 use mathlib.Core.List.{List, _++_}
 use native.Mathlib.Numerals.{add-one}
 use native.Mathlib.Omega.{arith}
 use lib.Dec.{eqb}
 use lib.ListN.{length, getD, take}
-use lib.Seq.{take-all, take-add, length-take-le}
+use lib.Seq.{take-all}
 use Rattle.laws.proofs.Lists.{part-at, take-put}
-use Rattle.buffer.specs.Field.{wordAt, part, same}
+use Rattle.buffer.specs.Field.{wordAt, part}
 use Rattle.board.specs.Board.{stripSize, stripCount, boardSize, flagOn, mergeStrip, mergeStrips, mergeBoard}
-use Rattle.board.proofs.Length.{mergeStrip-length, mergeStrips-length}
-use Rattle.buffer.proofs.Compare.{same-append}
+use Rattle.board.proofs.Length.{mergeStrip-length}
 
 -- strip k of a board
 abbrev pub strip : List ℕ → ℕ → List ℕ
@@ -85,32 +83,3 @@ pub merging-finish : {l a b board : List ℕ} {k : ℕ} → Merging l a b board 
 merging-finish {l} {a} {b} {board} {k} m h =
     let e : k ≡ stripCount = omega (arith, m .within) in
     rw (e, take-all boardSize board (omega (arith, m .long))) at (m .done)
-
--- whether the first k strips of a board are those of the merge
-pub record Comparing (l a b board : List ℕ) (told : Bool) (k : ℕ) : Type 0 where
-  pub within : k ≤ stripCount
-  pub right : told ≡ same (take (stripSize * k) board) (mergeStrips l a b k)
-
-pub comparing-start : (l a b board : List ℕ) → Comparing l a b board true 0
-unfolding mergeStrips same
-comparing-start l a b board = record { within = omega arith; right = refl }
-
-pub comparing-step : {l a b board w x y z : List ℕ} {told next : Bool} {k : ℕ} → Comparing l a b board told k → k < stripCount → length board ≡ boardSize
-    → w ≡ strip board k → x ≡ strip l k → y ≡ strip a k → z ≡ strip b k → next ≡ same w (mergeStrip x y z 0) → Comparing l a b board (told && next) (k + 1)
-unfolding mergeStrips
-comparing-step {l} {a} {b} {board} {told = told} {next = next} {k = k} m h long ew ex ey ez e =
-    let at : stripSize * (k + 1) ≡ stripSize * k + stripSize = omega arith in
-    let here : next ≡ same (strip board k) (mergeStrip l a b k) = cc (strip-merged l a b k) in
-    let lengths = length-take-le (stripSize * k) board (omega arith) ∙ sym (mergeStrips-length l a b k) in
-    record {
-      within = omega arith;
-      right =
-          rw (at, take-add (stripSize * k) stripSize board, add-one, same-append (take (stripSize * k) board) (mergeStrips l a b k) (strip board k) (mergeStrip l a b k) lengths)
-          (ap₂ _&&_ (m .right) here);
-    }
-
-pub comparing-finish : {l a b board : List ℕ} {told : Bool} {k : ℕ} → Comparing l a b board told k → length board ≡ boardSize → stripCount ≤ k
-    → told ≡ same board (mergeBoard l a b)
-comparing-finish {l} {a} {b} {board} {told} {k} m long h =
-    let e : k ≡ stripCount = omega (arith, m .within) in
-    rw (e, take-all boardSize board (omega arith)) at (m .right)

@@ -1,6 +1,7 @@
 pub mod Length
 pub mod Cells
 pub mod Marks
+pub mod Turned
 pub mod Strips
 pub mod Boards
 pub mod Entries

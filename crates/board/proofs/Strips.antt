@@ -2,9 +2,10 @@
 -- Assumes nothing.
 use Prim.Native.Nat.{ℕ, _+_}
 use mathlib.Core.Path.{_≡_, refl, ap, _∙_}
-use mathlib.Core.Bool.{Bool, true, false}
+use mathlib.Core.Bool.{Bool, true, false, _&&_, _||_, or-false}
 use mathlib.Core.List.{List, [], _∷_, _++_}
 use native.Mathlib.Omega.{arith}
+use lib.Dec.{ltb}
 use lib.ListN.{length, set, drop-of-length-le}
 use lib.Seq.{sets-eq}
 use mir.Val.{boolByte}
@@ -16,6 +17,14 @@ use Rattle.board.specs.Board.{stripSize, levelAt, headingAt, marksAt, ca
 pub put-rule : (rule : ℕ → ℕ → ℕ → ℕ) (s : List ℕ) (at : ℕ) {t : List ℕ} {x u v w u′ v′ w′ : ℕ} → t ≡ putWord s at x → x ≡ rule u v w
     → u ≡ u′ → v ≡ v′ → w ≡ w′ → t ≡ putWord s at (rule u′ v′ w′)
 put-rule rule s at p e a b c = cc
+
+-- the flag of a merge in one line
+pub flag-rule : (m n : Bool) (l a b : ℕ) → (m && (n || ltb l a)) || (n && ltb l b) ≡ mergeFlag m n l a b
+unfolding mergeFlag
+flag-rule true true l a b = refl
+flag-rule true false l a b = or-false (ltb l a)
+flag-rule false true l a b = refl
+flag-rule false false l a b = refl
 
 byte-bit : (b : Bool) → boolByte b ≡ bit b
 byte-bit true = refl

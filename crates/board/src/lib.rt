@@ -5,10 +5,10 @@ use buffer::put_word;
 use buffer::wide;
 use buffer::word_at;
 ghost use mathlib.Core.Path.{_≡_};
-ghost use Prim.Native.Nat.{_+_, _*_, _^_, _<_};
+ghost use Prim.Native.Nat.{_+_, _*_, _/_, _^_, _<_};
 ghost use lib.Bits.{bitOr};
 ghost use lib.ListN.{length, set};
-ghost use Rattle.buffer.specs.Field.{wordAt, putWord, part, same};
+ghost use Rattle.buffer.specs.Field.{byte, wordAt, putWord, part, same};
 ghost use Rattle.buffer.specs.Row.{bit};
 ghost use Rattle.board.specs.Board.{stripSize, stripCount, boardSize, marksAt, alertsAt, flagAt, flagOn, mergeSetting, mergeMarks, mergeCount, mergeFlag, mergeStrip, mergeBoard, without, enter};
 
@@ -16,6 +16,8 @@ ghost use Rattle.board.specs.Board.{stripSize, stripCount, boardSize, ma
 const STRIP_SIZE: usize = 12;
 
 const STRIP_COUNT: usize = 32;
+
+const BOARD_SIZE: usize = 384;
 
 // The cells of a strip, by their first bytes.
 const LEVEL: usize = 0;
@@ -74,43 +76,52 @@ fn merge_count(l: usize, a: usize, b: usize) -> usize
     if l <= sum { sum - l } else { 0 }
 }
 
-// The alert flag of a merge, of the flags of receiver and giver and of the three alert counts.
+// The alert flag of a merge, of the flags of receiver and giver and of the three alert counts. In one line, as that was faster than
+// branches.
 fn merge_flag(a_on: bool, b_on: bool, l: usize, a: usize, b: usize) -> bool
     ensures { λ r. ⌜ r ≡ mergeFlag «a_on» «b_on» l a b ⌝ }
 {
-    if a_on {
-        if b_on {
-            return true;
-        }
-        return l < a;
-    }
-    if b_on {
-        return l < b;
-    }
-    false
+    (a_on & (b_on | (l < a))) | (b_on & (l < b))
 }
 
-// Writes a merged level or heading into a strip.
+// The 16 bits at a place, low byte first: the machine reads them so at once.
+fn turned_at(s: &[u8], at: usize) -> usize
+    requires { ⌜ at + 1 < length (now s) ⌝ }
+    ensures { λ r. ⌜ (r ≡ byte (wordAt (now (s .entry)) at) * 256 + byte (wordAt (now (s .entry)) at / 256)) × (wordAt (now (s .entry)) at < 65536) ⌝ }
+{
+    wide(s[at]) + wide(s[at + 1]) * 256
+}
+
+// Writes a number's 16 bits at a place, low byte first.
+fn put_turned(s: &mut [u8], at: usize, x: usize)
+    requires { ⌜ at + 1 < length (now s) ⌝ }
+    ensures { λ _. ⌜ now (s .exit) ≡ putWord (now (s .entry)) at (byte x * 256 + byte (x / 256)) ⌝ }
+{
+    s[at] = (x % 256) as u8;
+    s[at + 1] = (x / 256 % 256) as u8;
+}
+
+// Writes a merged level or heading into a strip. The rule is the same whichever byte is first.
 fn merge_setting_at(s: &mut [u8], l: &[u8], a: &[u8], b: &[u8], at: usize)
     requires { ⌜ (at + 1 < length (now s)) × (at + 1 < length (now l)) × (at + 1 < length (now a)) × (at + 1 < length (now b)) ⌝ }
     ensures { λ _. ⌜ now (s .exit) ≡ putWord (now (s .entry)) at (mergeSetting (wordAt (now (l .entry)) at) (wordAt (now (a .entry)) at) (wordAt (now (b .entry)) at)) ⌝ }
 {
-    put_word(
+    put_turned(
         s,
         at,
-        merge_setting(word_at(l, at), word_at(a, at), word_at(b, at)),
+        merge_setting(turned_at(l, at), turned_at(a, at), turned_at(b, at)),
     );
 }
 
-// Writes merged marks into a strip.
+// Writes merged marks into a strip. The rule is the same whichever byte is first.
 fn merge_marks_at(s: &mut [u8], l: &[u8], a: &[u8], b: &[u8], at: usize)
     requires { ⌜ (at + 1 < length (now s)) × (at + 1 < length (now l)) × (at + 1 < length (now a)) × (at + 1 < length (now b)) ⌝ }
     ensures { λ _. ⌜ now (s .exit) ≡ putWord (now (s .entry)) at (mergeMarks (wordAt (now (l .entry)) at) (wordAt (now (a .entry)) at) (wordAt (now (b .entry)) at)) ⌝ }
 {
-    put_word(
+    put_turned(
         s,
         at,
-        merge_marks(word_at(l, at), word_at(a, at), word_at(b, at)),
+        merge_marks(turned_at(l, at), turned_at(a, at), turned_at(b, at)),
     );
 }
 
@@ -178,32 +189,14 @@ pub fn merge_board(board: &mut [u8], l: &[u8], a: &[u8], b: &[u8])
     }
 }
 
-// A strip is the merge of three strips.
-fn is_strip_merged(s: &[u8], l: &[u8], a: &[u8], b: &[u8]) -> bool
-    requires { ⌜ (length (now s) ≡ stripSize) × (length (now l) ≡ stripSize) × (length (now a) ≡ stripSize) × (length (now b) ≡ stripSize) ⌝ }
-    ensures { λ r. ⌜ r ≡ same (now (s .entry)) (mergeStrip (now (l .entry)) (now (a .entry)) (now (b .entry)) 0) ⌝ }
-{
-    let mut merged = [0u8; STRIP_SIZE];
-    merge_strip(&mut merged, l, a, b);
-    is_same(s, &merged)
-}
-
-// A board is the merge of three boards.
+// A board is the merge of three boards. The board that it should be is made and compared whole, which runs on many bytes at a time.
 pub fn is_merged(board: &[u8], l: &[u8], a: &[u8], b: &[u8]) -> bool
     requires { ⌜ (length (now board) ≡ boardSize) × (length (now l) ≡ boardSize) × (length (now a) ≡ boardSize) × (length (now b) ≡ boardSize) ⌝ }
     ensures { λ r. ⌜ r ≡ same (now (board .entry)) (mergeBoard (now (l .entry)) (now (a .entry)) (now (b .entry))) ⌝ }
 {
-    let mut merged = true;
-    for k in 0..STRIP_COUNT {
-        merged = merged
-            & is_strip_merged(
-                strip_of(board, k),
-                strip_of(l, k),
-                strip_of(a, k),
-                strip_of(b, k),
-            );
-    }
-    merged
+    let mut merged = [0u8; BOARD_SIZE];
+    merge_board(&mut merged, l, a, b);
+    is_same(board, &merged)
 }
 
 // Adds 1 to a count of a strip.

@@ -1,65 +1,35 @@
--- `board::is_merged` meets its contract. The invariant of its loop is `Comparing`: whether the first k strips are merged.
+-- `board::is_merged` meets its contract. The merge is written to an array of its own and compared.
 -- Assumes nothing.
-use Prim.Native.Nat.{_-_}
+use mathlib.Core.Path.{ap, _∙_}
 use native.Mathlib.Omega.{arith}
-use Rattle.board.specs.Board.{stripCount}
-use Rattle.board.proofs.Boards.{Comparing, comparing-start, comparing-step, comparing-finish}
+use denote.Ref.{now}
+use Rattle.buffer.specs.Field.{same}
 use Rattle.board.proofs.is_merged.Statement.{statement}
 use Rattle.board.proofs.is_merged.Tie as tie
 
-abbrev Inv-loop : tie.InvT-loop
-Inv-loop board l a b merged₀ k₀ merged k = Comparing l a b board merged k
+slice-aggregate-merge-board : tie.Need-slice-aggregate-merge-board
+slice-aggregate-merge-board c = omega arith
 
-abbrev μ-loop : tie.MeasureT-loop
-μ-loop board l a b merged₀ k₀ merged k = stripCount - k
+merge-board-requires : tie.Need-merge-board-requires
+merge-board-requires c κs = omega arith
 
-loop-holds : tie.Need-loop-holds Inv-loop μ-loop
-loop-holds c = comparing-start _ _ _ _
+slice-aggregate-is-same : tie.Need-slice-aggregate-is-same
+slice-aggregate-is-same c = omega arith
 
-strip-of-requires : tie.Need-strip-of-requires Inv-loop μ-loop
-strip-of-requires c κs = omega arith
+is-same-requires : tie.Need-is-same-requires
+is-same-requires c κs = omega arith
 
-strip-of-requires-2 : tie.Need-strip-of-requires-2 Inv-loop μ-loop
-strip-of-requires-2 c κs = omega arith
-
-strip-of-requires-3 : tie.Need-strip-of-requires-3 Inv-loop μ-loop
-strip-of-requires-3 c κs = omega arith
-
-strip-of-requires-4 : tie.Need-strip-of-requires-4 Inv-loop μ-loop
-strip-of-requires-4 c κs = omega arith
-
-is-strip-merged-requires : tie.Need-is-strip-merged-requires Inv-loop μ-loop
-is-strip-merged-requires c κs = omega arith
-
-add-k : tie.Need-add-k Inv-loop μ-loop
-add-k c = omega arith
-
-loop-less : tie.Need-loop-less Inv-loop μ-loop
-loop-less c = omega arith
-
-loop-again : tie.Need-loop-again Inv-loop μ-loop
-loop-again c =
-    let turn = c .before .before .before .before .before in
-    comparing-step (turn .before .loop .inv) (turn .loop-test .taken) (omega arith)
-    (c .before .before .before .before .strip-of .ensures .0) (c .before .before .before .strip-of2 .ensures .0)
-    (c .before .before .strip-of3 .ensures .0) (c .before .strip-of4 .ensures .0) (c .is-strip-merged .ensures)
-
-returns : tie.Need-returns Inv-loop μ-loop
-returns c = comparing-finish (c .before .loop .inv) (omega arith) (c .loop-test .left)
+returns : tie.Need-returns
+returns c =
+    let start = c .before .before .before .before .before .before .before .before .before in
+    c .is-same .ensures ∙ ap (same (now (start .args .board))) (c .before .before .before .merge-board .ensures)
 
 pub is-merged-spec : {M : Type 1} → statement M
 is-merged-spec =
     tie.close
     (tie.spec
-    Inv-loop
-    μ-loop
-    loop-holds
-    strip-of-requires
-    strip-of-requires-2
-    strip-of-requires-3
-    strip-of-requires-4
-    is-strip-merged-requires
-    add-k
-    loop-less
-    loop-again
+    slice-aggregate-merge-board
+    merge-board-requires
+    slice-aggregate-is-same
+    is-same-requires
     returns)

@@ -14,7 +14,7 @@ marks-without-requires-2 c κs = omega arith
 returns : tie.Need-returns
 returns c =
     let args = c .before .before .args in
-    let small = marks-small (args .l) (args .a) (args .b) (omega arith) (omega arith) in (
+    let small = marks-small 16 (args .l) (args .a) (args .b) (omega arith) (omega arith) in (
       cc,
       rw (c .marks-without2 .ensures, c .before .marks-without .ensures) small,
     )
