@@ -1,8 +1,8 @@
 -- An entry writes within its strip: a board after an entry is the board with its strip as the entry makes it.
 -- Assumes nothing.
-use Prim.Native.Nat.{ℕ, _+_, _-_, _*_, _/_, _^_, _<_, _≤_}
-use mathlib.Core.Path.{_≡_, refl, sym, ap, ap₂, _∙_}
-use mathlib.Core.Bool.{Bool, true, false, cond, _&&_, and-assoc}
+use Prim.Native.Nat.{ℕ, _+_, _*_, _/_, _^_, _<_, _≤_}
+use mathlib.Core.Path.{_≡_, refl, sym, ap, _∙_}
+use mathlib.Core.Bool.{Bool, true, false, cond}
 use mathlib.Core.List.{List, [], _∷_, _++_}
 use native.Mathlib.Nat.{zero-add, suc-add}
 use native.Mathlib.Omega.{arith}
@@ -11,13 +11,11 @@ use lib.Bits.{bitOr}
 use lib.Dec.{eqb}
 use lib.ListN.{length, set, take, drop, length-set}
 use lib.Seq.{drop-drop, length-take-le, set-append-left}
-use Rattle.laws.proofs.Lists.{three-parts, rest-all}
-use Rattle.buffer.proofs.Compare.{same-append}
-use Rattle.buffer.specs.Field.{byte, wordAt, putWord, same}
+use Rattle.laws.proofs.Lists.{three-parts}
+use Rattle.buffer.specs.Field.{byte, wordAt, putWord}
 use Rattle.buffer.proofs.Fields.{wordAt-left, wordAt-right, part-length}
 use Rattle.buffer.proofs.Writes.{put-length}
-use Rattle.board.specs.Board.{stripSize, stripCount, boardSize, levelAt, headingAt, marksAt, callsAt, alertsAt, flagAt, without, enter}
-use Rattle.board.proofs.Length.{enter-length}
+use Rattle.board.specs.Board.{stripSize, levelAt, headingAt, marksAt, callsAt, alertsAt, flagAt, without, enter}
 use Rattle.board.proofs.Boards.{strip}
 
 -- a code that is no entry's changes nothing
@@ -90,29 +88,3 @@ entered code k x s h =
 pub entered-back : (code k x n : ℕ) (s : List ℕ) {new : List ℕ} → n ≡ stripSize → stripSize * k + stripSize ≤ length s
     → new ≡ enter code 0 x (take n (drop (stripSize * k) s)) → take (stripSize * k) s ++ (new ++ drop n (drop (stripSize * k) s)) ≡ enter code k x s
 entered-back code k x n s count h e = rw (e, count, drop-drop stripSize (stripSize * k) s) (sym (entered code k x s h))
-
--- a board compares with its parent's after an entry as its three parts do
-pub same-entered : (code k x : ℕ) (board parent : List ℕ) {w v : List ℕ} {before here behind : Bool} → length board ≡ boardSize → length parent ≡ boardSize
-    → k < stripCount → before ≡ same (take (stripSize * k) board) (take (stripSize * k) parent)
-    → w ≡ strip board k → v ≡ strip parent k → here ≡ same w (enter code 0 x v)
-    → behind ≡ same (take (length board - (stripSize * k + stripSize)) (drop (stripSize * k + stripSize) board)) (take (length parent - (stripSize * k + stripSize)) (drop (stripSize * k + stripSize) parent))
-    → (before && here) && behind ≡ same board (enter code k x parent)
-same-entered code k x board parent {before = before} {here = here} {behind = behind} hb hp inside e₁ ew ev e₂ e₃ =
-    let at = stripSize * k in
-    let end = stripSize * k + stripSize in
-    let b₁ = take at board in
-    let p₁ = take at parent in
-    let p₂ = enter code 0 x (strip parent k) in
-    let b₃ = drop end board in
-    let p₃ = drop end parent in
-    let front : length b₁ ≡ length p₁ = length-take-le at board (omega arith) ∙ sym (length-take-le at parent (omega arith)) in
-    let middle : length (strip board k) ≡ length p₂ =
-    part-length board at stripSize (omega arith) ∙ sym (enter-length code 0 x (strip parent k) ∙ part-length parent at stripSize (omega arith)) in
-    let parts : same board (enter code k x parent) ≡ (same b₁ p₁ && same (strip board k) p₂) && same b₃ p₃ =
-    ap₂ same (sym (three-parts board at stripSize)) (entered code k x parent (omega arith))
-    ∙ same-append b₁ p₁ (strip board k ++ b₃) (p₂ ++ p₃) front
-    ∙ ap (λ (t : Bool). same b₁ p₁ && t) (same-append (strip board k) p₂ b₃ p₃ middle)
-    ∙ sym (and-assoc (same b₁ p₁) (same (strip board k) p₂) (same b₃ p₃)) in
-    let told : here ≡ same (strip board k) p₂ = cc in
-    let rest : behind ≡ same b₃ p₃ = rw (rest-all board end, rest-all parent end) at e₃ in
-    rw (e₁, told, rest) (sym parts)

@@ -256,27 +256,14 @@ pub fn enter_board(board: &mut [u8], code: usize, strip: Strip, operand: usize)
     enter_strip(&mut board[at..end], code, operand);
 }
 
-// A strip is another after an entry.
-fn is_strip_entered(s: &[u8], parent: &[u8], code: usize, operand: usize) -> bool
-    requires { ⌜ (length (now s) ≡ stripSize) × (length (now parent) ≡ stripSize) × (code ≡ 0x04 → operand < 16) × (code ≡ 0x05 → operand < 16) ⌝ }
-    ensures { λ r. ⌜ r ≡ same (now (s .entry)) (enter code 0 operand (now (parent .entry))) ⌝ }
-{
-    let mut entered = [0u8; STRIP_SIZE];
-    copy(&mut entered, parent);
-    enter_strip(&mut entered, code, operand);
-    is_same(s, &entered)
-}
-
-// A board is its parent's after an entry.
+// A board is its parent's after an entry. It is made and compared whole too, which was faster than a comparison before, at and behind
+// the strip.
 pub fn is_entered(board: &[u8], parent: &[u8], code: usize, strip: Strip, operand: usize) -> bool
     requires { ⌜ (length (now board) ≡ boardSize) × (length (now parent) ≡ boardSize) × (strip .0 < stripCount) × (code ≡ 0x04 → operand < 16) × (code ≡ 0x05 → operand < 16) ⌝ }
     ensures { λ r. ⌜ r ≡ same (now (board .entry)) (enter code (strip .0) operand (now (parent .entry))) ⌝ }
 {
-    let k = strip.0;
-    let at = STRIP_SIZE * k;
-    let end = at + STRIP_SIZE;
-    let before = is_same(&board[..at], &parent[..at]);
-    let here = is_strip_entered(strip_of(board, k), strip_of(parent, k), code, operand);
-    let behind = is_same(&board[end..], &parent[end..]);
-    before & here & behind
+    let mut entered = [0u8; BOARD_SIZE];
+    copy(&mut entered, parent);
+    enter_board(&mut entered, code, strip, operand);
+    is_same(board, &entered)
 }
