@@ -8,7 +8,7 @@ use Prim.Native.Nat.{ℕ, suc, _+_, _≤_, _<_}
 use native.Mathlib.Decide.{ℕ-discrete}
 use native.Mathlib.Omega.{arith}
 use lib.Dec.{ltb}
-use lib.ListN.{length, getD, length-set, length-replicate, getD-replicate}
+use lib.ListN.{length, getD, getD-replicate}
 use lib.Seq.{getD-set-same, getD-set-other}
 use borrow.Author.Tests.{eqb-true, ltb-true}
 use Rattle.laws.proofs.Logic.{and-l, and-r}
@@ -23,6 +23,7 @@ use Rattle.room.specs.Room.{Room, headOf}
 use Rattle.store.specs.Layout.{headerSize, commonAt, headFrom}
 use Rattle.store.specs.Check.{commonIn}
 use Rattle.tape.specs.Tape.{Content, headSlots, roomOf, consolesRise, headsNamed}
+use Rattle.tape.proofs.Heads.{length-slots}
 use Rattle.resume.specs.Heads.{headTable}
 
 -- the field of a head: 0 where there is none, else 1 more than the version
@@ -60,11 +61,6 @@ heads-listed g (h ∷ (b ∷ rest)) c n =
     (ltb-true (h .1) (versionCount g) (and-l (ltb (h .1) (versionCount g)) _ n))
     (heads-listed g (b ∷ rest) (and-r (ltb (b .0) (h .0) && isConsole (h .0)) _ c) (and-r (ltb (h .1) (versionCount g)) _ n))
 
-pub slots-length : (heads : List (ℕ × ℕ)) → length (headSlots heads) ≡ consoleCount
-unfolding headSlots
-slots-length [] = length-replicate {A = Option ℕ} consoleCount none
-slots-length (h ∷ before) = length-set (headSlots before) (h .0) (some (h .1)) ∙ slots-length before
-
 table-length : (heads : List (ℕ × ℕ)) → length (headTable heads) ≡ headerSize
 unfolding headTable
 table-length [] = zeros-length headerSize
@@ -83,7 +79,7 @@ module _ {n : ℕ} where
       let size = table-length before in
       elim (ℕ-discrete c (h .0)) [
         | yes e ↦
-            rw (e, getD-set-same (headSlots before) (h .0) (some (h .1)) none (omega (arith, slots-length before)))
+            rw (e, getD-set-same (headSlots before) (h .0) (some (h .1)) none (omega (arith, length-slots before)))
             (put-stands (headTable before) (commonAt (h .0) (h .0)) (suc (h .1)) (omega arith))
         | no d ↦
             rw (getD-set-other (headSlots before) (h .0) c (some (h .1)) none d)
@@ -96,7 +92,7 @@ module _ {n : ℕ} where
   slot-named no-heads c l = rw (getD-replicate {A = Option ℕ} consoleCount c none none l) (omega arith)
   slot-named (one-head {h = h} {before = before} a b rest) c l =
       elim (ℕ-discrete c (h .0)) [
-        | yes e ↦ rw (e, getD-set-same (headSlots before) (h .0) (some (h .1)) none (omega (arith, slots-length before))) b
+        | yes e ↦ rw (e, getD-set-same (headSlots before) (h .0) (some (h .1)) none (omega (arith, length-slots before))) b
         | no d ↦ rw (getD-set-other (headSlots before) (h .0) c (some (h .1)) none d) (slot-named rest c l)
       ]
 

@@ -19,7 +19,8 @@ use Rattle.command.specs.Code.{consoleCount, isConsole}
 use Rattle.room.specs.Room.{headOf}
 use Rattle.room.specs.Sound.{isCapacity, entryInRange, namesVersion, headsNameVersions, headsMeet, allBehindHeads, soundRoom}
 use Rattle.tape.specs.Tape.{Content, headSlots, roomOf, consolesRise, headsNamed, inRange}
-use Rattle.resume.proofs.HeadSlots.{headField, heads-diagonal, slots-length}
+use Rattle.tape.proofs.Heads.{length-slots}
+use Rattle.resume.proofs.HeadSlots.{headField, heads-diagonal}
 
 -- what is in range of a tape's content
 pub record Ranged (t : Content) : Type 0 where
@@ -51,14 +52,14 @@ first-present [] h = clash h refl
 first-present (x ∷ []) h =
     ap isSome
     (ap (λ (c : ℕ). getD (headSlots (x ∷ [])) c none) (sym (eqb-true (x .0) 0 h))
-    ∙ getD-set-same (headSlots []) (x .0) (some (x .1)) none (omega (arith, slots-length [], eqb-true (x .0) 0 h)))
+    ∙ getD-set-same (headSlots []) (x .0) (some (x .1)) none (omega (arith, length-slots [], eqb-true (x .0) 0 h)))
 first-present (x ∷ (b ∷ rest)) h =
     let before = headSlots (b ∷ rest) in
     elim (ℕ-discrete 0 (x .0)) [
       | yes e ↦
           ap isSome
           (ap (λ (c : ℕ). getD (headSlots (x ∷ (b ∷ rest))) c none) e
-          ∙ getD-set-same before (x .0) (some (x .1)) none (omega (arith, slots-length (b ∷ rest))))
+          ∙ getD-set-same before (x .0) (some (x .1)) none (omega (arith, length-slots (b ∷ rest))))
       | no d ↦
           ap isSome (getD-set-other before (x .0) 0 (some (x .1)) none d)
           ∙ first-present (b ∷ rest) (and-r (ltb (b .0) (x .0) && isConsole (x .0)) (consolesRise (b ∷ rest)) h)
@@ -86,7 +87,7 @@ module _ (t : Content) (cap : isCapacity (t .capacity) ≡ true) (range : inRang
   unfolding soundRoom
   room-judged =
       let k = in-range t range in
-      let sixteen = eq-eqb (length (headSlots (t .heads))) consoleCount (slots-length (t .heads)) in
+      let sixteen = eq-eqb (length (headSlots (t .heads))) consoleCount (length-slots (t .heads)) in
       let fits : leb (versionCount (t .versions)) (t .capacity) ≡ true = search (and-l, and-r) depth 8 in
       rw (k .lower, sixteen, heads-name, first-present (t .heads) (k .rise), cap, fits, k .ranged)
       (rest-passes (everyVersion mergeHasBase (t .versions)) (headsMeet (roomOf t)) (allBehindHeads (roomOf t)))

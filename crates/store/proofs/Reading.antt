@@ -10,11 +10,12 @@ use native.Mathlib.Omega.{arith}
 use lib.Dec.{eqb}
 use lib.ListN.{length, getD}
 use lib.Seq.{ext-getD}
-use borrow.Author.Tests.{leb-true, ltb-true, eq-eqb, ne-eqb}
-use Rattle.laws.proofs.Logic.{and-l, and-r, cond-true, cond-false}
+use borrow.Author.Tests.{leb-true, ltb-true, ne-eqb}
+use Rattle.laws.proofs.Logic.{and-l, and-r}
 use Rattle.buffer.specs.Field.{wordAt}
 use Rattle.buffer.proofs.Stands.{Stands, stands-first, stands-field, stands-word}
 use Rattle.graph.specs.Graph.{isSome, Graph, Node, entry, merge, versionCount, nodeOf, everyVersion, parentsLower}
+use Rattle.graph.proofs.Ancestor.{nodeOf-new, nodeOf-old}
 use Rattle.command.specs.Code.{consoleCount}
 use Rattle.room.specs.Room.{Room, headOf, present, head, common}
 use Rattle.room.specs.Sound.{entryInRange, namesVersion}
@@ -50,15 +51,6 @@ node-read s v g before (merge p q) h l i j =
     let fourth = stands-field h 6 q (omega arith) refl refl (omega arith) in
     cc
 
-node-newest : (n : Node) (g : Graph) → nodeOf (n ∷ g) (versionCount g) ≡ some n
-unfolding nodeOf
-node-newest n g =
-    cond-true (eqb (versionCount g) (versionCount g)) (some n) (nodeOf g (versionCount g)) (eq-eqb (versionCount g) (versionCount g) refl)
-
-node-older : (n : Node) (g : Graph) (v : ℕ) → v ≤ length g → nodeOf (n ∷ g) v ≡ nodeOf g v
-unfolding nodeOf
-node-older n g v l = cond-false (eqb v (versionCount g)) (some n) (nodeOf g v) (ne-eqb v (versionCount g) (omega arith))
-
 -- the versions of h read back where their records stand, whatever graph g the bases are taken from
 nodes-read : (s : List ℕ) (g h : Graph)
     → ((v : ℕ) → v ≤ length h → Stands s (blockAt v) (nodeBytes g (nodeOf h v)))
@@ -68,8 +60,8 @@ unfolding versionsIn everyVersion
 nodes-read s g [] at l p e = refl
 nodes-read s g (n ∷ h) at l p e =
     ap₂ _∷_
-    (node-read s (versionCount h) g h n (rw node-newest at (at (versionCount h) (omega arith))) (omega arith) (search and-l) (search and-l))
-    (nodes-read s g h (λ v k. rw (node-older n h v k) at (at v (omega arith))) (omega arith) (search and-r) (search and-r))
+    (node-read s (versionCount h) g h n (rw nodeOf-new at (at (versionCount h) (omega arith))) (omega arith) (search and-l) (search and-l))
+    (nodes-read s g h (λ v k. rw (nodeOf-old n h v (omega arith)) at (at v (omega arith))) (omega arith) (search and-r) (search and-r))
 
 -- the heads that are read, one by one
 pub headsIn-length : (s : List ℕ) (c n : ℕ) → length (headsIn s c n) ≡ n

@@ -129,7 +129,7 @@ unfolding consolesRise
 console-below h [] rise = omega (arith, eqb-true (h .0) 0 rise)
 console-below h (b ∷ rest) rise = rise-parts h b rest rise .1
 
-length-slots : (heads : List (ℕ × ℕ)) → length (headSlots heads) ≡ consoleCount
+pub length-slots : (heads : List (ℕ × ℕ)) → length (headSlots heads) ≡ consoleCount
 unfolding headSlots
 length-slots [] = refl
 length-slots (h ∷ before) = length-set (headSlots before) (h .0) (some (h .1)) ∙ length-slots before
