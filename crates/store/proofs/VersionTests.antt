@@ -16,7 +16,7 @@ use Rattle.buffer.specs.Row.{member, withMember, union}
 use Rattle.board.specs.Board.{stripCount, enter, mergeBoard}
 use Rattle.command.specs.Code.{isEntryCode, isStrip, isOperand}
 use Rattle.command.proofs.Carried.{operand-mark, operand-unmark}
-use Rattle.store.specs.Layout.{nodeSize, rowSize, blockAt, nodeCodeAt, nodeStripAt, nodeOperandAt, nodeParentAt, nodeGiverAt, nodeBaseAt}
+use Rattle.store.specs.Layout.{nodeSize, rowSize, blockAt, nodeStripAt, nodeGiverAt, nodeBaseAt}
 use Rattle.store.specs.Rules.{entryRanges, bothBelow, isBase}
 use Rattle.store.specs.Check.{rowPart, boardPart, entriesPart, rootRight, entryRight, mergeRight, versionRight, versionsRight}
 
@@ -127,16 +127,16 @@ pub root-told : (s : List ℕ) (o : Bool)
 unfolding rootRight
 root-told s o h = h
 
--- a version by the fields of its node
-module _ (s : List ℕ) (v code p : ℕ) (o : Bool) (ec : code ≡ getD s (nodeCodeAt v) 0) (ep : p ≡ wordAt s (nodeParentAt v)) where
-  pub version-merge : (q l : ℕ) → q ≡ wordAt s (nodeGiverAt v) → l ≡ wordAt s (nodeBaseAt v) → code ≡ 9 → o ≡ mergeRight s v p q l → o ≡ versionRight s v
+-- a version by the fields of its node, which stands at `at`
+module _ (s : List ℕ) (v at code p : ℕ) (o : Bool) (ea : at ≡ blockAt v) (ec : code ≡ getD s at 0) (ep : p ≡ wordAt s (at + 4)) where
+  pub version-merge : (q l : ℕ) → q ≡ wordAt s (at + 6) → l ≡ wordAt s (at + 8) → code ≡ 9 → o ≡ mergeRight s v p q l → o ≡ versionRight s v
   unfolding versionRight
-  version-merge q l eq el h m = rw (eq-eqb (getD s (nodeCodeAt v) 0) 9 (sym ec ∙ h)) (rw (ep, eq, el) at m)
+  version-merge q l eq el h m = rw (← ea, eq-eqb (getD s at 0) 9 (sym ec ∙ h)) (rw (ep, eq, el) at m)
 
-  pub version-entry : (strip operand : ℕ) → strip ≡ getD s (nodeStripAt v) 0 → operand ≡ wordAt s (nodeOperandAt v) → (code ≡ 9 → ⊥)
+  pub version-entry : (strip operand : ℕ) → strip ≡ getD s (at + 1) 0 → operand ≡ wordAt s (at + 2) → (code ≡ 9 → ⊥)
       → o ≡ entryRight s v p code strip operand → o ≡ versionRight s v
   unfolding versionRight
-  version-entry strip operand es eo h m = rw (ne-eqb (getD s (nodeCodeAt v) 0) 9 (λ e. h (ec ∙ e))) (rw (ec, ep, es, eo) at m)
+  version-entry strip operand es eo h m = rw (← ea, ne-eqb (getD s at 0) 9 (λ e. h (ec ∙ e))) (rw (ec, ep, es, eo) at m)
 
 -- what is not refused is true
 pub unrefused : (a : Bool) → not a ≡ false → a ≡ true

@@ -2,16 +2,19 @@
 use crate::consoles::behind_right;
 use crate::consoles::consoles_right;
 use crate::places::BLOCK;
+use crate::places::CAPACITY;
 use crate::places::COMMONS;
 use crate::places::COMMONS_END;
+use crate::places::COUNT;
 use crate::places::ENTRIES;
 use crate::places::HEADER;
 use crate::places::NODE;
 use crate::places::SPARE;
+use crate::places::block_at;
+use crate::places::is_capacity;
 use crate::version::versions_right;
 use buffer::is_zero;
 use buffer::none_from;
-use buffer::wide;
 use buffer::word_at;
 ghost use mathlib.Core.Path.{_≡_};
 ghost use mathlib.Core.Bool.{_&&_};
@@ -23,9 +26,6 @@ ghost use Rattle.buffer.specs.Row.{row, noneFrom};
 ghost use Rattle.command.specs.Code.{consoleCount};
 ghost use Rattle.store.specs.Layout.{headerSize, rowSize, blockSize, storeSize, countAt, entriesAt, commonsEnd, blockAt, holdsStore};
 ghost use Rattle.store.specs.Check.{rowPart, entriesPart, commonIn, behindHeads, contentsRight};
-
-// The most versions that a store can hold.
-const MAX_CAPACITY: usize = 1024;
 
 // The spare bytes of the header are zero.
 fn spare_right(s: &[u8]) -> bool
@@ -40,8 +40,8 @@ fn rest_right(s: &[u8], capacity: usize, n: usize) -> bool
     requires { ⌜ (capacity ≤ 1024) × (n ≤ capacity) × (storeSize capacity ≤ length (now s)) ⌝ }
     ensures { λ r. ⌜ r ≡ (noneFrom (entriesPart (now (s .entry))) n && allZero (part (now (s .entry)) (blockAt n) (blockSize * (capacity - n)))) ⌝ }
 {
-    let from = HEADER + BLOCK * n;
-    let to = HEADER + BLOCK * capacity;
+    let from = block_at(n);
+    let to = block_at(capacity);
     none_from(&s[ENTRIES..COMMONS], n) & is_zero(&s[from..to])
 }
 
@@ -87,15 +87,12 @@ pub fn holds(s: &[u8]) -> bool
     if s.len() < HEADER {
         return false;
     }
-    let capacity = wide(s[0]) * 256 + wide(s[1]);
-    if capacity < 1 {
+    let capacity = word_at(s, CAPACITY);
+    if !is_capacity(capacity) {
         return false;
     }
-    if MAX_CAPACITY < capacity {
+    if s.len() < block_at(capacity) {
         return false;
     }
-    if s.len() < HEADER + BLOCK * capacity {
-        return false;
-    }
-    contents_right(s, capacity, word_at(s, 2))
+    contents_right(s, capacity, word_at(s, COUNT))
 }

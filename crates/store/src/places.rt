@@ -1,10 +1,11 @@
 // Where the parts of a store stand in its bytes.
 ghost use mathlib.Core.Path.{_≡_};
-ghost use Prim.Native.Nat.{suc, _<_, _≤_};
+ghost use Prim.Native.Nat.{suc, _^_, _<_, _≤_};
 ghost use lib.ListN.{length};
 ghost use Rattle.board.specs.Board.{boardSize};
 ghost use Rattle.command.specs.Code.{consoleCount};
-ghost use Rattle.store.specs.Layout.{headerSize, rowSize, blockAt, commonAt};
+ghost use Rattle.room.specs.Sound.{isCapacity};
+ghost use Rattle.store.specs.Layout.{headerSize, rowSize, blockAt, rowAt, boardAt, commonAt};
 ghost use Rattle.store.specs.Check.{rowPart, boardPart, entriesPart, commonIn};
 
 // The most versions that a store can hold, and the number of consoles.
@@ -36,7 +37,7 @@ pub const COMMONS: usize = 256;
 
 pub const COMMONS_END: usize = 768;
 
-// Places in a node, which has its code at its front. The parent of a merge is the receiver's version.
+// Places in a node, which has its code at its front, and its spare bytes at the end. The parent of a merge is the receiver's version.
 pub const NODE_STRIP: usize = 1;
 
 pub const NODE_OPERAND: usize = 2;
@@ -46,6 +47,42 @@ pub const NODE_PARENT: usize = 4;
 pub const NODE_GIVER: usize = 6;
 
 pub const NODE_BASE: usize = 8;
+
+pub const NODE_SPARE: usize = 10;
+
+// The code in the node of a merge.
+pub const MERGE_CODE: usize = 0x09;
+
+// Whether a store can have this capacity.
+pub fn is_capacity(n: usize) -> bool
+    ensures { λ r. ⌜ r ≡ isCapacity n ⌝ }
+{
+    (1 <= n) & (n <= MAX_CAPACITY)
+}
+
+// The place of the block of version v; the end of a store of capacity v.
+pub fn block_at(v: usize) -> usize
+    requires { ⌜ blockAt v < 2 ^ 64 ⌝ }
+    ensures { λ r. ⌜ r ≡ blockAt v ⌝ }
+{
+    HEADER + BLOCK * v
+}
+
+// The place of the row of a version.
+pub fn row_at(v: usize) -> usize
+    requires { ⌜ rowAt v < 2 ^ 64 ⌝ }
+    ensures { λ r. ⌜ r ≡ rowAt v ⌝ }
+{
+    block_at(v) + NODE
+}
+
+// The place of the board of a version.
+pub fn board_at(v: usize) -> usize
+    requires { ⌜ boardAt v < 2 ^ 64 ⌝ }
+    ensures { λ r. ⌜ r ≡ boardAt v ⌝ }
+{
+    row_at(v) + ROW
+}
 
 // The place of the field of two consoles in the table of commons.
 pub fn common_at(c: usize, d: usize) -> usize
@@ -69,7 +106,7 @@ pub fn row_of(s: &[u8], v: usize) -> &[u8]
     requires { ⌜ blockAt (suc v) ≤ length (now s) ⌝ }
     ensures { λ r. ⌜ (now r ≡ rowPart (now (s .entry)) v) × (length (now r) ≡ rowSize) ⌝ }
 {
-    let at = HEADER + BLOCK * v + NODE;
+    let at = row_at(v);
     let end = at + ROW;
     &s[at..end]
 }
@@ -79,7 +116,7 @@ pub fn board_of(s: &[u8], v: usize) -> &[u8]
     requires { ⌜ (v < 1024) × (blockAt (suc v) ≤ length (now s)) ⌝ }
     ensures { λ r. ⌜ (now r ≡ boardPart (now (s .entry)) v) × (length (now r) ≡ boardSize) ⌝ }
 {
-    let at = HEADER + BLOCK * v + NODE + ROW;
+    let at = board_at(v);
     let end = at + BOARD;
     &s[at..end]
 }

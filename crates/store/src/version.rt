@@ -1,9 +1,16 @@
 // The test of the versions of a store: each version's block against the blocks of its parents and its base.
-use crate::places::BLOCK;
 use crate::places::BOARD;
 use crate::places::HEADER;
+use crate::places::MERGE_CODE;
 use crate::places::NODE;
+use crate::places::NODE_BASE;
+use crate::places::NODE_GIVER;
+use crate::places::NODE_OPERAND;
+use crate::places::NODE_PARENT;
+use crate::places::NODE_SPARE;
+use crate::places::NODE_STRIP;
 use crate::places::ROW;
+use crate::places::block_at;
 use crate::places::board_of;
 use crate::places::entries_of;
 use crate::places::row_of;
@@ -99,8 +106,8 @@ fn entry_parts(s: &[u8], v: usize, p: usize, code: usize, strip: usize, operand:
     requires { ⌜ (p < v) × (v < 1024) × (blockAt (suc v) ≤ length (now s)) × (strip < stripCount) × (code ≡ 0x04 → operand < 16) × (code ≡ 0x05 → operand < 16) ⌝ }
     ensures { λ r. ⌜ r ≡ allZero (part (now (s .entry)) (nodeGiverAt v) (nodeSize - 6)) && same (rowPart (now (s .entry)) v) (withMember (rowPart (now (s .entry)) p) v) && same (boardPart (now (s .entry)) v) (enter code strip operand (boardPart (now (s .entry)) p)) && member (entriesPart (now (s .entry))) v ⌝ }
 {
-    let at = HEADER + BLOCK * v + 6;
-    zero_part(s, at, 26)
+    let at = block_at(v) + NODE_GIVER;
+    zero_part(s, at, NODE - NODE_GIVER)
         & entry_rows_right(s, v, p)
         & entry_board_right(s, v, p, code, strip, operand)
         & has_member(entries_of(s), v)
@@ -122,11 +129,11 @@ fn merge_parts(s: &[u8], v: usize, p: usize, q: usize, l: usize) -> bool
     requires { ⌜ (p < v) × (q < v) × (l < v) × (v < 1024) × (blockAt (suc v) ≤ length (now s)) ⌝ }
     ensures { λ r. ⌜ r ≡ allZero (part (now (s .entry)) (nodeStripAt v) 3) && allZero (part (now (s .entry)) (nodeBaseAt v + 2) (nodeSize - 10)) && (isBase l p q (rowPart (now (s .entry)) l) (rowPart (now (s .entry)) p) (rowPart (now (s .entry)) q) && same (rowPart (now (s .entry)) v) (withMember (union (rowPart (now (s .entry)) p) (rowPart (now (s .entry)) q)) v)) && same (boardPart (now (s .entry)) v) (mergeBoard (boardPart (now (s .entry)) l) (boardPart (now (s .entry)) p) (boardPart (now (s .entry)) q)) && not (member (entriesPart (now (s .entry))) v) ⌝ }
 {
-    let at = HEADER + BLOCK * v;
-    let strip = at + 1;
-    let rest = at + 8 + 2;
-    zero_part(s, strip, 3)
-        & zero_part(s, rest, 22)
+    let at = block_at(v);
+    let strip = at + NODE_STRIP;
+    let rest = at + NODE_SPARE;
+    zero_part(s, strip, NODE_PARENT - NODE_STRIP)
+        & zero_part(s, rest, NODE - NODE_SPARE)
         & merge_rows_right(s, v, p, q, l)
         & merge_board_right(s, v, p, q, l)
         & !has_member(entries_of(s), v)
@@ -177,13 +184,26 @@ fn version_right(s: &[u8], v: usize) -> bool
     requires { ⌜ (0 < v) × (v < 1024) × (blockAt (suc v) ≤ length (now s)) ⌝ }
     ensures { λ r. ⌜ r ≡ versionRight (now (s .entry)) v ⌝ }
 {
-    let at = HEADER + BLOCK * v;
+    let at = block_at(v);
     let code = byte_at(s, at);
-    let parent = word_at(s, at + 4);
-    if code == 9 {
-        return merge_right(s, v, parent, word_at(s, at + 6), word_at(s, at + 8));
+    let parent = word_at(s, at + NODE_PARENT);
+    if code == MERGE_CODE {
+        return merge_right(
+            s,
+            v,
+            parent,
+            word_at(s, at + NODE_GIVER),
+            word_at(s, at + NODE_BASE),
+        );
     }
-    entry_right(s, v, parent, code, byte_at(s, at + 1), word_at(s, at + 2))
+    entry_right(
+        s,
+        v,
+        parent,
+        code,
+        byte_at(s, at + NODE_STRIP),
+        word_at(s, at + NODE_OPERAND),
+    )
 }
 
 // Whether the blocks of the versions 0 to n are right.

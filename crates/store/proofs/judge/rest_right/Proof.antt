@@ -1,23 +1,17 @@
 -- `store::judge::rest_right` tests what lies past the last version.
 -- Assumes nothing.
-use Prim.Native.Nat.{_+_, _-_, _*_}
+use Prim.Native.Nat.{_-_, _*_}
 use mathlib.Core.Path.{_≡_}
-use denote.Ref.{now}
 use native.Mathlib.Omega.{arith}
+use Rattle.store.specs.Layout.{blockSize, blockAt}
 use Rattle.store.proofs.judge.rest_right.Statement.{statement}
 use Rattle.store.proofs.judge.rest_right.Tie as tie
 
-mul-from : tie.Need-mul-from
-mul-from c = omega arith
+block-at-requires : tie.Need-block-at-requires
+block-at-requires c κs = omega arith
 
-add-from : tie.Need-add-from
-add-from c = omega arith
-
-mul-to : tie.Need-mul-to
-mul-to c = omega arith
-
-add-to : tie.Need-add-to
-add-to c = omega arith
+block-at-requires-2 : tie.Need-block-at-requires-2
+block-at-requires-2 c κs = omega arith
 
 sub-none-from : tie.Need-sub-none-from
 sub-none-from c = omega arith
@@ -45,20 +39,19 @@ is-zero-requires c κs = omega arith
 
 returns : tie.Need-returns
 returns c =
-    let s = now (c .before .before .before .before .before .args .s) in
-    let n = c .before .before .before .before .before .args .n in
-    let capacity = c .before .before .before .before .before .args .capacity in
-    let size : 4096 + 544 * capacity - (4096 + 544 * n) ≡ 544 * (capacity - n) = omega arith in
-    rw (c .before .before .none-from .ensures, c .is-zero .ensures, size)
+    let counted = c .before .before in
+    let to = counted .before .before in
+    let from = to .before in
+    let a = from .before .before .args in
+    let size : blockAt (a .capacity) - blockAt (a .n) ≡ blockSize * (a .capacity - a .n) = omega arith in
+    rw (counted .none-from .ensures, c .is-zero .ensures, to .block-at2 .ensures, from .block-at .ensures, size)
 
 pub rest-right-spec : {M : Type 1} → statement M
 rest-right-spec =
     tie.close
     (tie.spec
-    mul-from
-    add-from
-    mul-to
-    add-to
+    block-at-requires
+    block-at-requires-2
     sub-none-from
     part-none-from-start
     part-none-from-end

@@ -8,14 +8,8 @@ use Rattle.store.specs.Layout.{rowSize, rowAt}
 use Rattle.store.proofs.places.row_of.Statement.{statement}
 use Rattle.store.proofs.places.row_of.Tie as tie
 
-mul-at : tie.Need-mul-at
-mul-at c = omega arith
-
-add-at : tie.Need-add-at
-add-at c = omega arith
-
-add-at-2 : tie.Need-add-at-2
-add-at-2 c = omega arith
+row-at-requires : tie.Need-row-at-requires
+row-at-requires c κs = omega arith
 
 add-end : tie.Need-add-end
 add-end c = omega arith
@@ -31,11 +25,11 @@ part-result-end c = omega arith
 
 returns : tie.Need-returns
 returns c =
-    let a = c .before .args in
+    let a = c .before .before .before .args in
     let e : rowAt (a .v) + rowSize - rowAt (a .v) ≡ rowSize = omega arith in
-    rw e (refl, part-length (a .s .now) (rowAt (a .v)) rowSize (omega arith))
+    rw (c .before .row-at .ensures, e) (refl, part-length (a .s .now) (rowAt (a .v)) rowSize (omega arith))
 
 pub row-of-spec : {M : Type 1} → statement M
 row-of-spec =
     tie.close
-    (tie.spec mul-at add-at add-at-2 add-end sub-result part-result-start part-result-end returns)
+    (tie.spec row-at-requires add-end sub-result part-result-start part-result-end returns)
