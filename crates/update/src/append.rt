@@ -11,10 +11,9 @@ use buffer::put_extended;
 use buffer::put_extended_union;
 use buffer::put_word;
 use graph::Version;
-use store::places::BLOCK;
 use store::places::BOARD;
 use store::places::ENTRIES;
-use store::places::HEADER;
+use store::places::MERGE_CODE;
 use store::places::NODE;
 use store::places::NODE_BASE;
 use store::places::NODE_GIVER;
@@ -22,7 +21,10 @@ use store::places::NODE_OPERAND;
 use store::places::NODE_PARENT;
 use store::places::NODE_STRIP;
 use store::places::ROW;
+use store::places::block_at;
+use store::places::board_at;
 use store::places::board_of;
+use store::places::row_at;
 ghost use mathlib.Core.Path.{_≡_};
 ghost use Prim.Native.Nat.{suc, _<_, _≤_};
 ghost use lib.ListN.{length, set};
@@ -32,30 +34,6 @@ ghost use Rattle.board.specs.Board.{stripCount, enter, mergeBoard};
 ghost use Rattle.store.specs.Layout.{headerSize, nodeSize, entriesAt, blockAt, rowAt, boardAt, entryNodeBytes, mergeNodeBytes};
 ghost use Rattle.store.specs.Check.{rowPart, boardPart, entriesPart};
 ghost use Rattle.update.specs.Append.{withEntry, withMerge};
-
-// The place of the block of a version.
-fn block_at(v: usize) -> usize
-    requires { ⌜ v < 1024 ⌝ }
-    ensures { λ r. ⌜ r ≡ blockAt v ⌝ }
-{
-    HEADER + BLOCK * v
-}
-
-// The place of the row of a version.
-fn row_at(v: usize) -> usize
-    requires { ⌜ v < 1024 ⌝ }
-    ensures { λ r. ⌜ r ≡ rowAt v ⌝ }
-{
-    block_at(v) + NODE
-}
-
-// The place of the board of a version.
-fn board_at(v: usize) -> usize
-    requires { ⌜ v < 1024 ⌝ }
-    ensures { λ r. ⌜ r ≡ boardAt v ⌝ }
-{
-    row_at(v) + ROW
-}
 
 // Writes the lowest 8 bits of a number at a place.
 fn put_byte(s: &mut [u8], at: usize, x: usize)
@@ -83,7 +61,7 @@ fn write_merge(note: &mut [u8], p: usize, q: usize, l: usize)
     ensures { λ _. ⌜ now (note .exit) ≡ mergeNodeBytes p q l ⌝ }
 {
     clear(note);
-    put_byte(note, 0, 9);
+    put_byte(note, 0, MERGE_CODE);
     put_word(note, NODE_PARENT, p);
     put_word(note, NODE_GIVER, q);
     put_word(note, NODE_BASE, l);
