@@ -13,7 +13,7 @@ use lib.ListN.{length, getD}
 use borrow.Author.Tests.{eq-eqb, ne-eqb}
 use Rattle.buffer.specs.Field.{wordAt}
 use Rattle.graph.specs.Graph.{entry, merge}
-use Rattle.store.specs.Layout.{headAt, nodeCodeAt, nodeStripAt, nodeOperandAt, nodeParentAt, nodeGiverAt, nodeIn, versionsIn, headFrom, headsIn}
+use Rattle.store.specs.Layout.{blockAt, headAt, nodeIn, versionsIn, headFrom, headsIn}
 use Rattle.store.specs.Check.{commonIn}
 use Rattle.tape.specs.declared.Record.the-variants.{Head}
 use Rattle.tape.specs.Record.{recordBytes}
@@ -46,19 +46,19 @@ pub head-pieces : (s : List ℕ) → Pieces (headPieces s) (headPiece s)
 unfolding headPieces headsIn headRecords
 head-pieces s = record { none = refl; more = λ k. rw add-one (rw zero-add at (heads-more s 0 k)) }
 
--- the record of a version, by its code
-module _ (s : List ℕ) (v code : ℕ) (e : code ≡ getD s (nodeCodeAt v) 0) where
-  pub merge-piece : (p q : ℕ) → p ≡ wordAt s (nodeParentAt v) → q ≡ wordAt s (nodeGiverAt v) → code ≡ 9
+-- the record of a version whose node stands at `at`, by its code
+module _ (s : List ℕ) (v at code : ℕ) (place : at ≡ blockAt v) (e : code ≡ getD s at 0) where
+  pub merge-piece : (p q : ℕ) → p ≡ wordAt s (at + 4) → q ≡ wordAt s (at + 6) → code ≡ 9
       → recordBytes (versionRecord (merge p q)) ≡ versionPiece s v
   unfolding versionPiece nodeIn
   merge-piece p q i j n =
-      let test : eqb (getD s (nodeCodeAt v) 0) 9 ≡ true = eq-eqb (getD s (nodeCodeAt v) 0) 9 (omega arith) in rw (i, j, test)
+      let test : eqb (getD s at 0) 9 ≡ true = eq-eqb (getD s at 0) 9 (omega arith) in rw (← place, i, j, test)
 
-  pub entry-piece : (p strip operand : ℕ) → p ≡ wordAt s (nodeParentAt v) → strip ≡ getD s (nodeStripAt v) 0 → operand ≡ wordAt s (nodeOperandAt v)
+  pub entry-piece : (p strip operand : ℕ) → p ≡ wordAt s (at + 4) → strip ≡ getD s (at + 1) 0 → operand ≡ wordAt s (at + 2)
       → (code ≡ 9 → ⊥) → recordBytes (versionRecord (entry p code strip operand)) ≡ versionPiece s v
   unfolding versionPiece nodeIn
   entry-piece p strip operand i j k n =
-      let test : eqb (getD s (nodeCodeAt v) 0) 9 ≡ false = ne-eqb (getD s (nodeCodeAt v) 0) 9 (omega arith) in rw (e, i, j, k, test)
+      let test : eqb (getD s at 0) 9 ≡ false = ne-eqb (getD s at 0) 9 (omega arith) in rw (← place, e, i, j, k, test)
 
   pub merge-length : code ≡ 9 → length (versionPiece s v) ≡ 5
   unfolding recordBytes

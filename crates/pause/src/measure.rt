@@ -1,8 +1,8 @@
 // How many bytes the records of a store's versions and heads take.
 use buffer::wide;
-use store::places::BLOCK;
 use store::places::CONSOLES;
-use store::places::HEADER;
+use store::places::MERGE_CODE;
+use store::places::block_at;
 use store::places::common_in;
 ghost use mathlib.Core.Path.{_≡_};
 ghost use Prim.Native.Nat.{suc, _*_, _<_, _≤_};
@@ -16,8 +16,8 @@ fn version_length(s: &[u8], v: usize) -> usize
     requires { ⌜ (v < 1024) × (blockAt (suc v) ≤ length (now s)) ⌝ }
     ensures { λ r. ⌜ (r ≡ length (versionPiece (now (s .entry)) v)) × (r ≤ 7) ⌝ }
 {
-    let node = HEADER + BLOCK * v;
-    if wide(s[node]) == 9 {
+    let node = block_at(v);
+    if wide(s[node]) == MERGE_CODE {
         return 5;
     }
     7

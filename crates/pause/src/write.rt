@@ -4,13 +4,13 @@ use crate::record::put_head;
 use crate::record::put_merge;
 use buffer::wide;
 use buffer::word_at;
-use store::places::BLOCK;
 use store::places::CONSOLES;
-use store::places::HEADER;
+use store::places::MERGE_CODE;
 use store::places::NODE_GIVER;
 use store::places::NODE_OPERAND;
 use store::places::NODE_PARENT;
 use store::places::NODE_STRIP;
+use store::places::block_at;
 use store::places::common_in;
 ghost use mathlib.Core.Path.{_≡_};
 ghost use Prim.Native.Nat.{suc, _+_, _<_, _≤_};
@@ -26,10 +26,10 @@ fn put_version(s: &[u8], v: usize, tape: &mut [u8], at: usize) -> usize
     requires { ⌜ at + length (versionPiece (now s) v) ≤ length (now tape) ⌝ }
     ensures { λ r. ⌜ (r ≡ at + length (versionPiece (now (s .entry)) v)) × (now (tape .exit) ≡ withPart (now (tape .entry)) at (versionPiece (now (s .entry)) v)) ⌝ }
 {
-    let node = HEADER + BLOCK * v;
+    let node = block_at(v);
     let code = wide(s[node]);
     let parent = word_at(s, node + NODE_PARENT);
-    if code == 9 {
+    if code == MERGE_CODE {
         put_merge(tape, at, parent, word_at(s, node + NODE_GIVER));
         return at + 5;
     }

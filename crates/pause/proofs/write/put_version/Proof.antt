@@ -5,11 +5,8 @@ use Rattle.pause.proofs.Pieces.{merge-piece, entry-piece, merge-length,
 use Rattle.pause.proofs.write.put_version.Statement.{statement}
 use Rattle.pause.proofs.write.put_version.Tie as tie
 
-mul-node : tie.Need-mul-node
-mul-node c = omega arith
-
-add-node : tie.Need-add-node
-add-node c = omega arith
+block-at-requires : tie.Need-block-at-requires
+block-at-requires c κs = omega arith
 
 shared-slice-read-wide : tie.Need-shared-slice-read-wide
 shared-slice-read-wide c = omega arith
@@ -31,28 +28,31 @@ word-at-requires-2 c κs = omega arith
 
 put-merge-requires : tie.Need-put-merge-requires
 put-merge-requires c κs =
-    let a = c .before .before .before .before .before .before .before .before .args in
-    let code = c .before .before .before .before .wide in
-    omega (arith, merge-length (a .s .now) (a .v) (code .result) (code .ensures .0) (c .before .before .if1 .taken))
+    let code = c .before .before .before .before in
+    let place = code .before .before in
+    let a = place .before .before .before .args in
+    omega (arith, merge-length (a .s .now) (a .v) _ (code .wide .result) (place .block-at .ensures) (code .wide .ensures .0) (c .before .before .if1 .taken))
 
 add-result : tie.Need-add-result
 add-result c =
-    let a = c .before .before .before .before .before .before .before .before .before .before .before .args in
-    let code = c .before .before .before .before .before .before .before .wide in
-    omega (arith, merge-length (a .s .now) (a .v) (code .result) (code .ensures .0) (c .before .before .before .before .before .if1 .taken))
+    let code = c .before .before .before .before .before .before .before in
+    let place = code .before .before in
+    let a = place .before .before .before .args in
+    omega (arith, merge-length (a .s .now) (a .v) _ (code .wide .result) (place .block-at .ensures) (code .wide .ensures .0) (c .before .before .before .before .before .if1 .taken))
 
 same-length : tie.Need-same-length
 same-length c = omega arith
 
 returns : tie.Need-returns
 returns c =
-    let a = c .before .before .before .before .before .before .before .before .before .before .before .args in
-    let code = c .before .before .before .before .before .before .before .wide in
+    let code = c .before .before .before .before .before .before .before in
+    let place = code .before .before in
+    let a = place .before .before .before .args in
     let parent = c .before .before .before .before .before .before .word-at in
     let giver = c .before .before .before .word-at2 in
     let merged = c .before .before .before .before .before .if1 .taken in (
-      omega (arith, merge-length (a .s .now) (a .v) (code .result) (code .ensures .0) merged),
-      rw (← merge-piece (a .s .now) (a .v) (code .result) (code .ensures .0) (parent .result) (giver .result) (parent .ensures .0) (giver .ensures .0) merged)
+      omega (arith, merge-length (a .s .now) (a .v) _ (code .wide .result) (place .block-at .ensures) (code .wide .ensures .0) merged),
+      rw (← merge-piece (a .s .now) (a .v) _ (code .wide .result) (place .block-at .ensures) (code .wide .ensures .0) (parent .result) (giver .result) (parent .ensures .0) (giver .ensures .0) merged)
           (c .before .before .put-merge .ensures),
     )
 
@@ -73,30 +73,33 @@ word-at-requires-3 c κs = omega arith
 
 put-entry-requires : tie.Need-put-entry-requires
 put-entry-requires c κs =
-    let a = c .before .before .before .before .before .before .before .before .before .before .args in
-    let code = c .before .before .before .before .before .before .wide in
-    omega (arith, entry-length (a .s .now) (a .v) (code .result) (code .ensures .0) (c .before .before .before .before .if1 .left))
+    let code = c .before .before .before .before .before .before in
+    let place = code .before .before in
+    let a = place .before .before .before .args in
+    omega (arith, entry-length (a .s .now) (a .v) _ (code .wide .result) (place .block-at .ensures) (code .wide .ensures .0) (c .before .before .before .before .if1 .left))
 
 add-result-2 : tie.Need-add-result-2
 add-result-2 c =
-    let a = c .before .before .before .before .before .before .before .before .before .before .before .before .before .args in
-    let code = c .before .before .before .before .before .before .before .before .before .wide in
-    omega (arith, entry-length (a .s .now) (a .v) (code .result) (code .ensures .0) (c .before .before .before .before .before .before .before .if1 .left))
+    let code = c .before .before .before .before .before .before .before .before .before in
+    let place = code .before .before in
+    let a = place .before .before .before .args in
+    omega (arith, entry-length (a .s .now) (a .v) _ (code .wide .result) (place .block-at .ensures) (code .wide .ensures .0) (c .before .before .before .before .before .before .before .if1 .left))
 
 same-length-2 : tie.Need-same-length-2
 same-length-2 c = omega arith
 
 returns-2 : tie.Need-returns-2
 returns-2 c =
-    let a = c .before .before .before .before .before .before .before .before .before .before .before .before .before .args in
-    let code = c .before .before .before .before .before .before .before .before .before .wide in
+    let code = c .before .before .before .before .before .before .before .before .before in
+    let place = code .before .before in
+    let a = place .before .before .before .args in
     let parent = c .before .before .before .before .before .before .before .before .word-at in
     let strip = c .before .before .before .before .wide2 in
     let operand = c .before .before .before .word-at3 in
     let entered = c .before .before .before .before .before .before .before .if1 .left in (
-      omega (arith, entry-length (a .s .now) (a .v) (code .result) (code .ensures .0) entered),
+      omega (arith, entry-length (a .s .now) (a .v) _ (code .wide .result) (place .block-at .ensures) (code .wide .ensures .0) entered),
       rw
-          (← entry-piece (a .s .now) (a .v) (code .result) (code .ensures .0) (parent .result) (strip .result) (operand .result)
+          (← entry-piece (a .s .now) (a .v) _ (code .wide .result) (place .block-at .ensures) (code .wide .ensures .0) (parent .result) (strip .result) (operand .result)
           (parent .ensures .0) (strip .ensures .0) (operand .ensures .0) entered)
           (c .before .before .put-entry .ensures),
     )
@@ -105,8 +108,7 @@ pub put-version-spec : {M : Type 1} → statement M
 put-version-spec =
     tie.close
     (tie.spec
-    mul-node
-    add-node
+    block-at-requires
     shared-slice-read-wide
     wide-requires
     add-word-at
