@@ -2,8 +2,11 @@
 use crate::ranges::see_tape;
 use crate::sound::gives_sound_room;
 use crate::write::write_store;
-use store::places::BLOCK;
 use store::places::HEADER;
+use store::places::MAX_CAPACITY;
+use store::places::ROW;
+use store::places::block_at;
+use store::places::is_capacity;
 use tape::scan::Scanned;
 use tape::scan::scan;
 ghost use mathlib.Core.Path.{_≡_};
@@ -19,10 +22,8 @@ ghost use Rattle.tape.specs.Reader.{headPlace};
 ghost use Rattle.resume.specs.Content.{contentIn};
 ghost use Rattle.resume.specs.Resumed.{resumeRefusal, resumedStore};
 
-// The most versions that a store can hold, and the bytes of their rows.
-const MAX_CAPACITY: usize = 1024;
-
-const ROWS: usize = 131072;
+// The bytes of the rows of all the versions that a store can hold.
+const ROWS: usize = ROW * MAX_CAPACITY;
 
 // A refusal where its case is there; else 0.
 fn when(number: u32, applies: bool) -> u32
@@ -62,7 +63,7 @@ fn resume_ranged(
     let mut rows = [0u8; ROWS];
     let mut header = [0u8; HEADER];
     let sound = gives_sound_room(tape, versions, from, heads, &mut rows, &mut header);
-    let refusal = last_refusal(!sound, store.len() < HEADER + BLOCK * capacity);
+    let refusal = last_refusal(!sound, store.len() < block_at(capacity));
     if refusal == 0 {
         write_store(store, tape, capacity, versions, &rows, &header);
     }
@@ -81,10 +82,7 @@ fn resume_whole(
     requires { ⌜ (capacity ≡ contentIn (now tape) .capacity) × (versions ≡ length (contentIn (now tape) .versions)) × (heads ≡ length (contentIn (now tape) .heads)) ⌝ }
     ensures { λ r. ⌜ (r ≡ resumeRefusal (some (contentIn (now (tape .entry)))) (now (store .entry))) × (now (store .exit) ≡ resumedStore (some (contentIn (now (tape .entry)))) (now (store .entry))) ⌝ }
 {
-    if capacity < 1 {
-        return 8;
-    }
-    if MAX_CAPACITY < capacity {
+    if !is_capacity(capacity) {
         return 8;
     }
     let seen = see_tape(tape, capacity, versions, heads);

@@ -26,14 +26,8 @@ gives-sound-room-requires c κs =
     let p = c .before .before .before .before .pre in
     (p .0, ((p .1 .1 .0, p .1 .1 .1), ((p .1 .0 .1, p .1 .0 .2, p .1 .0 .3), (zeros-length rowsSize, (zeros-length headerSize, refl)))))
 
-mul-last-refusal : tie.Need-mul-last-refusal
-mul-last-refusal c =
-    let start = c .before .before .before .before .before .before .before in
-    let size = within-true 1 maxCapacity (contentIn (start .args .tape .now) .capacity) (start .pre .1 .1 .0) in
-    omega arith
-
-add-last-refusal : tie.Need-add-last-refusal
-add-last-refusal c =
+block-at-requires : tie.Need-block-at-requires
+block-at-requires c κs =
     let start = c .before .before .before .before .before .before .before in
     let size = within-true 1 maxCapacity (contentIn (start .args .tape .now) .capacity) (start .pre .1 .1 .0) in
     omega arith
@@ -51,12 +45,13 @@ write-store-requires : tie.Need-write-store-requires
 write-store-requires c κs =
     let then = c .before .before .before in
     let answered = then .before in
-    let judged = answered .before .before .before in
+    let sized = answered .before in
+    let judged = sized .before .before .before in
     let start = judged .before .before .before .before .before in
     let p = start .pre in
     let told = judged .gives-sound-room .ensures in
     let fits = none-left (judged .gives-sound-room .result) _ (sym (answered .last-refusal .ensures) ∙ then .if1 .taken) in
-    let long = ltb-false (length (start .args .store .now)) (storeSize (start .args .capacity)) (fits .1) in
+    let long = ltb-false (length (start .args .store .now)) (sized .block-at .result) (fits .1) in
     (p .0, ((p .1 .0 .0, p .1 .0 .1), ((sym (told .0) ∙ fits .0, told .1), ((omega arith, told .2 (fits .0)), omega (arith, long)))))
 
 same-length : tie.Need-same-length
@@ -67,20 +62,22 @@ returns c =
     let written = c .before .before in
     let then = written .before .before .before .before in
     let answered = then .before in
-    let judged = answered .before .before .before in
+    let sized = answered .before in
+    let judged = sized .before .before .before in
     let start = judged .before .before .before .before .before in
     let p = start .pre in
     resumed (contentIn (start .args .tape .now)) (start .args .store .now) (p .1 .1 .0) (p .1 .1 .1) (judged .gives-sound-room .ensures .0)
-    (ap (λ n. ltb (length (start .args .store .now)) (storeSize n)) (p .1 .0 .0)) (answered .last-refusal .ensures) (then .if1 .taken) (written .write-store .ensures)
+    (ap (ltb (length (start .args .store .now))) (sized .block-at .ensures ∙ ap storeSize (p .1 .0 .0))) (answered .last-refusal .ensures) (then .if1 .taken) (written .write-store .ensures)
 
 returns-2 : tie.Need-returns-2
 returns-2 c =
     let answered = c .before in
-    let judged = answered .before .before .before in
+    let sized = answered .before in
+    let judged = sized .before .before .before in
     let start = judged .before .before .before .before .before in
     let p = start .pre in
     last-refused (contentIn (start .args .tape .now)) (start .args .store .now) (p .1 .1 .0) (p .1 .1 .1) (judged .gives-sound-room .ensures .0)
-    (ap (λ n. ltb (length (start .args .store .now)) (storeSize n)) (p .1 .0 .0)) (answered .last-refusal .ensures) (c .if1 .left)
+    (ap (ltb (length (start .args .store .now))) (sized .block-at .ensures ∙ ap storeSize (p .1 .0 .0))) (answered .last-refusal .ensures) (c .if1 .left)
 
 pub resume-ranged-spec : {M : Type 1} → statement M
 resume-ranged-spec =
@@ -89,8 +86,7 @@ resume-ranged-spec =
     slice-aggregate-gives-sound-room
     slice-aggregate-gives-sound-room-2
     gives-sound-room-requires
-    mul-last-refusal
-    add-last-refusal
+    block-at-requires
     last-refusal-requires
     slice-aggregate-write-store
     slice-aggregate-write-store-2
