@@ -3,9 +3,8 @@ use crate::Reply;
 use crate::answers::counted;
 use crate::answers::refused;
 use crate::answers::size;
-use store::places::BLOCK;
-use store::places::HEADER;
-use store::places::MAX_CAPACITY;
+use store::places::block_at;
+use store::places::is_capacity;
 use update::open::open;
 ghost use mathlib.Core.Path.{_≡_};
 ghost use Rattle.unit.specs.Calls.{openRefusal, openOutcome};
@@ -15,13 +14,10 @@ fn opening_refusal(capacity: u32, store: &[u8]) -> u32
     ensures { λ r. ⌜ r ≡ openRefusal capacity (now (store .entry)) ⌝ }
 {
     let versions = size(capacity);
-    if versions < 1 {
+    if !is_capacity(versions) {
         return 8;
     }
-    if MAX_CAPACITY < versions {
-        return 8;
-    }
-    if store.len() < HEADER + BLOCK * versions {
+    if store.len() < block_at(versions) {
         return 19;
     }
     0
