@@ -7,13 +7,13 @@ use mathlib.Core.List.{List}
 use borrow.Author.Tests.{le-leb, lt-leb}
 use lib.Dec.{leb, ltb}
 use lib.ListN.{length}
-use Rattle.laws.proofs.Logic.{clash, refuted, and-i}
+use Rattle.laws.proofs.Logic.{clash, refuted}
 use Rattle.buffer.specs.Field.{wordAt, part, same, allZero}
 use Rattle.buffer.specs.Row.{row, noneFrom}
 use Rattle.buffer.proofs.Parts.{Bytes}
 use Rattle.graph.specs.Below.{everyBelow}
 use Rattle.command.specs.Code.{consoleCount}
-use Rattle.room.specs.Sound.{maxCapacity, isCapacity}
+use Rattle.room.specs.Sound.{isCapacity}
 use Rattle.store.specs.Layout.{headerSize, rowSize, blockSize, storeSize, capacityAt, countAt, entriesAt, commonsEnd, blockAt, holdsStore}
 use Rattle.store.specs.Check.{rowPart, entriesPart, commonIn, behindHeads, consoleRight, versionsRight, contentsRight, storeRight}
 use Rattle.store.proofs.Holds.{holds-right}
@@ -122,13 +122,3 @@ module _ (s : List ℕ) where
   unfolding storeRight
   contents-decide bytes a b c =
       sym (sym (check-holds s bytes) ∙ rw (le-leb headerSize (length s) a, b, le-leb (storeSize (wordAt s capacityAt)) (length s) c))
-
--- a number outside 1 to 1,024 is no capacity
-pub capacity-low : (x : ℕ) → x < 1 → isCapacity x ≡ false
-capacity-low x h = and-fail-l (leb 1 x) _ (lt-leb 1 x h)
-
-pub capacity-high : (x : ℕ) → maxCapacity < x → isCapacity x ≡ false
-capacity-high x h = and-fail-r (leb 1 x) _ (lt-leb x maxCapacity h)
-
-pub capacity-in : (x : ℕ) → 1 ≤ x → x ≤ maxCapacity → isCapacity x ≡ true
-capacity-in x a b = and-i (leb 1 x) _ (le-leb 1 x a) (le-leb x maxCapacity b)

@@ -16,14 +16,15 @@ use Rattle.buffer.proofs.Writes.{put-length, put-other}
 use Rattle.buffer.proofs.Stands.{Stands}
 use Rattle.graph.specs.Graph.{nodeOf, isSome}
 use Rattle.command.specs.Code.{consoleCount}
+use Rattle.command.proofs.Limits.{within-i}
 use Rattle.room.specs.Room.{Room, present, common, fresh}
+use Rattle.room.specs.Sound.{maxCapacity}
 use Rattle.room.specs.Boards.{boardOf}
 use Rattle.room.proofs.Steps.{fresh-sound}
 use Rattle.store.specs.Layout.{rowSize, storeSize, blockAt, commonAt, commonField, nodeBytes, block, encode}
 use Rattle.store.proofs.Diagonal.{meetNumber-self}
 use Rattle.store.proofs.Behind.{empty-row}
 use Rattle.store.proofs.Versions.{root-line}
-use Rattle.store.proofs.Judged.{capacity-in}
 use Rattle.store.proofs.Joined.{Placed, join-block, join-encode}
 use Rattle.store.proofs.Overwritten.{overwritten}
 
@@ -204,7 +205,7 @@ filled-fresh s capacity room few fits =
     let n = storeSize capacity in
     let long = cleared-length s n fits in
     let o = filled-opened (cleared s n fits) capacity (omega arith) s long (cleared-front s n fits) (cleared-rest s n fits) room in
-    overwritten s _ (fresh capacity) (fresh-sound capacity (capacity-in capacity room few)) (join-encode (fresh capacity) (placed room o)) fits (o .long) (o .kept)
+    overwritten s _ (fresh capacity) (fresh-sound capacity (within-i 1 maxCapacity capacity room few)) (join-encode (fresh capacity) (placed room o)) fits (o .long) (o .kept)
 
 -- the same, write by write
 pub opened : (s x a b d : List ℕ) (capacity : ℕ) → 1 ≤ capacity → capacity ≤ 1024 → storeSize capacity ≤ length s
