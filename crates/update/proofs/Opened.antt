@@ -208,8 +208,8 @@ filled-fresh s capacity room few fits =
     overwritten s _ (fresh capacity) (fresh-sound capacity (within-i 1 maxCapacity capacity room few)) (join-encode (fresh capacity) (placed room o)) fits (o .long) (o .kept)
 
 -- the same, write by write
-pub opened : (s x a b d : List ℕ) (capacity : ℕ) → 1 ≤ capacity → capacity ≤ 1024 → storeSize capacity ≤ length s
-    → x ≡ zeros (length (take (storeSize capacity) s)) → a ≡ putWord (x ++ drop (storeSize capacity) s) 0 capacity
+pub opened : (s x a b d : List ℕ) (capacity end : ℕ) → 1 ≤ capacity → capacity ≤ 1024 → storeSize capacity ≤ length s
+    → end ≡ storeSize capacity → x ≡ zeros (length (take end s)) → a ≡ putWord (x ++ drop end s) 0 capacity
     → b ≡ putWord a 2 1 → d ≡ putWord b 256 1 → set d 4128 1 ≡ overwrite (encode (fresh capacity)) s
-opened s x a b d capacity room few fits front e₁ e₂ e₃ =
-    rw (e₃, e₂, e₁, front, length-take-le (storeSize capacity) s fits) (filled-fresh s capacity room few fits)
+opened s x a b d capacity end room few fits there front e₁ e₂ e₃ =
+    rw (e₃, e₂, e₁, front, there, length-take-le (storeSize capacity) s fits) (filled-fresh s capacity room few fits)

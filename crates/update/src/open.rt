@@ -1,12 +1,12 @@
 // A fresh store: version 0, and console 0 on it.
 use buffer::clear;
 use buffer::put_word;
-use store::places::BLOCK;
 use store::places::CAPACITY;
 use store::places::COMMONS;
 use store::places::COUNT;
 use store::places::HEADER;
 use store::places::NODE;
+use store::places::block_at;
 ghost use mathlib.Core.Path.{_≡_};
 ghost use Prim.Native.Nat.{_≤_};
 ghost use lib.ListN.{length};
@@ -20,7 +20,7 @@ pub fn open(s: &mut [u8], capacity: usize)
     requires { ⌜ storeSize capacity ≤ length (now s) ⌝ }
     ensures { λ _. ⌜ now (s .exit) ≡ overwrite (encode (fresh capacity)) (now (s .entry)) ⌝ }
 {
-    let end = HEADER + BLOCK * capacity;
+    let end = block_at(capacity);
     let row = HEADER + NODE;
     clear(&mut s[..end]);
     put_word(s, CAPACITY, capacity);

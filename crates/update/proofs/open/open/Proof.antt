@@ -1,7 +1,6 @@
 -- `update::open::open` meets its contract.
 -- Assumes nothing.
 use mathlib.Core.Path.{sym}
-use Prim.Native.Nat.{_+_, _*_}
 use native.Mathlib.Omega.{arith}
 use lib.Seq.{length-take-le}
 use lib.ListN.{length-set}
@@ -9,11 +8,8 @@ use Rattle.update.proofs.Opened.{opened}
 use Rattle.update.proofs.open.open.Statement.{statement}
 use Rattle.update.proofs.open.open.Tie as tie
 
-mul-end : tie.Need-mul-end
-mul-end c = omega arith
-
-add-end : tie.Need-add-end
-add-end c = omega arith
+block-at-requires : tie.Need-block-at-requires
+block-at-requires c κs = omega arith
 
 add-row : tie.Need-add-row
 add-row c = omega arith
@@ -22,7 +18,7 @@ slice-relend-prefix-clear : tie.Need-slice-relend-prefix-clear
 slice-relend-prefix-clear c = omega arith
 
 slice-aggregate-clear : tie.Need-slice-aggregate-clear
-slice-aggregate-clear c = let a = c .before .before .args in sym (length-take-le (4096 + 544 * a .capacity) (a .s .now) (omega arith))
+slice-aggregate-clear c = sym (length-take-le (c .before .block-at .result) (c .before .before .before .args .s .now) (omega arith))
 
 clear-requires : tie.Need-clear-requires
 clear-requires c κs = omega arith
@@ -48,17 +44,17 @@ returns c =
     let second = third .before .before .before .before in
     let first = second .before .before .before .before in
     let front = first .before .before .before .before in
-    let start = front .before .before .before in
+    let sized = front .before .before in
+    let start = sized .before .before in
     opened (start .args .s .now) (front .clear .last .0) (first .put-word .last .0) (second .put-word2 .last .0) (third .put-word3 .last .0)
-    (start .args .capacity) (start .pre .0 .0) (start .pre .0 .1) (start .pre .1) (front .clear .ensures) (first .put-word .ensures)
-    (second .put-word2 .ensures) (third .put-word3 .ensures)
+    (start .args .capacity) (sized .block-at .result) (start .pre .0 .0) (start .pre .0 .1) (start .pre .1) (sized .block-at .ensures)
+    (front .clear .ensures) (first .put-word .ensures) (second .put-word2 .ensures) (third .put-word3 .ensures)
 
 pub open-spec : {M : Type 1} → statement M
 open-spec =
     tie.close
     (tie.spec
-    mul-end
-    add-end
+    block-at-requires
     add-row
     slice-relend-prefix-clear
     slice-aggregate-clear
