@@ -17,7 +17,7 @@ use Rattle.store.specs.Layout.{storeSize, encode}
 use Rattle.tape.specs.declared.scan.Scanned.{Scanned}
 use Rattle.tape.specs.declared.scan.Scanned.the-variants.{Whole, Broken}
 use Rattle.tape.specs.Tape.{Content, roomOf, inRange}
-use Rattle.tape.specs.Reader.{scannedOf}
+use Rattle.tape.specs.Reader.{scannedOf, scanRefusal}
 use Rattle.resume.specs.Content.{told}
 use Rattle.resume.specs.Resumed.{resumeRefusal, resumedStore}
 
@@ -33,9 +33,6 @@ said-of old e h = rw e h
 refused : (o : Option Content) (old : List ℕ) (n : ℕ) → 0 < n → n ≡ resumeRefusal o old → Resumed o old n old
 unfolding resumedStore
 refused o old n l e = (e, sym (cond-false _ _ _ (ap (λ (k : ℕ). eqb k 0) (sym e) ∙ ne-eqb n 0 (omega arith))))
-
-pub no-tape : (old : List ℕ) → Resumed none old 7 old
-no-tape old = refused none old 7 (omega arith) refl
 
 -- the first of two refusals, as the code finds it
 pub two-refusals : (unsound short : Bool) {one other n : ℕ} → one ≡ cond unsound 10 0 → other ≡ cond short 19 0 → n ≡ cond (eqb one 0) other one
@@ -85,6 +82,7 @@ pub scan-read : (o : Option Content) {x : Scanned} {capacity versions heads : �
 scan-read none e f = absurd (let z : _≡_ {A = ℕ} 0 1 = cc in omega arith)
 scan-read (some t) e f = record { whole = refl; capacity-is = cc; versions-are = cc; heads-are = cc }
 
-pub scan-broken : (o : Option Content) {x : Scanned} → x ≡ scannedOf o → x ≡ Broken → o ≡ none
-scan-broken none e f = refl
-scan-broken (some t) e f = absurd (let z : _≡_ {A = ℕ} 0 1 = cc in omega arith)
+-- a tape that the scan refuses is refused with the scan's number
+pub scan-refused : (o : Option Content) (old : List ℕ) (n : ℕ) {x : Scanned} → x ≡ scannedOf o → x ≡ Broken → n ≡ scanRefusal x → Resumed o old n old
+scan-refused none old n e f g = let seven = g ∙ ap scanRefusal f in refused none old n (omega arith) seven
+scan-refused (some t) old n e f g = absurd (let z : _≡_ {A = ℕ} 0 1 = cc in omega arith)

@@ -9,6 +9,7 @@ use store::places::block_at;
 use store::places::is_capacity;
 use tape::scan::Scanned;
 use tape::scan::scan;
+use tape::scan::scan_refusal;
 ghost use mathlib.Core.Path.{_≡_};
 ghost use mathlib.Core.Bool.{true, cond};
 ghost use mathlib.Core.List.{[], _∷_};
@@ -97,12 +98,13 @@ pub fn resume_tape(tape: &[u8], store: &mut [u8]) -> u32
     ensures { λ r. ⌜ (r ≡ resumeRefusal (contentOf (now (tape .entry))) (now (store .entry))) × (now (store .exit) ≡ resumedStore (contentOf (now (tape .entry))) (now (store .entry))) ⌝ }
 {
     let scanned = scan(tape);
-    match scanned {
-        Scanned::Whole {
-            capacity,
-            versions,
-            heads,
-        } => resume_whole(tape, store, capacity, versions, heads),
-        Scanned::Broken => 7,
-    }
+    let Scanned::Whole {
+        capacity,
+        versions,
+        heads,
+    } = scanned
+    else {
+        return scan_refusal(scanned);
+    };
+    resume_whole(tape, store, capacity, versions, heads)
 }

@@ -48,6 +48,11 @@ abbrev pub scannedOf : Option Content → Scanned
 scannedOf none = Broken
 scannedOf (some t) = Whole (t .capacity) (length (t .versions)) (length (t .heads))
 
+-- the paper's number for the scan's answer: 0, or "7 tape isn't such a sequence of whole records, with at least one head."
+abbrev pub scanRefusal : Scanned → ℕ
+scanRefusal (Whole capacity versions heads) = 0
+scanRefusal Broken = 7
+
 -- what a record is to the scan after so many heads
 unfoldable pub kindOf : Record → ℕ → Kind
 kindOf (record-is.Start capacity) heads = kind-is.Misplaced

@@ -7,7 +7,7 @@ ghost use Prim.Native.Nat.{_≤_};
 ghost use lib.Dec.{eqb};
 ghost use lib.ListN.{length, drop};
 ghost use Rattle.tape.specs.Tape.{contentOf};
-ghost use Rattle.tape.specs.Reader.{scannedOf, kindOf, scanOn};
+ghost use Rattle.tape.specs.Reader.{scannedOf, scanRefusal, kindOf, scanOn};
 
 // A tape is whole, with its capacity and how many versions and heads it has, or it is refused with 7.
 pub enum Scanned {
@@ -132,5 +132,19 @@ pub fn scan(tape: &[u8]) -> Scanned
         } => Scanned::Broken,
         Record::End => Scanned::Broken,
         Record::Broken => Scanned::Broken,
+    }
+}
+
+// The number of the scan's answer: 0 for a whole tape, else its refusal.
+pub fn scan_refusal(x: Scanned) -> u32
+    ensures { λ r. ⌜ r ≡ scanRefusal x ⌝ }
+{
+    match x {
+        Scanned::Whole {
+            capacity: _,
+            versions: _,
+            heads: _,
+        } => 0,
+        Scanned::Broken => 7,
     }
 }

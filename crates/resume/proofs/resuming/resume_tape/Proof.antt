@@ -1,8 +1,8 @@
--- `resume::resuming::resume_tape` meets its contract: 7, or what is said of a whole tape.
+-- `resume::resuming::resume_tape` meets its contract: the scan's refusal, or what is said of a whole tape.
 -- Assumes nothing.
 use native.Mathlib.Omega.{arith}
 use Rattle.tape.specs.Tape.{contentOf}
-use Rattle.resume.proofs.Resumes.{said-of, no-tape, scan-read, scan-broken}
+use Rattle.resume.proofs.Resumes.{said-of, scan-read, scan-refused}
 use Rattle.resume.proofs.resuming.resume_tape.Statement.{statement}
 use Rattle.resume.proofs.resuming.resume_tape.Tie as tie
 
@@ -12,6 +12,18 @@ scan-requires c κs = omega arith
 enum-known-scanned : tie.Need-enum-known-scanned
 enum-known-scanned c = omega arith
 
+enum-told : tie.Need-enum-told
+enum-told c = omega arith
+
+scan-refusal-requires : tie.Need-scan-refusal-requires
+scan-refusal-requires c κs = tt
+
+returns : tie.Need-returns
+returns c =
+    let scanned = c .before .before .before in
+    let a = scanned .before .before .before .args in
+    scan-refused (contentOf (a .tape .now)) (a .store .now) (c .scan-refusal .result) (scanned .scan .ensures) (c .before .enum-told .given .1) (c .scan-refusal .ensures)
+
 resume-whole-requires : tie.Need-resume-whole-requires
 resume-whole-requires c κs =
     let found = c .before .before in
@@ -19,14 +31,11 @@ resume-whole-requires c κs =
     let read = scan-read (contentOf (scanned .before .before .before .args .tape .now)) (scanned .scan .ensures) (found .scanned .given .1) in
     (read .whole, (read .capacity-is, read .versions-are, read .heads-are))
 
-enum-told : tie.Need-enum-told
-enum-told c = omega arith
-
 same-length : tie.Need-same-length
 same-length c = omega arith
 
-returns : tie.Need-returns
-returns c =
+returns-2 : tie.Need-returns-2
+returns-2 c =
     let made = c .before .before in
     let found = made .before .before .before in
     let scanned = found .before .before in
@@ -34,20 +43,15 @@ returns c =
     let read = scan-read (contentOf (a .tape .now)) (scanned .scan .ensures) (found .scanned .given .1) in
     said-of (a .store .now) (read .whole) (made .resume-whole .ensures)
 
-returns-2 : tie.Need-returns-2
-returns-2 c =
-    let scanned = c .before .before in
-    let a = scanned .before .before .before .args in
-    said-of (a .store .now) (scan-broken (contentOf (a .tape .now)) (scanned .scan .ensures) (c .enum-told .given .1)) (no-tape (a .store .now))
-
 pub resume-tape-spec : {M : Type 1} → statement M
 resume-tape-spec =
     tie.close
     (tie.spec
     scan-requires
     enum-known-scanned
-    resume-whole-requires
     enum-told
-    same-length
+    scan-refusal-requires
     returns
+    resume-whole-requires
+    same-length
     returns-2)
