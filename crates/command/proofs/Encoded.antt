@@ -21,15 +21,16 @@ use Rattle.command.specs.declared.Console.{Console}
 use Rattle.command.specs.declared.Operands.{Operands}
 use Rattle.command.specs.declared.Command.{Command}
 use Rattle.command.specs.declared.Command.the-variants.{Fork, Entry, Merge, FastForward}
-use Rattle.command.specs.declared.Decoded.the-variants.{Whole}
+use Rattle.command.specs.declared.Decoded.{Decoded}
+use Rattle.command.specs.declared.Decoded.the-variants.{Whole, Refused}
 use Rattle.command.specs.Refusal.{firstRefusal}
 use Rattle.command.specs.Code.{consoleCount, shapeOf, lengthOf, numberAt, operandsOf, isEntryCode, isStrip, isOperand}
-use Rattle.command.specs.Decode.{codeIn, isCommandCode, operandsIn, numberTests, commandRefusal, commandOf, decode, operandBytes, commandBytes}
+use Rattle.command.specs.Decode.{codeIn, isCommandCode, operandsIn, numberTests, commandRefusal, commandOf, decode, refusalOf, operandBytes, commandBytes, decodedBytes}
 use Rattle.command.specs.Decoding.{TwoConsoles, InRange}
 use Rattle.command.proofs.Refusals.{none-applies}
 use Rattle.command.proofs.Limits.{within-true, within-i, within-false, operand-below}
 use Rattle.command.proofs.Carried.{operand-none}
-use Rattle.command.proofs.Ranges.{whole-told}
+use Rattle.command.proofs.Ranges.{whole-told, refused-told}
 use Rattle.command.proofs.Shapes.{shape-settings, shape-marks, shape-counts, shape-pairs}
 use Rattle.command.proofs.Decodes.{command-entry, command-fork, command-merge, command-forward, decoded}
 
@@ -153,6 +154,11 @@ decode-bytes s c bytes h =
     let w = whole-told s c h in
     let z = sized s (w .0) in
     rw (← w .1) (again s bytes (z .1) (z .0 .0) (z .0 .1))
+
+-- what is decoded, with its bytes where it is not refused
+pub decoded-bytes : (s : List ℕ) (d : Decoded) → Bytes s → d ≡ decode s → (d ≡ decode s) × (refusalOf d ≡ 0 → decodedBytes d ≡ s)
+decoded-bytes s (Whole c) bytes h = (h, λ z. decode-bytes s c bytes (sym h))
+decoded-bytes s (Refused n) bytes h = (h, λ z. absurd (let given = refused-told s n h in omega arith))
 
 abbrev three-numbers : ℕ → ℕ → ℕ → Operands
 three-numbers a b c = record { first = a; second = b; third = c; fourth = 0 }

@@ -79,6 +79,19 @@ pub whole-told : (s : List ℕ) (c : Command) → decode s ≡ Whole c → (comm
 unfolding decode
 whole-told s c h = told s c _ refl h
 
+-- a byte string that is refused is refused with a number that is not 0
+number-told : (s : List ℕ) (n : ℕ) (t : Bool) → eqb (commandRefusal s) 0 ≡ t
+    → Refused n ≡ cond t (Whole (commandOf (codeIn s) (operandsIn s))) (Refused (commandRefusal s)) → 0 < n
+number-told s n true e h = absurd (let z : _≡_ {A = ℕ} 0 1 = cc in omega arith)
+number-told s n false e h =
+    let same : n ≡ commandRefusal s = cc in
+    let given = eqb-false (commandRefusal s) 0 e in
+    omega arith
+
+pub refused-told : (s : List ℕ) (n : ℕ) → Refused n ≡ decode s → 0 < n
+unfolding decode
+refused-told s n h = number-told s n _ refl h
+
 pub decode-range : (s : List ℕ) (c : Command) → decode s ≡ Whole c → InRange c
 unfolding commandOf
 decode-range s c h =

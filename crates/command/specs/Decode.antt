@@ -67,3 +67,8 @@ commandBytes (Fork new old) = 0x01 ∷ new .0 ∷ old .0 ∷ []
 commandBytes (Entry console code strip operand) = code ∷ console .0 ∷ strip .0 ∷ operandBytes code operand
 commandBytes (Merge receiver giver) = 0x09 ∷ receiver .0 ∷ giver .0 ∷ []
 commandBytes (FastForward receiver giver) = 0x0A ∷ receiver .0 ∷ giver .0 ∷ []
+
+-- the paper's code and values for what was decoded: those of a whole command, none for a refusal
+abbrev pub decodedBytes : Decoded → List ℕ
+decodedBytes (Whole c) = commandBytes c
+decodedBytes (Refused n) = []

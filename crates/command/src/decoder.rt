@@ -20,7 +20,7 @@ ghost use lib.ListN.{length};
 ghost use Rattle.command.specs.Refusal.{firstRefusal};
 ghost use Rattle.command.specs.Code.{shapeOf, lengthOf, numberAt, operandsOf, isEntryCode, isConsole, isStrip, isOperand};
 ghost use Rattle.command.specs.Decoding.{narrow};
-ghost use Rattle.command.specs.Decode.{numberTests, commandOf, decode, refusalOf};
+ghost use Rattle.command.specs.Decode.{numberTests, commandOf, decode, refusalOf, decodedBytes};
 
 // A shape, by its widths in their order.
 fn widths(first: usize, second: usize, third: usize, fourth: usize) -> Shape
@@ -193,7 +193,7 @@ fn numbers_refused(code: usize, o: Operands) -> u32
 
 // The command that a byte string decodes to, or its lowest refusal.
 pub fn decode_command(s: &[u8]) -> Decoded
-    ensures { λ r. ⌜ r ≡ decode (now (s .entry)) ⌝ }
+    ensures { λ r. ⌜ (r ≡ decode (now (s .entry))) × (refusalOf r ≡ 0 → decodedBytes r ≡ now (s .entry)) ⌝ }
 {
     if s.len() == 0 {
         return Decoded::Refused(1);

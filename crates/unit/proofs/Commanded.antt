@@ -1,16 +1,14 @@
 -- What the call of a command answers: where it is not decoded, where the bytes hold no store, and where it comes to the store.
 -- Assumes nothing.
-use Prim.Native.Nat.{ℕ, _<_}
+use Prim.Native.Nat.{ℕ}
 use mathlib.Core.Path.{_≡_, refl, sym, _∙_, ap}
-use mathlib.Core.Bool.{Bool, true, false, cond}
+use mathlib.Core.Bool.{true, false}
 use mathlib.Core.List.{List, []}
-use native.Mathlib.Omega.{arith}
-use lib.Dec.{eqb}
-use borrow.Author.Tests.{eqb-false}
 use Rattle.command.specs.declared.Command.{Command}
 use Rattle.command.specs.declared.Decoded.{Decoded}
 use Rattle.command.specs.declared.Decoded.the-variants.{Whole, Refused}
-use Rattle.command.specs.Decode.{codeIn, operandsIn, commandRefusal, commandOf, decode, refusalOf}
+use Rattle.command.specs.Decode.{decode, refusalOf}
+use Rattle.command.proofs.Ranges.{refused-told}
 use Rattle.room.specs.Step.{stepRefusal}
 use Rattle.store.specs.Layout.{roomIn, holdsStore}
 use Rattle.step.specs.Outcome.{afterStep}
@@ -21,19 +19,6 @@ use Rattle.unit.proofs.Answered.{written-refused}
 abbrev pub Answers : List ℕ → List ℕ → ℕ → List ℕ → Type 0
 Answers store command n t = (replied n 0 ≡ commandOutcome store command .reply) × (t ≡ commandOutcome store command .buffer)
 
--- a command that is refused by the decoder is refused with a number that is not 0
-decoder-refuses : (s : List ℕ) (n : ℕ) (t : Bool) → eqb (commandRefusal s) 0 ≡ t
-    → Refused n ≡ cond t (Whole (commandOf (codeIn s) (operandsIn s))) (Refused (commandRefusal s)) → 0 < n
-decoder-refuses s n true e h = absurd (let z : _≡_ {A = ℕ} 0 1 = cc in omega arith)
-decoder-refuses s n false e h =
-    let same : n ≡ commandRefusal s = cc in
-    let given = eqb-false (commandRefusal s) 0 e in
-    omega arith
-
-pub undecoded-number : (s : List ℕ) (n : ℕ) → Refused n ≡ decode s → 0 < n
-unfolding decode
-undecoded-number s n h = decoder-refuses s n _ refl h
-
 -- the number of what was decoded, where that is a refusal
 pub refused-as : (s : List ℕ) (d : Decoded) (m n : ℕ) → d ≡ decode s → d ≡ Refused m → n ≡ refusalOf d → Refused n ≡ decode s
 refused-as s d m n found told number = ap Refused (number ∙ ap refusalOf told) ∙ sym told ∙ found
@@ -41,7 +26,7 @@ refused-as s d m n found told number = ap Refused (number ∙ ap refusalOf told)
 module _ (store command : List ℕ) where
   pub undecoded : (n : ℕ) → Refused n ≡ decode command → Answers store command n store
   unfolding commandOutcome stepOutcome
-  undecoded n h = rw (← h) (written-refused n 0 [] store (undecoded-number command n h))
+  undecoded n h = rw (← h) (written-refused n 0 [] store (refused-told command n h))
 
   module _ (c : Command) (e : Whole c ≡ decode command) where
     pub nothing-held : holdsStore store ≡ false → Answers store command 11 store

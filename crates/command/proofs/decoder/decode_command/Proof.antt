@@ -6,11 +6,12 @@ use borrow.Author.Tests.{not-true, not-false}
 use Rattle.command.specs.declared.Decoded.the-variants.{Whole}
 use Rattle.command.proofs.Shapes.{narrow-shape}
 use Rattle.command.proofs.Decodes.{refused-empty, refused-code, refused-length, refused-numbers, decoded}
+use Rattle.command.proofs.Encoded.{decoded-bytes}
 use Rattle.command.proofs.decoder.decode_command.Statement.{statement}
 use Rattle.command.proofs.decoder.decode_command.Tie as tie
 
 returns : tie.Need-returns
-returns c = refused-empty _ (c .if1 .taken)
+returns c = decoded-bytes _ _ (λ k. c .before .shared-slice-known .given k .fits) (refused-empty _ (c .if1 .taken))
 
 shared-slice-read-wide : tie.Need-shared-slice-read-wide
 shared-slice-read-wide c = omega arith
@@ -22,7 +23,10 @@ is-command-code-requires : tie.Need-is-command-code-requires
 is-command-code-requires c κs = tt
 
 returns-2 : tie.Need-returns-2
-returns-2 c = refused-code _ _ (c .before .before .wide .ensures .0) (sym (c .before .is-command-code .ensures) ∙ not-true _ (c .if2 .taken))
+returns-2 c =
+    let w = c .before .before in
+    decoded-bytes _ _ (λ k. w .before .shared-slice-known2 .given k .fits)
+    (refused-code _ _ (w .wide .ensures .0) (sym (c .before .is-command-code .ensures) ∙ not-true _ (c .if2 .taken)))
 
 widths-of-requires : tie.Need-widths-of-requires
 widths-of-requires c κs = tt
@@ -34,7 +38,9 @@ returns-3 : tie.Need-returns-3
 returns-3 c =
     let l = c .before in
     let e = l .before .before in
-    refused-length _ _ (e .before .before .wide .ensures .0) (sym (e .before .is-command-code .ensures) ∙ not-false _ (e .if2 .left)) _ (l .before .widths-of .ensures) _ (l .length-of .ensures) (c .if3 .taken)
+    let w = e .before .before in
+    decoded-bytes _ _ (λ k. w .before .shared-slice-known2 .given k .fits)
+    (refused-length _ _ (w .wide .ensures .0) (sym (e .before .is-command-code .ensures) ∙ not-false _ (e .if2 .left)) _ (l .before .widths-of .ensures) _ (l .length-of .ensures) (c .if3 .taken))
 
 operands-of-requires : tie.Need-operands-of-requires
 operands-of-requires c κs = (rw (c .before .before .widths-of .ensures) (narrow-shape _), omega arith)
@@ -47,8 +53,10 @@ returns-4 c =
     let r = c .before in
     let l = r .before .before .before in
     let e = l .before .before in
-    refused-numbers _ _ (e .before .before .wide .ensures .0) (sym (e .before .is-command-code .ensures) ∙ not-false _ (e .if2 .left)) _ (l .before .widths-of .ensures) _ (l .length-of .ensures)
-    (r .before .before .if3 .left) _ (r .before .operands-of .ensures) _ (r .numbers-refused .ensures) (c .if4 .taken)
+    let w = e .before .before in
+    decoded-bytes _ _ (λ k. w .before .shared-slice-known2 .given k .fits)
+    (refused-numbers _ _ (w .wide .ensures .0) (sym (e .before .is-command-code .ensures) ∙ not-false _ (e .if2 .left)) _ (l .before .widths-of .ensures) _ (l .length-of .ensures)
+    (r .before .before .if3 .left) _ (r .before .operands-of .ensures) _ (r .numbers-refused .ensures) (c .if4 .taken))
 
 command-from-requires : tie.Need-command-from-requires
 command-from-requires c κs = tt
@@ -58,9 +66,11 @@ returns-5 c =
     let r = c .before .before in
     let l = r .before .before .before in
     let e = l .before .before in
-    ap Whole (c .command-from .ensures)
-    ∙ decoded _ _ (e .before .before .wide .ensures .0) (sym (e .before .is-command-code .ensures) ∙ not-false _ (e .if2 .left)) _ (l .before .widths-of .ensures) _ (l .length-of .ensures)
-    (r .before .before .if3 .left) _ (r .before .operands-of .ensures) _ (r .numbers-refused .ensures) (c .before .if4 .left)
+    let w = e .before .before in
+    decoded-bytes _ _ (λ k. w .before .shared-slice-known2 .given k .fits)
+    (ap Whole (c .command-from .ensures)
+    ∙ decoded _ _ (w .wide .ensures .0) (sym (e .before .is-command-code .ensures) ∙ not-false _ (e .if2 .left)) _ (l .before .widths-of .ensures) _ (l .length-of .ensures)
+    (r .before .before .if3 .left) _ (r .before .operands-of .ensures) _ (r .numbers-refused .ensures) (c .before .if4 .left))
 
 pub decode-command-spec : {M : Type 1} → statement M
 decode-command-spec =

@@ -4,8 +4,8 @@ use mathlib.Core.Path.{sym, _∙_}
 use native.Mathlib.Omega.{arith}
 use borrow.Author.Tests.{not-true, not-false}
 use borrow.Author.Needs.{needs}
-use Rattle.command.proofs.Ranges.{decode-range}
-use Rattle.unit.proofs.Commanded.{refused-as, undecoded-number, undecoded, nothing-held, stepped}
+use Rattle.command.proofs.Ranges.{refused-told, decode-range}
+use Rattle.unit.proofs.Commanded.{refused-as, undecoded, nothing-held, stepped}
 use Rattle.unit.proofs.commands.room_command.Statement.{statement}
 use Rattle.unit.proofs.commands.room_command.Tie as tie
 
@@ -24,15 +24,15 @@ refusal-number-requires c κs = search needs
 refused-requires : tie.Need-refused-requires
 refused-requires c κs =
     let a = c .before .before .before .before .before .before .args in
-    undecoded-number (a .command .now) (c .refusal-number .result)
-    (refused-as (a .command .now) _ _ _ (c .before .before .before .decode-command .ensures) (c .before .enum-told .given .1) (c .refusal-number .ensures))
+    refused-told (a .command .now) (c .refusal-number .result)
+    (refused-as (a .command .now) _ _ _ (c .before .before .before .decode-command .ensures .0) (c .before .enum-told .given .1) (c .refusal-number .ensures))
 
 returns : tie.Need-returns
 returns c =
     let a = c .before .before .before .before .before .before .before .args in
     rw (c .refused .ensures)
     (undecoded (a .store .now) (a .command .now) (c .before .refusal-number .result)
-    (refused-as (a .command .now) _ _ _ (c .before .before .before .before .decode-command .ensures) (c .before .before .enum-told .given .1) (c .before .refusal-number .ensures)))
+    (refused-as (a .command .now) _ _ _ (c .before .before .before .before .decode-command .ensures .0) (c .before .before .enum-told .given .1) (c .before .refusal-number .ensures)))
 
 holds-requires : tie.Need-holds-requires
 holds-requires c κs = search needs
@@ -48,7 +48,7 @@ returns-2 c =
     let a = c .before .before .before .before .before .before .before .before .before .before .args in
     let asked = c .before .before .holds in
     rw (c .refused2 .ensures)
-    (nothing-held (a .store .now) (a .command .now) _ (sym (c .before .before .before .before .before .decoded .given .1) ∙ c .before .before .before .before .before .before .before .decode-command .ensures)
+    (nothing-held (a .store .now) (a .command .now) _ (sym (c .before .before .before .before .before .decoded .given .1) ∙ c .before .before .before .before .before .before .before .decode-command .ensures .0)
     (sym (asked .ensures) ∙ not-true (asked .result) (c .before .if1 .taken)))
 
 carry-out-requires : tie.Need-carry-out-requires
@@ -56,7 +56,7 @@ carry-out-requires c κs =
     let a = c .before .before .before .before .before .before .before .before .before .before .args in
     let asked = c .before .before .holds in (
       sym (asked .ensures) ∙ not-false (asked .result) (c .before .if1 .left),
-      decode-range (a .command .now) _ (sym (sym (c .before .before .before .before .before .decoded .given .1) ∙ c .before .before .before .before .before .before .before .decode-command .ensures)),
+      decode-range (a .command .now) _ (sym (sym (c .before .before .before .before .before .decoded .given .1) ∙ c .before .before .before .before .before .before .before .decode-command .ensures .0)),
     )
 
 refused-requires-3 : tie.Need-refused-requires-3
@@ -71,7 +71,7 @@ returns-3 c =
     let asked = c .before .before .before .before .before .before .before .holds in
     let done = c .before .before .before .before .carry-out in
     rw (c .refused3 .ensures)
-    (stepped (a .store .now) (a .command .now) _ (sym (c .before .before .before .before .before .before .before .before .before .before .decoded .given .1) ∙ c .before .before .before .before .before .before .before .before .before .before .before .before .decode-command .ensures) _ _
+    (stepped (a .store .now) (a .command .now) _ (sym (c .before .before .before .before .before .before .before .before .before .before .decoded .given .1) ∙ c .before .before .before .before .before .before .before .before .before .before .before .before .decode-command .ensures .0) _ _
     (sym (asked .ensures) ∙ not-false (asked .result) (c .before .before .before .before .before .before .if1 .left)) (done .ensures .0) (done .ensures .1))
 
 counted-requires : tie.Need-counted-requires
@@ -86,7 +86,7 @@ returns-4 c =
     let asked = c .before .before .before .before .before .before .before .holds in
     let done = c .before .before .before .before .carry-out in
     rw (c .counted .ensures)
-    (stepped (a .store .now) (a .command .now) _ (sym (c .before .before .before .before .before .before .before .before .before .before .decoded .given .1) ∙ c .before .before .before .before .before .before .before .before .before .before .before .before .decode-command .ensures) 0 _
+    (stepped (a .store .now) (a .command .now) _ (sym (c .before .before .before .before .before .before .before .before .before .before .decoded .given .1) ∙ c .before .before .before .before .before .before .before .before .before .before .before .before .decode-command .ensures .0) 0 _
     (sym (asked .ensures) ∙ not-false (asked .result) (c .before .before .before .before .before .before .if1 .left)) (sym (c .before .if2 .left) ∙ done .ensures .0) (done .ensures .1))
 
 pub room-command-spec : {M : Type 1} → statement M
