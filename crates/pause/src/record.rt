@@ -1,5 +1,8 @@
 // Records of the tape, each written at a place of a buffer that has room for it there.
+use board::Strip;
 use buffer::put_word;
+use command::Console;
+use graph::Version;
 ghost use mathlib.Core.Path.{_≡_};
 ghost use mathlib.Core.List.{[], _∷_};
 ghost use Prim.Native.Nat.{_+_, _<_, _≤_};
@@ -31,39 +34,39 @@ pub fn put_start(tape: &mut [u8], capacity: usize)
 pub fn put_entry(
     tape: &mut [u8],
     at: usize,
-    parent: usize,
+    parent: Version,
     code: usize,
-    strip: usize,
+    strip: Strip,
     operand: usize,
 )
     requires { ⌜ at + 7 ≤ length (now tape) ⌝ }
-    ensures { λ _. ⌜ now (tape .exit) ≡ withPart (now (tape .entry)) at (recordBytes (versionRecord (entry parent code strip operand))) ⌝ }
+    ensures { λ _. ⌜ now (tape .exit) ≡ withPart (now (tape .entry)) at (recordBytes (versionRecord (entry (parent .0) code (strip .0) operand))) ⌝ }
 {
     put_byte(tape, at, 0x21);
-    put_word(tape, at + 1, parent);
+    put_word(tape, at + 1, parent.0);
     put_byte(tape, at + 3, code);
-    put_byte(tape, at + 4, strip);
+    put_byte(tape, at + 4, strip.0);
     put_word(tape, at + 5, operand);
 }
 
 // Writes the record of a merge version at a place.
-pub fn put_merge(tape: &mut [u8], at: usize, receiver: usize, giver: usize)
+pub fn put_merge(tape: &mut [u8], at: usize, receiver: Version, giver: Version)
     requires { ⌜ at + 5 ≤ length (now tape) ⌝ }
-    ensures { λ _. ⌜ now (tape .exit) ≡ withPart (now (tape .entry)) at (recordBytes (versionRecord (merge receiver giver))) ⌝ }
+    ensures { λ _. ⌜ now (tape .exit) ≡ withPart (now (tape .entry)) at (recordBytes (versionRecord (merge (receiver .0) (giver .0)))) ⌝ }
 {
     put_byte(tape, at, 0x22);
-    put_word(tape, at + 1, receiver);
-    put_word(tape, at + 3, giver);
+    put_word(tape, at + 1, receiver.0);
+    put_word(tape, at + 3, giver.0);
 }
 
 // Writes the head record of a console at a place.
-pub fn put_head(tape: &mut [u8], at: usize, console: usize, version: usize)
+pub fn put_head(tape: &mut [u8], at: usize, console: Console, version: Version)
     requires { ⌜ at + 4 ≤ length (now tape) ⌝ }
-    ensures { λ _. ⌜ now (tape .exit) ≡ withPart (now (tape .entry)) at (recordBytes (Head (record { 0 = console }) (record { 0 = version }))) ⌝ }
+    ensures { λ _. ⌜ now (tape .exit) ≡ withPart (now (tape .entry)) at (recordBytes (Head console version)) ⌝ }
 {
     put_byte(tape, at, 0x23);
-    put_byte(tape, at + 1, console);
-    put_word(tape, at + 2, version);
+    put_byte(tape, at + 1, console.0);
+    put_word(tape, at + 2, version.0);
 }
 
 // Writes the last byte of a tape at a place.

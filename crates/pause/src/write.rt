@@ -2,8 +2,11 @@
 use crate::record::put_entry;
 use crate::record::put_head;
 use crate::record::put_merge;
+use board::Strip;
 use buffer::wide;
 use buffer::word_at;
+use command::Console;
+use graph::Version;
 use store::places::CONSOLES;
 use store::places::MERGE_CODE;
 use store::places::NODE_GIVER;
@@ -28,9 +31,9 @@ fn put_version(s: &[u8], v: usize, tape: &mut [u8], at: usize) -> usize
 {
     let node = block_at(v);
     let code = wide(s[node]);
-    let parent = word_at(s, node + NODE_PARENT);
+    let parent = Version(word_at(s, node + NODE_PARENT));
     if code == MERGE_CODE {
-        put_merge(tape, at, parent, word_at(s, node + NODE_GIVER));
+        put_merge(tape, at, parent, Version(word_at(s, node + NODE_GIVER)));
         return at + 5;
     }
     put_entry(
@@ -38,7 +41,7 @@ fn put_version(s: &[u8], v: usize, tape: &mut [u8], at: usize) -> usize
         at,
         parent,
         code,
-        wide(s[node + NODE_STRIP]),
+        Strip(wide(s[node + NODE_STRIP])),
         word_at(s, node + NODE_OPERAND),
     );
     at + 7
@@ -69,7 +72,8 @@ fn put_console(s: &[u8], c: usize, tape: &mut [u8], at: usize) -> usize
     if field == 0 {
         return at;
     }
-    put_head(tape, at, c, field - 1);
+    let head = field - 1;
+    put_head(tape, at, Console(c), Version(head));
     at + 4
 }
 

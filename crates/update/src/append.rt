@@ -44,15 +44,15 @@ fn put_byte(s: &mut [u8], at: usize, x: usize)
 }
 
 // Writes the node of an entry, all of its bytes.
-fn write_entry(note: &mut [u8], p: usize, code: usize, strip: usize, operand: usize)
+fn write_entry(note: &mut [u8], p: Version, code: usize, strip: Strip, operand: usize)
     requires { ⌜ length (now note) ≡ nodeSize ⌝ }
-    ensures { λ _. ⌜ now (note .exit) ≡ entryNodeBytes p code strip operand ⌝ }
+    ensures { λ _. ⌜ now (note .exit) ≡ entryNodeBytes (p .0) code (strip .0) operand ⌝ }
 {
     clear(note);
     put_byte(note, 0, code);
-    put_byte(note, NODE_STRIP, strip);
+    put_byte(note, NODE_STRIP, strip.0);
     put_word(note, NODE_OPERAND, operand);
-    put_word(note, NODE_PARENT, p);
+    put_word(note, NODE_PARENT, p.0);
 }
 
 // Writes the node of a merge, all of its bytes.
@@ -68,11 +68,11 @@ fn write_merge(note: &mut [u8], p: usize, q: usize, l: usize)
 }
 
 // Puts the node of an entry into the block of version n.
-fn put_entry_note(s: &mut [u8], n: usize, p: usize, code: usize, strip: usize, operand: usize)
-    requires { ⌜ (n < 1024) × (blockAt (suc n) ≤ length (now s)) ⌝ }
-    ensures { λ _. ⌜ now (s .exit) ≡ withPart (now (s .entry)) (blockAt n) (entryNodeBytes p code strip operand) ⌝ }
+fn put_entry_note(s: &mut [u8], n: Version, p: Version, code: usize, strip: Strip, operand: usize)
+    requires { ⌜ (n .0 < 1024) × (blockAt (suc (n .0)) ≤ length (now s)) ⌝ }
+    ensures { λ _. ⌜ now (s .exit) ≡ withPart (now (s .entry)) (blockAt (n .0)) (entryNodeBytes (p .0) code (strip .0) operand) ⌝ }
 {
-    let at = block_at(n);
+    let at = block_at(n.0);
     let end = at + NODE;
     write_entry(&mut s[at..end], p, code, strip, operand);
 }
@@ -96,14 +96,14 @@ fn put_entry_row(s: &mut [u8], n: usize, p: usize)
 }
 
 // Puts the board of an entry: its parent's, with the entry made on it.
-fn put_entry_board(s: &mut [u8], n: usize, p: usize, code: usize, strip: Strip, operand: usize)
-    requires { ⌜ (p < n) × (n < 1024) × (blockAt (suc n) ≤ length (now s)) ⌝ }
+fn put_entry_board(s: &mut [u8], n: Version, p: Version, code: usize, strip: Strip, operand: usize)
+    requires { ⌜ (p .0 < n .0) × (n .0 < 1024) × (blockAt (suc (n .0)) ≤ length (now s)) ⌝ }
     requires { ⌜ (strip .0 < stripCount) × (code ≡ 0x04 → operand < 16) × (code ≡ 0x05 → operand < 16) ⌝ }
-    ensures { λ _. ⌜ now (s .exit) ≡ withPart (now (s .entry)) (boardAt n) (enter code (strip .0) operand (boardPart (now (s .entry)) p)) ⌝ }
+    ensures { λ _. ⌜ now (s .exit) ≡ withPart (now (s .entry)) (boardAt (n .0)) (enter code (strip .0) operand (boardPart (now (s .entry)) (p .0))) ⌝ }
 {
-    let at = board_at(n);
+    let at = board_at(n.0);
     let end = at + BOARD;
-    copy_within(s, board_at(p), at, BOARD);
+    copy_within(s, board_at(p.0), at, BOARD);
     enter_board(&mut s[at..end], code, strip, operand);
 }
 
@@ -123,9 +123,9 @@ pub fn append_entry(s: &mut [u8], n: Version, p: Version, code: usize, strip: St
     requires { ⌜ (strip .0 < stripCount) × (code ≡ 0x04 → operand < 16) × (code ≡ 0x05 → operand < 16) ⌝ }
     ensures { λ _. ⌜ now (s .exit) ≡ withEntry (now (s .entry)) (n .0) (p .0) code (strip .0) operand ⌝ }
 {
-    put_entry_note(s, n.0, p.0, code, strip.0, operand);
+    put_entry_note(s, n, p, code, strip, operand);
     put_entry_row(s, n.0, p.0);
-    put_entry_board(s, n.0, p.0, code, strip, operand);
+    put_entry_board(s, n, p, code, strip, operand);
     list_entry(s, n.0);
 }
 

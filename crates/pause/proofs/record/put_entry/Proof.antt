@@ -43,9 +43,9 @@ unfolding recordBytes
 returns c =
     let a = c .before .before .before .before .before .before .before .before .before .before .before .before .before .before .before .before .before .before .before .before .before .args in
     let g1 = grown-one {new = 0x21 ∷ []} (c .before .before .before .before .before .before .before .before .before .before .before .before .before .before .before .before .before .before .put-byte .ensures) (omega arith) in
-    let g2 = grown-word (a .parent) g1 (c .before .before .before .before .before .before .before .before .before .before .before .before .before .before .put-word .ensures) (omega arith) (omega arith) in
+    let g2 = grown-word (a .parent .0) g1 (c .before .before .before .before .before .before .before .before .before .before .before .before .before .before .put-word .ensures) (omega arith) (omega arith) in
     let g3 = grown-more (byte (a .code) ∷ []) g2 (c .before .before .before .before .before .before .before .before .before .before .put-byte2 .ensures) (omega arith) (omega arith) in
-    let g4 = grown-more (byte (a .strip) ∷ []) g3 (c .before .before .before .before .before .before .put-byte3 .ensures) (omega arith) (omega arith) in
+    let g4 = grown-more (byte (a .strip .0) ∷ []) g3 (c .before .before .before .before .before .before .put-byte3 .ensures) (omega arith) (omega arith) in
     (grown-word (a .operand) g4 (c .before .before .put-word2 .ensures) (omega arith) (omega arith)) .reads
 
 pub put-entry-spec : {M : Type 1} → statement M

@@ -31,8 +31,8 @@ unfolding recordBytes
 returns c =
     let a = c .before .before .before .before .before .before .before .before .before .before .before .before .before .args in
     let g1 = grown-one {new = 0x23 ∷ []} (c .before .before .before .before .before .before .before .before .before .before .put-byte .ensures) (omega arith) in
-    let g2 = grown-more (byte (a .console) ∷ []) g1 (c .before .before .before .before .before .before .put-byte2 .ensures) (omega arith) (omega arith) in
-    (grown-word (a .version) g2 (c .before .before .put-word .ensures) (omega arith) (omega arith)) .reads
+    let g2 = grown-more (byte (a .console .0) ∷ []) g1 (c .before .before .before .before .before .before .put-byte2 .ensures) (omega arith) (omega arith) in
+    (grown-word (a .version .0) g2 (c .before .before .put-word .ensures) (omega arith) (omega arith)) .reads
 
 pub put-head-spec : {M : Type 1} → statement M
 put-head-spec =

@@ -30,8 +30,8 @@ unfolding recordBytes
 returns c =
     let a = c .before .before .before .before .before .before .before .before .before .before .before .before .before .args in
     let g1 = grown-one {new = 0x22 ∷ []} (c .before .before .before .before .before .before .before .before .before .before .put-byte .ensures) (omega arith) in
-    let g2 = grown-word (a .receiver) g1 (c .before .before .before .before .before .before .put-word .ensures) (omega arith) (omega arith) in
-    (grown-word (a .giver) g2 (c .before .before .put-word2 .ensures) (omega arith) (omega arith)) .reads
+    let g2 = grown-word (a .receiver .0) g1 (c .before .before .before .before .before .before .put-word .ensures) (omega arith) (omega arith) in
+    (grown-word (a .giver .0) g2 (c .before .before .put-word2 .ensures) (omega arith) (omega arith)) .reads
 
 pub put-merge-spec : {M : Type 1} → statement M
 put-merge-spec =

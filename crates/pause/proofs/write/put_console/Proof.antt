@@ -19,8 +19,8 @@ returns c =
     let none = absent-piece (a .s .now) (a .c) (f .result) (f .ensures .0) (c .if1 .taken) in
     rw none (sym (add-zero (a .at)), grown-none (a .tape .now) (a .at) (omega arith) .reads)
 
-sub-put-head : tie.Need-sub-put-head
-sub-put-head c = omega arith
+sub-head : tie.Need-sub-head
+sub-head c = omega arith
 
 put-head-requires : tie.Need-put-head-requires
 put-head-requires c κs =
@@ -51,7 +51,7 @@ put-console-spec =
     (tie.spec
     common-in-requires
     returns
-    sub-put-head
+    sub-head
     put-head-requires
     add-result
     same-length

@@ -43,7 +43,7 @@ returns c =
     let place = copied .before .before .before in
     let start = place .before .before in
     let a = start .args in
-    changed-lent (now (a .s)) _ _ (enter (a .code) (a .strip .0) (a .operand)) _ (boardAt (a .p)) _ (boardAt (a .n)) boardSize
+    changed-lent (now (a .s)) _ _ (enter (a .code) (a .strip .0) (a .operand)) _ (boardAt (a .p .0)) _ (boardAt (a .n .0)) boardSize
     (copied .before .board-at2 .ensures) (place .board-at .ensures) (omega arith) (omega arith)
     (entered-keeps boardSize (a .code) (a .strip .0) (a .operand)) (copied .copy-within .ensures) (c .before .before .enter-board .ensures)
 

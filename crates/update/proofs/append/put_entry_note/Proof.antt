@@ -33,7 +33,7 @@ returns : tie.Need-returns
 returns c =
     let start = c .before .before .before .before .before .before in
     let note = start .args in
-    put-lent (now (note .s)) _ (entryNodeBytes (note .p) (note .code) (note .strip) (note .operand)) _ _ nodeSize
+    put-lent (now (note .s)) _ (entryNodeBytes (note .p .0) (note .code) (note .strip .0) (note .operand)) _ _ nodeSize
     (c .before .before .before .before .block-at .ensures) (c .before .before .write-entry .ensures) refl
 
 pub put-entry-note-spec : {M : Type 1} → statement M
