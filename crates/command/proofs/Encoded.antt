@@ -28,7 +28,7 @@ use Rattle.command.specs.Code.{consoleCount, shapeOf, lengthOf, numberAt
 use Rattle.command.specs.Decode.{codeIn, isCommandCode, operandsIn, numberTests, commandRefusal, commandOf, decode, refusalOf, operandBytes, commandBytes, decodedBytes}
 use Rattle.command.specs.Decoding.{TwoConsoles, InRange}
 use Rattle.command.proofs.Refusals.{none-applies}
-use Rattle.command.proofs.Limits.{within-true, within-i, within-false, operand-below}
+use Rattle.command.proofs.Limits.{within-true, within-i, within-false, entry-or-two, entry-not-two, operand-below}
 use Rattle.command.proofs.Carried.{operand-none}
 use Rattle.command.proofs.Ranges.{whole-told, refused-told}
 use Rattle.command.proofs.Shapes.{shape-settings, shape-marks, shape-counts, shape-pairs}
@@ -180,7 +180,7 @@ pair-decodes : (code a b : ℕ) → isCommandCode code ≡ true → isEntryCode 
 unfolding numberAt firstRefusal
 pair-decodes code a b h e shape two =
     numbers-decode code a b 0 0 [] h shape refl refl
-    (simp (e, lt-ltb a consoleCount (two .0), lt-ltb b consoleCount (two .1), ne-eqb a b (two .2)))
+    (simp (e, entry-or-two code h e, lt-ltb a consoleCount (two .0), lt-ltb b consoleCount (two .1), ne-eqb a b (two .2)))
 
 -- an entry, with its operand where it is read
 module _ (console : Console) (code : ℕ) (strip : Strip) (operand : ℕ) (h : InRange (Entry console code strip operand)) where
@@ -194,7 +194,7 @@ module _ (console : Console) (code : ℕ) (strip : Strip) (operand : ℕ) (h : I
   unfolding firstRefusal
   entry-passes =
       let k : isStrip (strip .0) ≡ true = search (and-l, and-r) in
-      simp (lt-ltb (console .0) consoleCount (h .0), entry-code, k, carried)
+      simp (lt-ltb (console .0) consoleCount (h .0), entry-code, entry-not-two code entry-code, k, carried)
 
   entry-decodes : (behind : List ℕ) (width : ℕ) → operandBytes code operand ≡ behind → Known 1 1 width 0 ≡ shapeOf code → length behind ≡ width
       → operand ≡ numberAt (code ∷ console .0 ∷ strip .0 ∷ behind) 3 width

@@ -1,14 +1,16 @@
--- How large an entry's code, strip and operand can be.
+-- How large an entry's code, strip and operand can be, and which codes name two consoles.
 -- Assumes nothing.
 use Prim.Native.Nat.{ℕ, _≤_, _<_}
 use mathlib.Core.Path.{_≡_}
 use mathlib.Core.Bool.{Bool, true, false, cond, _&&_}
 use native.Mathlib.Omega.{arith}
+use native.Mathlib.Decide.{decLe}
 use lib.Dec.{eqb, leb, ltb}
-use borrow.Author.Tests.{eqb-true, leb-true, ltb-true, le-leb}
-use Rattle.laws.proofs.Logic.{and-l, and-r, and-i, refuted}
+use borrow.Author.Tests.{eqb-true, leb-true, ltb-true, eq-eqb, ne-eqb, le-leb}
+use Rattle.laws.proofs.Logic.{clash, and-l, and-r, and-i, or-l, or-r, or-none, refuted}
 use Rattle.board.specs.Board.{stripCount}
-use Rattle.command.specs.Code.{markCount, within, isEntryCode, isStrip, isOperand}
+use Rattle.command.specs.Code.{markCount, within, isEntryCode, namesTwo, isStrip, isOperand}
+use Rattle.command.specs.Decode.{isCommandCode}
 
 pub within-true : (low high x : ℕ) → within low high x ≡ true → (low ≤ x) × (x ≤ high)
 within-true low high x h = (leb-true low x (and-l _ _ h), leb-true x high (and-r (leb low x) _ h))
@@ -18,6 +20,24 @@ within-i low high x p q = and-i _ _ (le-leb low x p) (le-leb x high q)
 
 pub within-false : (low high x : ℕ) → (low ≤ x → x ≤ high → ⊥) → within low high x ≡ false
 within-false low high x h = refuted _ (λ t. h (within-true low high x t .0) (within-true low high x t .1))
+
+-- a command makes an entry or names two consoles
+pub entry-or-two : (code : ℕ) → isCommandCode code ≡ true → isEntryCode code ≡ false → namesTwo code ≡ true
+entry-or-two code h e =
+    let range = within-true 1 10 code h in
+    elim (decLe code 1) [
+      | yes p ↦ or-l _ _ (eq-eqb code 1 (omega arith))
+      | no p ↦
+          elim (decLe code 8) [
+            | yes q ↦ clash (within-i 2 8 code (omega arith) q) e
+            | no q ↦ or-r (eqb code 1) _ (within-i 9 10 code (omega arith) (range .1))
+          ]
+    ]
+
+pub entry-not-two : (code : ℕ) → isEntryCode code ≡ true → namesTwo code ≡ false
+entry-not-two code e =
+    let range = within-true 2 8 code e in
+    or-none _ _ (ne-eqb code 1 (omega arith)) (within-false 9 10 code (λ p q. omega arith))
 
 -- whichever range an operand must be in, it is at most 600
 pub operand-below : (code x : ℕ) → isOperand code x ≡ true → x ≤ 600

@@ -7,30 +7,34 @@ use mathlib.Core.List.{List}
 use native.Mathlib.Omega.{arith}
 use borrow.Author.Tests.{eqb-true, eqb-false, ltb-true}
 use lib.Dec.{eqb, lit<}
-use Rattle.laws.proofs.Logic.{and-rest, or-none-l, or-none-r, not-i, and-i}
+use Rattle.laws.proofs.Logic.{and-rest, or-none-l, or-none-r, and-i}
 use Rattle.command.specs.declared.Operands.{Operands}
 use Rattle.command.specs.declared.Command.{Command}
 use Rattle.command.specs.declared.Command.the-variants.{Fork, Entry, Merge, FastForward}
 use Rattle.command.specs.declared.Decoded.the-variants.{Whole, Refused}
-use Rattle.command.specs.Code.{consoleCount, isEntryCode, isConsole, isStrip, isOperand}
-use Rattle.command.specs.Decode.{codeIn, operandsIn, commandRefusal, commandOf, decode}
+use Rattle.command.specs.Code.{consoleCount, isEntryCode, namesTwo, isConsole, isStrip, isOperand}
+use Rattle.command.specs.Decode.{codeIn, isCommandCode, operandsIn, commandRefusal, commandOf, decode}
 use Rattle.command.specs.Decoding.{TwoConsoles, InRange}
 use Rattle.command.proofs.Refusals.{none-applies}
+use Rattle.command.proofs.Limits.{entry-or-two}
 
--- the tests 3 to 6 of a command of this code
+-- the tests 1 and 3 to 6 of a command of this code
 record Passed (code : ℕ) (o : Operands) : Type 0 where
-  three : not (isConsole (o .first)) || not (isEntryCode code) && not (isConsole (o .second)) ≡ false
+  one : not (isCommandCode code) ≡ false
+  three : not (isConsole (o .first)) || namesTwo code && not (isConsole (o .second)) ≡ false
   four : isEntryCode code && not (isStrip (o .second)) ≡ false
   five : isEntryCode code && not (isOperand code (o .third)) ≡ false
-  six : not (isEntryCode code) && eqb (o .first) (o .second) ≡ false
+  six : namesTwo code && eqb (o .first) (o .second) ≡ false
 
 passed : (s : List ℕ) → commandRefusal s ≡ 0 → Passed (codeIn s) (operandsIn s)
 unfolding commandRefusal
 passed s h =
-    let third = none-applies _ h .1 (lit< tt) .1 (lit< tt) in
+    let first = none-applies _ h in
+    let third = first .1 (lit< tt) .1 (lit< tt) in
     let fourth = third .1 (lit< tt) in
     let fifth = fourth .1 (lit< tt) in
     record {
+      one = first .0 (lit< tt);
       three = third .0 (lit< tt);
       four = fourth .0 (lit< tt);
       five = fifth .0 (lit< tt);
@@ -42,17 +46,17 @@ unnot : (t : Bool) → not t ≡ false → t ≡ true
 unnot true h = refl
 unnot false h = sym h
 
-two : (code : ℕ) (o : Operands) → Passed code o → isEntryCode code ≡ false → TwoConsoles (o .first) (o .second)
-two code o p e =
-    let other = not-i _ e in (
+two-consoles : (code : ℕ) (o : Operands) → Passed code o → isEntryCode code ≡ false → TwoConsoles (o .first) (o .second)
+two-consoles code o p e =
+    let other = entry-or-two code (unnot _ (p .one)) e in (
       ltb-true _ _ (unnot _ (or-none-l _ _ (p .three))),
       ltb-true _ _ (unnot _ (and-rest _ _ other (or-none-r (not (isConsole (o .first))) _ (p .three)))),
       eqb-false _ _ (and-rest _ _ other (p .six)),
     )
 
-one : (code : ℕ) (o : Operands) → Passed code o → isEntryCode code ≡ true
+one-console : (code : ℕ) (o : Operands) → Passed code o → isEntryCode code ≡ true
     → (o .first < consoleCount) × (isEntryCode code && isStrip (o .second) && isOperand code (o .third) ≡ true)
-one code o p e = (
+one-console code o p e = (
   ltb-true _ _ (unnot _ (or-none-l _ _ (p .three))),
   and-i _ _ (and-i _ _ e (unnot _ (and-rest _ _ e (p .four)))) (unnot _ (and-rest _ _ e (p .five))),
 )
@@ -63,10 +67,10 @@ ranges : (code : ℕ) (o : Operands) → Passed code o → (t u v : Bool) → is
     (cond u (Fork (record { 0 = o .first }) (record { 0 = o .second }))
     (cond v (Merge (record { 0 = o .first }) (record { 0 = o .second }))
     (FastForward (record { 0 = o .first }) (record { 0 = o .second })))))
-ranges code o p true u v e = one code o p e
-ranges code o p false true v e = two code o p e
-ranges code o p false false true e = two code o p e
-ranges code o p false false false e = two code o p e
+ranges code o p true u v e = one-console code o p e
+ranges code o p false true v e = two-consoles code o p e
+ranges code o p false false true e = two-consoles code o p e
+ranges code o p false false false e = two-consoles code o p e
 
 -- a whole command: nothing is refused, and the command is that of the code and the operands
 told : (s : List ℕ) (c : Command) (t : Bool) → eqb (commandRefusal s) 0 ≡ t

@@ -1,7 +1,7 @@
 -- "One code byte, then operands; the code alone decides the length." Codes of commands and of tape records, the widths of what follows
 -- each, and which numbers may stand there.
 use Prim.Native.Nat.{ℕ, _+_}
-use mathlib.Core.Bool.{Bool, cond, _&&_}
+use mathlib.Core.Bool.{Bool, cond, _&&_, _||_}
 use mathlib.Core.List.{List}
 use lib.Dec.{eqb, leb, ltb}
 use lib.ListN.{getD}
@@ -59,6 +59,10 @@ operandsOf Unknown s = record { first = 0; second = 0; third = 0; fourth = 0 }
 -- "Codes 02 to 08 make an entry version"
 abbrev pub isEntryCode : ℕ → Bool
 isEntryCode code = within 0x02 0x08 code
+
+-- "01 fork | new console, old console", "09 merge, 0A fast-forward | receiver, giver": a command of this code names two consoles
+abbrev pub namesTwo : ℕ → Bool
+namesTwo code = eqb code 0x01 || within 0x09 0x0A code
 
 abbrev pub isConsole : ℕ → Bool
 isConsole c = ltb c consoleCount

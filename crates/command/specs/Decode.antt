@@ -11,7 +11,7 @@ use Rattle.command.specs.declared.Command.the-variants.{Fork, Entry, Mer
 use Rattle.command.specs.declared.Decoded.{Decoded}
 use Rattle.command.specs.declared.Decoded.the-variants.{Whole, Refused}
 use Rattle.command.specs.Refusal.{_when_, firstRefusal}
-use Rattle.command.specs.Code.{within, shapeOf, lengthOf, operandsOf, isEntryCode, isConsole, isStrip, isOperand}
+use Rattle.command.specs.Code.{within, shapeOf, lengthOf, operandsOf, isEntryCode, namesTwo, isConsole, isStrip, isOperand}
 
 -- the code of a command; an empty one has none, and reads as 0, which is no command's
 abbrev pub codeIn : List ℕ → ℕ
@@ -25,13 +25,13 @@ abbrev pub operandsIn : List ℕ → Operands
 operandsIn s = operandsOf (shapeOf (codeIn s)) s
 
 -- "3 console above 15. 4 strip above 31. 5 level above 600, heading above 360, mark above 15. 6 the same console twice in 01, 09, 0A."
--- Codes 02 to 08 name a console and a strip, 02 to 05 an operand besides, the others two consoles.
+-- Codes 02 to 08 name a console and a strip, 02 to 05 an operand besides; 01, 09 and 0A two consoles.
 abbrev pub numberTests : ℕ → Operands → List (ℕ × Bool)
 numberTests code o =
-    3 when (not (isConsole (o .first)) || (not (isEntryCode code) && not (isConsole (o .second))))
+    3 when (not (isConsole (o .first)) || (namesTwo code && not (isConsole (o .second))))
     ∷ 4 when (isEntryCode code && not (isStrip (o .second)))
     ∷ 5 when (isEntryCode code && not (isOperand code (o .third)))
-    ∷ 6 when (not (isEntryCode code) && eqb (o .first) (o .second))
+    ∷ 6 when (namesTwo code && eqb (o .first) (o .second))
     ∷ []
 
 -- "1 empty command, or code outside 01 to 0A. 2 length not the code's."

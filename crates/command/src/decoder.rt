@@ -9,6 +9,7 @@ use crate::numbers::is_console;
 use crate::numbers::is_entry_code;
 use crate::numbers::is_operand;
 use crate::numbers::is_strip;
+use crate::numbers::names_two;
 use board::Strip;
 use buffer::wide;
 use buffer::word_at;
@@ -18,7 +19,7 @@ ghost use Prim.Native.Nat.{_+_, _≤_};
 ghost use lib.Dec.{eqb};
 ghost use lib.ListN.{length};
 ghost use Rattle.command.specs.Refusal.{firstRefusal};
-ghost use Rattle.command.specs.Code.{shapeOf, lengthOf, numberAt, operandsOf, isEntryCode, isConsole, isStrip, isOperand};
+ghost use Rattle.command.specs.Code.{shapeOf, lengthOf, numberAt, operandsOf, isEntryCode, namesTwo, isConsole, isStrip, isOperand};
 ghost use Rattle.command.specs.Decoding.{narrow};
 ghost use Rattle.command.specs.Decode.{numberTests, commandOf, decode, refusalOf, decodedBytes};
 
@@ -116,9 +117,9 @@ pub fn operands_of(shape: Shape, s: &[u8]) -> Operands
 
 // Whether a console that a command names is above 15.
 fn names_no_console(code: usize, o: Operands) -> bool
-    ensures { λ r. ⌜ r ≡ (not (isConsole (o .first)) || (not (isEntryCode code) && not (isConsole (o .second)))) ⌝ }
+    ensures { λ r. ⌜ r ≡ (not (isConsole (o .first)) || (namesTwo code && not (isConsole (o .second)))) ⌝ }
 {
-    !is_console(o.first) | (!is_entry_code(code) & !is_console(o.second))
+    !is_console(o.first) | (names_two(code) & !is_console(o.second))
 }
 
 // Whether an entry names a strip above 31.
@@ -137,9 +138,9 @@ fn carries_too_much(code: usize, o: Operands) -> bool
 
 // Whether a command over two consoles names one twice.
 fn names_one_twice(code: usize, o: Operands) -> bool
-    ensures { λ r. ⌜ r ≡ not (isEntryCode code) && eqb (o .first) (o .second) ⌝ }
+    ensures { λ r. ⌜ r ≡ namesTwo code && eqb (o .first) (o .second) ⌝ }
 {
-    !is_entry_code(code) & (o.first == o.second)
+    names_two(code) & (o.first == o.second)
 }
 
 // The command of a code and its operands.

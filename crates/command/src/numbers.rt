@@ -1,6 +1,6 @@
 // Which numbers may stand in a command or a record: codes, consoles, strips and operands.
 ghost use mathlib.Core.Path.{_≡_};
-ghost use Rattle.command.specs.Code.{isEntryCode, isConsole, isStrip, isOperand};
+ghost use Rattle.command.specs.Code.{isEntryCode, namesTwo, isConsole, isStrip, isOperand};
 ghost use Rattle.command.specs.Decode.{isCommandCode};
 
 // The number of consoles.
@@ -18,6 +18,13 @@ pub fn is_entry_code(code: usize) -> bool
     ensures { λ r. ⌜ r ≡ isEntryCode code ⌝ }
 {
     (2 <= code) & (code <= 8)
+}
+
+// Whether a command of a code names two consoles.
+pub fn names_two(code: usize) -> bool
+    ensures { λ r. ⌜ r ≡ namesTwo code ⌝ }
+{
+    (code == 1) | ((9 <= code) & (code <= 10))
 }
 
 // Whether a number is a console's.
