@@ -99,23 +99,23 @@ module _ {s : List ℕ} (g : Graph) (v : ℕ) (h : Stands s (blockAt v) (block g
   abbrev lineage : List ℕ
   lineage = row (λ u. ancestor g u v) rowSize
 
-  abbrev note : List ℕ
-  note = nodeBytes g (nodeOf g v)
+  abbrev node : List ℕ
+  node = nodeBytes g (nodeOf g v)
 
-  stands-ahead : Stands s (blockAt v) (note ++ lineage)
+  stands-ahead : Stands s (blockAt v) (node ++ lineage)
   unfolding block
-  stands-ahead = stands-left (note ++ lineage) (boardOf g v) h
+  stands-ahead = stands-left (node ++ lineage) (boardOf g v) h
 
   block-record : Stands s (blockAt v) (nodeBytes g (nodeOf g v))
-  block-record = stands-left note lineage stands-ahead
+  block-record = stands-left node lineage stands-ahead
 
   pub block-row : Stands s (rowAt v) (row (λ u. ancestor g u v) rowSize)
-  block-row = stands-right note lineage stands-ahead (rw nodeBytes-length)
+  block-row = stands-right node lineage stands-ahead (rw nodeBytes-length)
 
   pub block-board : Stands s (boardAt v) (boardOf g v)
   unfolding block
   block-board =
-      stands-right (note ++ lineage) (boardOf g v) h
+      stands-right (node ++ lineage) (boardOf g v) h
       (simp (length-append, nodeBytes-length, rowFrom-length) (omega arith))
 
 -- the start of a header, up to the row of the entry versions; that row; the table

@@ -108,7 +108,7 @@ module _ (s : List ℕ) (b : Bytes s) where
           rest = zero-stands commonsEnd (headerSize - commonsEnd) (k .rest);
           versions = λ v l.
               let t = held .told v l in
-              join-block g v (t .note) (part-stands rowSize (t .line) (rowFrom-length (λ u. ancestor g u v) 0 rowSize))
+              join-block g v (t .node) (part-stands rowSize (t .line) (rowFrom-length (λ u. ancestor g u v) 0 rowSize))
               (part-stands boardSize (t .board) (boardOf-length g v));
           free = zero-stands (blockAt (versionCount g)) (blockSize * (r .capacity - versionCount g)) (k .free);
         }

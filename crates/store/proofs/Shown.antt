@@ -22,29 +22,29 @@ use Rattle.store.specs.Layout.{rowSize, nodeBytes}
 use Rattle.store.proofs.Lineage.{lineage}
 
 pub record Shown : Type 0 where
-  pub note : List ℕ
+  pub node : List ℕ
   pub line : List ℕ
   pub board : List ℕ
   pub listed : Bool
 
 abbrev pub shown : Graph → ℕ → Shown
-shown g v = record { note = nodeBytes g (nodeOf g v); line = lineage g v; board = boardOf g v; listed = isEntry g v }
+shown g v = record { node = nodeBytes g (nodeOf g v); line = lineage g v; board = boardOf g v; listed = isEntry g v }
 
 -- of a version that is made on top of a graph
 abbrev pub made : Graph → Node → Shown
 made g n =
     record {
-      note = nodeBytes g (some n);
+      node = nodeBytes g (some n);
       line = row (λ u. eqb u (versionCount g) || someParent (ancestor g u) n) rowSize;
       board = boardMade (boardOf g) (baseOf g) n;
       listed = entryNode (some n);
     }
 
 -- parents that are versions have the base that they had
-note-kept : (n m : Node) (g : Graph) → ((p : ℕ) → Parent m p → p < versionCount g) → nodeBytes (n ∷ g) (some m) ≡ nodeBytes g (some m)
+node-kept : (n m : Node) (g : Graph) → ((p : ℕ) → Parent m p → p < versionCount g) → nodeBytes (n ∷ g) (some m) ≡ nodeBytes g (some m)
 unfolding nodeBytes
-note-kept n (entry p code strip operand) g h = refl
-note-kept n (merge p q) g h = rw (meet-old n g p q (h p receiver) (h q giver))
+node-kept n (entry p code strip operand) g h = refl
+node-kept n (merge p q) g h = rw (meet-old n g p q (h p receiver) (h q giver))
 
 node-lower : (g : Graph) (v : ℕ) (m : Node) → everyVersion parentsLower g ≡ true → nodeOf g v ≡ some m → (p : ℕ) → Parent m p → p < versionCount g
 node-lower [] v m h e p r = absurd (omega (arith, nodeOf-named [] v m e))
@@ -58,18 +58,18 @@ node-lower (n ∷ g) v m h e p r =
           omega (arith, node-lower g v m (every-old parentsLower n g h) (sym (nodeOf-old n g v (omega arith)) ∙ e) p r)
     ]
 
-note-old : (n : Node) (g : Graph) (v : ℕ) → everyVersion parentsLower g ≡ true → v < versionCount g
+node-old : (n : Node) (g : Graph) (v : ℕ) → everyVersion parentsLower g ≡ true → v < versionCount g
     → nodeBytes (n ∷ g) (nodeOf (n ∷ g) v) ≡ nodeBytes g (nodeOf g v)
 unfolding nodeBytes
-note-old n g v h l = ap (nodeBytes (n ∷ g)) (nodeOf-old n g v l) ∙ go (nodeOf g v) refl
+node-old n g v h l = ap (nodeBytes (n ∷ g)) (nodeOf-old n g v l) ∙ go (nodeOf g v) refl
   where
     go : (o : Option Node) → nodeOf g v ≡ o → nodeBytes (n ∷ g) o ≡ nodeBytes g o
     go none e = refl
-    go (some m) e = note-kept n m g (node-lower g v m h e)
+    go (some m) e = node-kept n m g (node-lower g v m h e)
 
 pub shown-old : (n : Node) (g : Graph) (v : ℕ) → everyVersion parentsLower g ≡ true → v < versionCount g → shown (n ∷ g) v ≡ shown g v
 shown-old n g v h l = λ i. record {
-  note = note-old n g v h l i;
+  node = node-old n g v h l i;
   line = row-ext (λ u. ancestor (n ∷ g) u v) (λ u. ancestor g u v) rowSize (λ u. ancestor-old n g u v l) i;
   board = board-old n g v l i;
   listed = isEntry-old n g v l i;
@@ -77,7 +77,7 @@ shown-old n g v h l = λ i. record {
 
 pub shown-new : (n : Node) (g : Graph) → parentsLower g n ≡ true → shown (n ∷ g) (versionCount g) ≡ made g n
 shown-new n g h = λ i. record {
-  note = (ap (nodeBytes (n ∷ g)) (nodeOf-new n g) ∙ note-kept n n g (λ p r. parent-lower g h r)) i;
+  node = (ap (nodeBytes (n ∷ g)) (nodeOf-new n g) ∙ node-kept n n g (λ p r. parent-lower g h r)) i;
   line = row-ext (λ u. ancestor (n ∷ g) u (versionCount g)) (λ u. eqb u (versionCount g) || someParent (ancestor g u) n) rowSize (ancestor-new n g) i;
   board = board-new n g i;
   listed = isEntry-new n g i;

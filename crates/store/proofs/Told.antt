@@ -21,7 +21,7 @@ use Rattle.store.proofs.Shown.{Shown, shown, made, shown-old, shown-new
 
 -- the bytes show this of version v
 pub record Told (s : List ℕ) (v : ℕ) (w : Shown) : Type 0 where
-  pub note : Stands s (blockAt v) (w .note)
+  pub node : Stands s (blockAt v) (w .node)
   pub line : rowPart s v ≡ w .line
   pub board : boardPart s v ≡ w .board
   pub listed : member (entriesPart s) v ≡ w .listed

@@ -27,7 +27,7 @@ use Rattle.store.specs.Check.{rowPart, boardPart, entriesPart, rootRight
 use Rattle.store.proofs.Lineage.{entry-lineage, merge-lineage}
 use Rattle.store.proofs.Shown.{shown, made}
 use Rattle.store.proofs.Told.{Told, Held, Next, held-next, held-before, held-newest, meet-rows, rows-meet}
-use Rattle.store.proofs.Notes.{codeIn, stripIn, operandIn, parentIn, giverIn, baseIn, entryIn, mergeIn, zero-entry, entry-zero, zero-merge, merge-zero, merge-rest, merge-base-read}
+use Rattle.store.proofs.Nodes.{codeIn, stripIn, operandIn, parentIn, giverIn, baseIn, entryIn, mergeIn, zero-entry, entry-zero, zero-merge, merge-zero, merge-rest, merge-base-read}
 
 -- the number of a meet
 base-is : {g : Graph} {p q l : ℕ} → Meet g p q l → baseOf g p q ≡ l
@@ -82,7 +82,7 @@ module _ (s : List ℕ) (g : Graph) (small : versionCount g < maxCapacity) (h : 
         based = refl;
         ranged = search (and-l, and-r) depth 12;
         told = record {
-          note = zero-entry s v g b (search (and-l, and-r) depth 12);
+          node = zero-entry s v g b (search (and-l, and-r) depth 12);
           line = same-true (rowPart s v) (withMember (rowPart s p) v) (search (and-l, and-r) depth 12) ∙ entry-line a;
           board = same-true (boardPart s v) (entered (boardPart s p)) (search (and-l, and-r) depth 12) ∙ entry-board a;
           listed = search (and-l, and-r) depth 12;
@@ -96,7 +96,7 @@ module _ (s : List ℕ) (g : Graph) (small : versionCount g < maxCapacity) (h : 
       and-i _ _ (and-i _ _ (and-i _ _ (and-i _ _ (and-i _ _
       (k .ranged)
       (k .lower))
-      (entry-zero s v g (k .told .note)))
+      (entry-zero s v g (k .told .node)))
       (same-of _ _ (k .told .line ∙ sym (entry-line a))))
       (same-of _ _ (k .told .board ∙ sym (entry-board a))))
       (k .told .listed)
@@ -115,7 +115,7 @@ module _ (s : List ℕ) (g : Graph) (small : versionCount g < maxCapacity) (h : 
         based = rw (meet-found m) (and-i (not (eqb l p)) (not (eqb l q)) (search (and-l, and-r) depth 12) (search (and-l, and-r) depth 12));
         ranged = refl;
         told = record {
-          note = zero-merge s v g b nine (sym (base-is m)) (search (and-l, and-r) depth 12) (search (and-l, and-r) depth 12);
+          node = zero-merge s v g b nine (sym (base-is m)) (search (and-l, and-r) depth 12) (search (and-l, and-r) depth 12);
           line = same-true (rowPart s v) (withMember (union (rowPart s p) (rowPart s q)) v) (search (and-l, and-r) depth 12) ∙ merge-line first second;
           board = same-true (boardPart s v) (mergeBoard (boardPart s l) (boardPart s p) (boardPart s q)) (search (and-l, and-r) depth 12) ∙ merge-board first second m;
           listed = not-e (member (entriesPart s) v) (search (and-l, and-r) depth 12);
@@ -129,13 +129,13 @@ module _ (s : List ℕ) (g : Graph) (small : versionCount g < maxCapacity) (h : 
       let second = ltb-true q v (and-r (ltb p v) (ltb q v) (k .lower)) in
       let grown = held-next h k in
       let base = merge-base (record { lower = grown .lower; based = grown .based }) in
-      let e : l ≡ base .0 = merge-base-read s v g (k .told .note) (omega arith) ∙ base-is (base .1) in
+      let e : l ≡ base .0 = merge-base-read s v g (k .told .node) (omega arith) ∙ base-is (base .1) in
       let m : Meet g p q l = rw e (base .1) in
       and-i _ _ (and-i _ _ (and-i _ _ (and-i _ _ (and-i _ _ (and-i _ _ (and-i _ _
       (k .lower)
       (lt-ltb l v (ancestor-below g l p (m .first))))
-      (merge-zero s v g (k .told .note)))
-      (merge-rest s v g (k .told .note)))
+      (merge-zero s v g (k .told .node)))
+      (merge-rest s v g (k .told .node)))
       (and-i _ _ (and-i _ _
       (not-i _ (ne-eqb l p (λ d. base .2 (sym e ∙ d))))
       (not-i _ (ne-eqb l q (λ d. base .3 (sym e ∙ d)))))
@@ -171,11 +171,11 @@ module _ (s : List ℕ) where
   root-held : blockAt 1 ≤ length s → rootRight s ≡ true → Held s []
   unfolding rootRight everyVersion nodeBytes nodeOf boardOf
   root-held long t =
-      let note = allZero (part s (blockAt 0) nodeSize) in
+      let node = allZero (part s (blockAt 0) nodeSize) in
       let line = same (rowPart s 0) (withMember (zeros rowSize) 0) in
       let board = allZero (boardPart s 0) in
-      let three = and-l (note && line && board) _ t in
-      let two = and-l (note && line) board three in
+      let three = and-l (node && line && board) _ t in
+      let two = and-l (node && line) board three in
       record {
         lower = refl;
         based = refl;
@@ -184,10 +184,10 @@ module _ (s : List ℕ) where
             let first : 0 ≡ v = omega arith in
             subst (λ (k : ℕ). Told s k (shown [] k)) first
             (record {
-              note = zero-stands (blockAt 0) nodeSize (and-l note line two);
-              line = same-true (rowPart s 0) (withMember (zeros rowSize) 0) (and-r note line two) ∙ root-line;
-              board = zero-part s (boardAt 0) boardSize long (and-r (note && line) board three);
-              listed = not-e (member (entriesPart s) 0) (and-r (note && line && board) _ t);
+              node = zero-stands (blockAt 0) nodeSize (and-l node line two);
+              line = same-true (rowPart s 0) (withMember (zeros rowSize) 0) (and-r node line two) ∙ root-line;
+              board = zero-part s (boardAt 0) boardSize long (and-r (node && line) board three);
+              listed = not-e (member (entriesPart s) 0) (and-r (node && line && board) _ t);
             });
       }
 
@@ -196,7 +196,7 @@ module _ (s : List ℕ) where
   held-root h =
       let k = h .told 0 (omega arith) in
       and-i _ _ (and-i _ _ (and-i _ _
-      (stands-zero (blockAt 0) nodeSize (k .note))
+      (stands-zero (blockAt 0) nodeSize (k .node))
       (same-of _ _ (k .line ∙ sym root-line)))
       (part-zero s (boardAt 0) boardSize (k .board)))
       (not-i _ (k .listed))

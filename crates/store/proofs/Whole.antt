@@ -67,7 +67,7 @@ module _ (s : List ℕ) (t : holdsStore s ≡ true) where
             let k = whole-small in
             let n = whole-block v l in
             record {
-              note = stands-record (roomIn s) whole-front v l;
+              node = stands-record (roomIn s) whole-front v l;
               line = stands-part rowSize (stands-row (roomIn s) whole-front v l) (rowFrom-length (λ u. ancestor g u v) 0 rowSize) (omega arith);
               board = stands-part boardSize (stands-board (roomIn s) whole-front v l) (boardOf-length g v) (omega arith);
               listed = ap (λ (e : List ℕ). member e v) whole-entries ∙ member-row (isEntry g) rowSize v (omega arith);

@@ -18,13 +18,13 @@ use Rattle.store.specs.Check.{rowPart, boardPart, entriesPart}
 use Rattle.update.specs.Append.{entryBlock, mergeBlock, withEntry, withMerge}
 
 -- the nodes, from their first byte on
-pub entry-noted : (note z a b c d : List ℕ) (p code strip operand : ℕ) → length note ≡ nodeSize → z ≡ zeros (length note)
+pub entry-node-made : (node z a b c d : List ℕ) (p code strip operand : ℕ) → length node ≡ nodeSize → z ≡ zeros (length node)
     → a ≡ set z 0 (byte code) → b ≡ set a 1 (byte strip) → c ≡ putWord b 2 operand → d ≡ putWord c 4 p → d ≡ entryNodeBytes p code strip operand
-entry-noted note z a b c d p code strip operand l ez ea eb ec ed = rw (ed, ec, eb, ea, ez, l)
+entry-node-made node z a b c d p code strip operand l ez ea eb ec ed = rw (ed, ec, eb, ea, ez, l)
 
-pub merge-noted : (note z a b c d : List ℕ) (p q l : ℕ) → length note ≡ nodeSize → z ≡ zeros (length note)
+pub merge-node-made : (node z a b c d : List ℕ) (p q l : ℕ) → length node ≡ nodeSize → z ≡ zeros (length node)
     → a ≡ set z 0 (byte 9) → b ≡ putWord a 4 p → c ≡ putWord b 6 q → d ≡ putWord c 8 l → d ≡ mergeNodeBytes p q l
-merge-noted note z a b c d p q l long ez ea eb ec ed = rw (ed, ec, eb, ea, ez, long)
+merge-node-made node z a b c d p q l long ez ea eb ec ed = rw (ed, ec, eb, ea, ez, long)
 
 -- rows and boards keep their lengths
 pub member-keeps : (n v : ℕ) (x : List ℕ) → length x ≡ n → length (withMember x v) ≡ n
@@ -49,18 +49,18 @@ module _ (s x : List ℕ) (n at v : ℕ) (lower : v < n) (behind : blockAt n ≤
   board-kept = with-part s x at fits (boardAt v) boardSize (omega arith) (λ k l a b. omega arith)
 
 -- a block written node, row and board
-module _ (s note line board : List ℕ) (n : ℕ) (fits : blockAt (suc n) ≤ length s) (ln : length note ≡ nodeSize) (ll : length line ≡ rowSize)
+module _ (s node line board : List ℕ) (n : ℕ) (fits : blockAt (suc n) ≤ length s) (ln : length node ≡ nodeSize) (ll : length line ≡ rowSize)
     (lb : length board ≡ boardSize) where
-  block-long : length (note ++ line ++ board) ≡ blockSize
+  block-long : length (node ++ line ++ board) ≡ blockSize
   block-long = rw (length-append, length-append) (omega arith)
 
-  block-written : {a b c : List ℕ} → a ≡ withPart s (blockAt n) note → b ≡ withPart a (rowAt n) line → c ≡ withPart b (boardAt n) board
-      → c ≡ withPart s (blockAt n) (note ++ line ++ board)
+  block-written : {a b c : List ℕ} → a ≡ withPart s (blockAt n) node → b ≡ withPart a (rowAt n) line → c ≡ withPart b (boardAt n) board
+      → c ≡ withPart s (blockAt n) (node ++ line ++ board)
   block-written ea eb ec =
-      let front : length (note ++ line) ≡ nodeSize + rowSize = rw length-append (omega arith) in
+      let front : length (node ++ line) ≡ nodeSize + rowSize = rw length-append (omega arith) in
       rw (ec, eb, ea)
-      (ap (λ (t : List ℕ). withPart t (boardAt n) board) (with-next s note (blockAt n) (omega arith) (rowAt n) line (omega arith))
-      ∙ with-next s (note ++ line) (blockAt n) (omega arith) (boardAt n) board (omega arith))
+      (ap (λ (t : List ℕ). withPart t (boardAt n) board) (with-next s node (blockAt n) (omega arith) (rowAt n) line (omega arith))
+      ∙ with-next s (node ++ line) (blockAt n) (omega arith) (boardAt n) board (omega arith))
 
 module _ (s : List ℕ) (n : ℕ) (fits : blockAt (suc n) ≤ length s) where
   row-long : (v : ℕ) → v < n → length (rowPart s v) ≡ rowSize
@@ -93,22 +93,22 @@ module _ (s : List ℕ) (n : ℕ) (fits : blockAt (suc n) ≤ length s) where
         → d ≡ withPart c entriesAt (withMember (entriesPart c) n) → d ≡ withEntry s n p code strip operand
     unfolding withEntry entryBlock
     entry-appended a b c d ea eb ec ed =
-        let note : List ℕ = entryNodeBytes p code strip operand in
-        let ln : length note ≡ nodeSize = refl in
+        let node : List ℕ = entryNodeBytes p code strip operand in
+        let ln : length node ≡ nodeSize = refl in
         let ll = entryLine-length in
-        let one : rowPart a p ≡ rowPart s p = rw ea (row-kept s note n (blockAt n) p lower (omega arith) (omega arith)) in
+        let one : rowPart a p ≡ rowPart s p = rw ea (row-kept s node n (blockAt n) p lower (omega arith) (omega arith)) in
         let two : b ≡ withPart a (rowAt n) entryLine = rw one at eb in
-        let long : length a ≡ length s = rw ea (with-length s note (blockAt n) (omega arith)) in
+        let long : length a ≡ length s = rw ea (with-length s node (blockAt n) (omega arith)) in
         let three : boardPart b p ≡ boardPart s p =
         ap (λ (t : List ℕ). boardPart t p) two
         ∙ board-kept a entryLine n (rowAt n) p lower (omega arith) (omega arith)
         ∙ ap (λ (t : List ℕ). boardPart t p) ea
-        ∙ board-kept s note n (blockAt n) p lower (omega arith) (omega arith) in
+        ∙ board-kept s node n (blockAt n) p lower (omega arith) (omega arith) in
         let four : c ≡ withPart b (boardAt n) entryBoard = rw three at ec in
-        let whole = block-written s note entryLine entryBoard n fits ln ll entryBoard-length ea two four in
+        let whole = block-written s node entryLine entryBoard n fits ln ll entryBoard-length ea two four in
         let size = entryBlock-length in
         let five : entriesPart c ≡ entriesPart s =
-        rw whole (with-part s (note ++ entryLine ++ entryBoard) (blockAt n) (omega arith) entriesAt rowSize (omega arith) (λ k l x y. omega arith)) in
+        rw whole (with-part s (node ++ entryLine ++ entryBoard) (blockAt n) (omega arith) entriesAt rowSize (omega arith) (λ k l x y. omega arith)) in
         ed ∙ rw (five, whole)
 
   -- a merge
@@ -134,18 +134,18 @@ module _ (s : List ℕ) (n : ℕ) (fits : blockAt (suc n) ≤ length s) where
         → c ≡ withPart b (boardAt n) (mergeBoard (boardPart b l) (boardPart b p) (boardPart b q)) → c ≡ withMerge s n p q l
     unfolding withMerge mergeBlock
     merge-appended a b c ea eb ec =
-        let note : List ℕ = mergeNodeBytes p q l in
-        let ln : length note ≡ nodeSize = refl in
+        let node : List ℕ = mergeNodeBytes p q l in
+        let ln : length node ≡ nodeSize = refl in
         let ll = mergeLine-length in
         let row : (v : ℕ) → v < n → rowPart a v ≡ rowPart s v =
-        λ v i. rw ea (row-kept s note n (blockAt n) v i (omega arith) (omega arith)) in
+        λ v i. rw ea (row-kept s node n (blockAt n) v i (omega arith) (omega arith)) in
         let two : b ≡ withPart a (rowAt n) mergeLine = rw (row p first, row q second) at eb in
-        let long : length a ≡ length s = rw ea (with-length s note (blockAt n) (omega arith)) in
+        let long : length a ≡ length s = rw ea (with-length s node (blockAt n) (omega arith)) in
         let board : (v : ℕ) → v < n → boardPart b v ≡ boardPart s v =
         λ v i.
         ap (λ (t : List ℕ). boardPart t v) two
         ∙ board-kept a mergeLine n (rowAt n) v i (omega arith) (omega arith)
         ∙ ap (λ (t : List ℕ). boardPart t v) ea
-        ∙ board-kept s note n (blockAt n) v i (omega arith) (omega arith) in
+        ∙ board-kept s node n (blockAt n) v i (omega arith) (omega arith) in
         let four : c ≡ withPart b (boardAt n) mergedBoard = rw (board l third, board p first, board q second) at ec in
-        block-written s note mergeLine mergedBoard n fits ln ll mergedBoard-length ea two four
+        block-written s node mergeLine mergedBoard n fits ln ll mergedBoard-length ea two four

@@ -48,7 +48,7 @@ pub record Grew (s t : List ℕ) (g : Graph) (m : Node) : Type 0 where
 
 -- a block is what is shown of its version
 abbrev laid : Shown → List ℕ
-laid w = w .note ++ w .line ++ w .board
+laid w = w .node ++ w .line ++ w .board
 
 block-new : (m : Node) (g : Graph) → parentsLower g m ≡ true → block (m ∷ g) (versionCount g) ≡ laid (made g m)
 unfolding block

@@ -44,31 +44,31 @@ fn put_byte(s: &mut [u8], at: usize, x: usize)
 }
 
 // Writes the node of an entry, all of its bytes.
-fn write_entry(note: &mut [u8], p: Version, code: usize, strip: Strip, operand: usize)
-    requires { ⌜ length (now note) ≡ nodeSize ⌝ }
-    ensures { λ _. ⌜ now (note .exit) ≡ entryNodeBytes (p .0) code (strip .0) operand ⌝ }
+fn write_entry(node: &mut [u8], p: Version, code: usize, strip: Strip, operand: usize)
+    requires { ⌜ length (now node) ≡ nodeSize ⌝ }
+    ensures { λ _. ⌜ now (node .exit) ≡ entryNodeBytes (p .0) code (strip .0) operand ⌝ }
 {
-    clear(note);
-    put_byte(note, 0, code);
-    put_byte(note, NODE_STRIP, strip.0);
-    put_word(note, NODE_OPERAND, operand);
-    put_word(note, NODE_PARENT, p.0);
+    clear(node);
+    put_byte(node, 0, code);
+    put_byte(node, NODE_STRIP, strip.0);
+    put_word(node, NODE_OPERAND, operand);
+    put_word(node, NODE_PARENT, p.0);
 }
 
 // Writes the node of a merge, all of its bytes.
-fn write_merge(note: &mut [u8], p: usize, q: usize, l: usize)
-    requires { ⌜ length (now note) ≡ nodeSize ⌝ }
-    ensures { λ _. ⌜ now (note .exit) ≡ mergeNodeBytes p q l ⌝ }
+fn write_merge(node: &mut [u8], p: usize, q: usize, l: usize)
+    requires { ⌜ length (now node) ≡ nodeSize ⌝ }
+    ensures { λ _. ⌜ now (node .exit) ≡ mergeNodeBytes p q l ⌝ }
 {
-    clear(note);
-    put_byte(note, 0, MERGE_CODE);
-    put_word(note, NODE_PARENT, p);
-    put_word(note, NODE_GIVER, q);
-    put_word(note, NODE_BASE, l);
+    clear(node);
+    put_byte(node, 0, MERGE_CODE);
+    put_word(node, NODE_PARENT, p);
+    put_word(node, NODE_GIVER, q);
+    put_word(node, NODE_BASE, l);
 }
 
 // Puts the node of an entry into the block of version n.
-fn put_entry_note(s: &mut [u8], n: Version, p: Version, code: usize, strip: Strip, operand: usize)
+fn put_entry_node(s: &mut [u8], n: Version, p: Version, code: usize, strip: Strip, operand: usize)
     requires { ⌜ (n .0 < 1024) × (blockAt (suc (n .0)) ≤ length (now s)) ⌝ }
     ensures { λ _. ⌜ now (s .exit) ≡ withPart (now (s .entry)) (blockAt (n .0)) (entryNodeBytes (p .0) code (strip .0) operand) ⌝ }
 {
@@ -78,7 +78,7 @@ fn put_entry_note(s: &mut [u8], n: Version, p: Version, code: usize, strip: Stri
 }
 
 // Puts the node of a merge into the block of version n.
-fn put_merge_note(s: &mut [u8], n: usize, p: usize, q: usize, l: usize)
+fn put_merge_node(s: &mut [u8], n: usize, p: usize, q: usize, l: usize)
     requires { ⌜ (n < 1024) × (blockAt (suc n) ≤ length (now s)) ⌝ }
     ensures { λ _. ⌜ now (s .exit) ≡ withPart (now (s .entry)) (blockAt n) (mergeNodeBytes p q l) ⌝ }
 {
@@ -123,7 +123,7 @@ pub fn append_entry(s: &mut [u8], n: Version, p: Version, code: usize, strip: St
     requires { ⌜ (strip .0 < stripCount) × (code ≡ 0x04 → operand < 16) × (code ≡ 0x05 → operand < 16) ⌝ }
     ensures { λ _. ⌜ now (s .exit) ≡ withEntry (now (s .entry)) (n .0) (p .0) code (strip .0) operand ⌝ }
 {
-    put_entry_note(s, n, p, code, strip, operand);
+    put_entry_node(s, n, p, code, strip, operand);
     put_entry_row(s, n.0, p.0);
     put_entry_board(s, n, p, code, strip, operand);
     list_entry(s, n.0);
@@ -158,7 +158,7 @@ pub fn append_merge(s: &mut [u8], n: Version, p: Version, q: Version, l: Version
     requires { ⌜ (p .0 < n .0) × (q .0 < n .0) × (l .0 < n .0) × (n .0 < 1024) × (blockAt (suc (n .0)) ≤ length (now s)) ⌝ }
     ensures { λ _. ⌜ now (s .exit) ≡ withMerge (now (s .entry)) (n .0) (p .0) (q .0) (l .0) ⌝ }
 {
-    put_merge_note(s, n.0, p.0, q.0, l.0);
+    put_merge_node(s, n.0, p.0, q.0, l.0);
     put_merge_row(s, n.0, p.0, q.0);
     put_merge_board(s, n.0, p.0, q.0, l.0);
 }

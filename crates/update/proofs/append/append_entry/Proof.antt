@@ -6,8 +6,8 @@ use Rattle.update.proofs.Appended.{entry-appended}
 use Rattle.update.proofs.append.append_entry.Statement.{statement}
 use Rattle.update.proofs.append.append_entry.Tie as tie
 
-put-entry-note-requires : tie.Need-put-entry-note-requires
-put-entry-note-requires c κs = omega arith
+put-entry-node-requires : tie.Need-put-entry-node-requires
+put-entry-node-requires c κs = omega arith
 
 put-entry-row-requires : tie.Need-put-entry-row-requires
 put-entry-row-requires c κs = omega arith
@@ -27,17 +27,17 @@ returns c =
     let listed = c .before .before in
     let board = listed .before .before .before .before in
     let row = board .before .before .before .before in
-    let note = row .before .before .before .before in
-    let start = note .before .before .before in
+    let node = row .before .before .before .before in
+    let start = node .before .before .before in
     let a = start .args in
     entry-appended (now (a .s)) (a .n .0) (omega arith) (a .p .0) (a .code) (a .strip .0) (a .operand) (omega arith) _ _ _ _
-    (note .put-entry-note .ensures) (row .put-entry-row .ensures) (board .put-entry-board .ensures) (listed .list-entry .ensures)
+    (node .put-entry-node .ensures) (row .put-entry-row .ensures) (board .put-entry-board .ensures) (listed .list-entry .ensures)
 
 pub append-entry-spec : {M : Type 1} → statement M
 append-entry-spec =
     tie.close
     (tie.spec
-    put-entry-note-requires
+    put-entry-node-requires
     put-entry-row-requires
     put-entry-board-requires
     list-entry-requires

@@ -2,7 +2,7 @@
 -- Assumes nothing.
 use native.Mathlib.Omega.{arith}
 use denote.Ref.{now}
-use Rattle.update.proofs.Appended.{entry-noted}
+use Rattle.update.proofs.Appended.{entry-node-made}
 use Rattle.update.proofs.append.write_entry.Statement.{statement}
 use Rattle.update.proofs.append.write_entry.Tie as tie
 
@@ -33,7 +33,7 @@ returns c =
     let cleared = first .before .before .before .before in
     let start = cleared .before .before .before in
     let a = start .args in
-    entry-noted (now (a .note)) _ _ _ _ _ (a .p .0) (a .code) (a .strip .0) (a .operand) (start .pre) (cleared .clear .ensures) (first .put-byte .ensures)
+    entry-node-made (now (a .node)) _ _ _ _ _ (a .p .0) (a .code) (a .strip .0) (a .operand) (start .pre) (cleared .clear .ensures) (first .put-byte .ensures)
     (second .put-byte2 .ensures) (third .put-word .ensures) (fourth .put-word2 .ensures)
 
 pub write-entry-spec : {M : Type 1} → statement M

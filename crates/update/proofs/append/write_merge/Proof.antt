@@ -2,7 +2,7 @@
 -- Assumes nothing.
 use native.Mathlib.Omega.{arith}
 use denote.Ref.{now}
-use Rattle.update.proofs.Appended.{merge-noted}
+use Rattle.update.proofs.Appended.{merge-node-made}
 use Rattle.update.proofs.append.write_merge.Statement.{statement}
 use Rattle.update.proofs.append.write_merge.Tie as tie
 
@@ -33,7 +33,7 @@ returns c =
     let cleared = first .before .before .before .before in
     let start = cleared .before .before .before in
     let a = start .args in
-    merge-noted (now (a .note)) _ _ _ _ _ (a .p) (a .q) (a .l) (start .pre) (cleared .clear .ensures) (first .put-byte .ensures)
+    merge-node-made (now (a .node)) _ _ _ _ _ (a .p) (a .q) (a .l) (start .pre) (cleared .clear .ensures) (first .put-byte .ensures)
     (second .put-word .ensures) (third .put-word2 .ensures) (fourth .put-word3 .ensures)
 
 pub write-merge-spec : {M : Type 1} → statement M

@@ -1,12 +1,12 @@
--- `update::append::put_merge_note` meets its contract.
+-- `update::append::put_merge_node` meets its contract.
 -- Assumes nothing.
 use mathlib.Core.Path.{refl}
 use native.Mathlib.Omega.{arith}
 use denote.Ref.{now}
 use Rattle.store.specs.Layout.{nodeSize, mergeNodeBytes}
 use Rattle.buffer.proofs.Patches.{put-lent}
-use Rattle.update.proofs.append.put_merge_note.Statement.{statement}
-use Rattle.update.proofs.append.put_merge_note.Tie as tie
+use Rattle.update.proofs.append.put_merge_node.Statement.{statement}
+use Rattle.update.proofs.append.put_merge_node.Tie as tie
 
 block-at-requires : tie.Need-block-at-requires
 block-at-requires c κs = omega arith
@@ -32,12 +32,12 @@ same-length c = omega arith
 returns : tie.Need-returns
 returns c =
     let start = c .before .before .before .before .before .before in
-    let note = start .args in
-    put-lent (now (note .s)) _ (mergeNodeBytes (note .p) (note .q) (note .l)) _ _ nodeSize
+    let node = start .args in
+    put-lent (now (node .s)) _ (mergeNodeBytes (node .p) (node .q) (node .l)) _ _ nodeSize
     (c .before .before .before .before .block-at .ensures) (c .before .before .write-merge .ensures) refl
 
-pub put-merge-note-spec : {M : Type 1} → statement M
-put-merge-note-spec =
+pub put-merge-node-spec : {M : Type 1} → statement M
+put-merge-node-spec =
     tie.close
     (tie.spec
     block-at-requires

@@ -1,12 +1,12 @@
--- `update::append::put_entry_note` meets its contract.
+-- `update::append::put_entry_node` meets its contract.
 -- Assumes nothing.
 use mathlib.Core.Path.{refl}
 use native.Mathlib.Omega.{arith}
 use denote.Ref.{now}
 use Rattle.store.specs.Layout.{nodeSize, entryNodeBytes}
 use Rattle.buffer.proofs.Patches.{put-lent}
-use Rattle.update.proofs.append.put_entry_note.Statement.{statement}
-use Rattle.update.proofs.append.put_entry_note.Tie as tie
+use Rattle.update.proofs.append.put_entry_node.Statement.{statement}
+use Rattle.update.proofs.append.put_entry_node.Tie as tie
 
 block-at-requires : tie.Need-block-at-requires
 block-at-requires c κs = omega arith
@@ -32,12 +32,12 @@ same-length c = omega arith
 returns : tie.Need-returns
 returns c =
     let start = c .before .before .before .before .before .before in
-    let note = start .args in
-    put-lent (now (note .s)) _ (entryNodeBytes (note .p .0) (note .code) (note .strip .0) (note .operand)) _ _ nodeSize
+    let node = start .args in
+    put-lent (now (node .s)) _ (entryNodeBytes (node .p .0) (node .code) (node .strip .0) (node .operand)) _ _ nodeSize
     (c .before .before .before .before .block-at .ensures) (c .before .before .write-entry .ensures) refl
 
-pub put-entry-note-spec : {M : Type 1} → statement M
-put-entry-note-spec =
+pub put-entry-node-spec : {M : Type 1} → statement M
+put-entry-node-spec =
     tie.close
     (tie.spec
     block-at-requires
