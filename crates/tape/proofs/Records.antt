@@ -1,7 +1,7 @@
 -- A record whose numbers fit its fields is read back from its bytes, and bytes that read as a record are that record's bytes.
 -- Assumes nothing.
 use Prim.Native.Nat.{ℕ, zero, suc, _+_, _*_, _/_, _≤_, _<_}
-use mathlib.Core.Path.{_≡_, refl, sym, _∙_, subst}
+use mathlib.Core.Path.{_≡_, refl, sym, ap, _∙_, subst}
 use mathlib.Core.Logic.{inl, inr, _≢_}
 use mathlib.Core.Bool.{false, cond}
 use mathlib.Core.List.{List, [], _∷_, _++_}
@@ -9,8 +9,8 @@ use native.Mathlib.Omega.{arith}
 use native.Mathlib.Decide.{ℕ-discrete}
 use native.Mathlib.Nat.{add-zero}
 use lib.Dec.{ltb}
-use lib.ListN.{length, getD, drop, length-append}
-use lib.Seq.{drop-cons, drop-append-seam}
+use lib.ListN.{length, getD, take, drop, length-append}
+use lib.Seq.{drop-cons, drop-append-seam, take-append-seam}
 use borrow.Author.Tests.{ltb-false, le-ltb, ne-eqb}
 use Rattle.laws.proofs.Logic.{decide, cond-true, cond-false}
 use Rattle.buffer.specs.Field.{byte, wordAt}
@@ -172,3 +172,17 @@ record-whole x t bytes e u =
       | inl s ↦ absurd (unbroken (cond-true _ _ _ s))
       | inr l ↦ rw (← e) (begins t bytes (getD t 0 0) refl l unbroken)
     ]
+
+-- what is read at the front of a tape: the tape begins with its bytes
+front-bytes : (x : Record) (t : List ℕ) → Bytes t → recordIn t ≡ x → Unbroken x → take (length (recordBytes x)) t ≡ recordBytes x
+front-bytes x t bytes e u =
+    ap (take (length (recordBytes x))) (record-whole x t bytes e u .0) ∙ take-append-seam (recordBytes x) (drop (recordLength t) t)
+
+pub record-bytes : (x : Record) (t : List ℕ) → Bytes t → x ≡ recordIn t → (x ≡ recordIn t) × (take (length (recordBytes x)) t ≡ recordBytes x)
+unfolding recordBytes
+record-bytes (Start capacity) t bytes e = (e, front-bytes _ t bytes (sym e) tt)
+record-bytes (Entry parent code strip operand) t bytes e = (e, front-bytes _ t bytes (sym e) tt)
+record-bytes (Merge receiver giver) t bytes e = (e, front-bytes _ t bytes (sym e) tt)
+record-bytes (Head console version) t bytes e = (e, front-bytes _ t bytes (sym e) tt)
+record-bytes End t bytes e = (e, front-bytes _ t bytes (sym e) tt)
+record-bytes Broken t bytes e = (e, refl)

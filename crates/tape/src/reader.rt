@@ -10,8 +10,8 @@ use command::decoder::widths_of;
 use graph::Version;
 ghost use mathlib.Core.Path.{_≡_};
 ghost use Prim.Native.Nat.{_+_, _≤_, _<_};
-ghost use lib.ListN.{length, drop};
-ghost use Rattle.tape.specs.Record.{recordLength, recordFrom, recordIn};
+ghost use lib.ListN.{length, take, drop};
+ghost use Rattle.tape.specs.Record.{recordLength, recordFrom, recordIn, recordBytes};
 ghost use Rattle.tape.specs.Reader.{placeAfter};
 
 // The reading place.
@@ -50,9 +50,9 @@ fn record_from(code: usize, o: Operands) -> Record
     }
 }
 
-// The record at the front of a tape, where it is there whole.
-pub fn record_in(t: &[u8]) -> Record
-    ensures { λ r. ⌜ r ≡ recordIn (now (t .entry)) ⌝ }
+// The record at the front of a tape, where it is there whole: the tape begins with the paper's bytes of it.
+fn record_in(t: &[u8]) -> Record
+    ensures { λ r. ⌜ (r ≡ recordIn (now (t .entry))) × (take (length (recordBytes r)) (now (t .entry)) ≡ recordBytes r) ⌝ }
 {
     if t.len() == 0 {
         return Record::Broken;

@@ -2,12 +2,15 @@
 -- Assumes nothing.
 use native.Mathlib.Omega.{arith}
 use Rattle.command.proofs.Shapes.{narrow-shape}
+use Rattle.tape.proofs.Records.{record-bytes}
 use Rattle.tape.proofs.Places.{record-empty, record-short, record-found}
 use Rattle.tape.proofs.reader.record_in.Statement.{statement}
 use Rattle.tape.proofs.reader.record_in.Tie as tie
 
 returns : tie.Need-returns
-returns c = record-empty _ (c .if1 .taken)
+returns c =
+    let known = c .before in
+    record-bytes _ _ (λ i. known .shared-slice-known .given i .fits) (record-empty _ (c .if1 .taken))
 
 shared-slice-read-wide : tie.Need-shared-slice-read-wide
 shared-slice-read-wide c = omega arith
@@ -22,7 +25,11 @@ length-of-requires : tie.Need-length-of-requires
 length-of-requires c κs = rw (c .widths-of .ensures) (narrow-shape _)
 
 returns-2 : tie.Need-returns-2
-returns-2 c = record-short _ _ (c .before .before .before .wide .ensures .0) _ (c .before .before .widths-of .ensures) _ (c .before .length-of .ensures) (c .if2 .taken)
+returns-2 c =
+    let read = c .before .before .before in
+    let known = read .before .before .before in
+    record-bytes _ _ (λ i. known .shared-slice-known .given i .fits)
+    (record-short _ _ (read .wide .ensures .0) _ (c .before .before .widths-of .ensures) _ (c .before .length-of .ensures) (c .if2 .taken))
 
 operands-of-requires : tie.Need-operands-of-requires
 operands-of-requires c κs = (rw (c .before .before .widths-of .ensures) (narrow-shape _), omega arith)
@@ -31,7 +38,12 @@ record-from-requires : tie.Need-record-from-requires
 record-from-requires c κs = tt
 
 returns-3 : tie.Need-returns-3
-returns-3 c = record-found _ _ (c .before .before .before .before .before .wide .ensures .0) _ (c .before .before .before .before .widths-of .ensures) _ (c .before .before .before .length-of .ensures) (c .before .before .if2 .left) _ (c .before .operands-of .ensures) _ (c .record-from .ensures)
+returns-3 c =
+    let passed = c .before .before in
+    let read = passed .before .before .before in
+    let known = read .before .before .before in
+    record-bytes _ _ (λ i. known .shared-slice-known .given i .fits)
+    (record-found _ _ (read .wide .ensures .0) _ (passed .before .before .widths-of .ensures) _ (passed .before .length-of .ensures) (passed .if2 .left) _ (c .before .operands-of .ensures) _ (c .record-from .ensures))
 
 pub record-in-spec : {M : Type 1} → statement M
 record-in-spec =

@@ -22,7 +22,7 @@ next-at-requires : tie.Need-next-at-requires
 next-at-requires c κs = omega arith
 
 returns : tie.Need-returns
-returns c = (rw (rest-all _ _) at (c .before .record-in .ensures), c .next-at .ensures .0, c .next-at .ensures .1)
+returns c = (rw (rest-all _ _) at (c .before .record-in .ensures .0), c .next-at .ensures .0, c .next-at .ensures .1)
 
 pub take-at-spec : {M : Type 1} → statement M
 take-at-spec =
