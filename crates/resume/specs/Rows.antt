@@ -1,4 +1,4 @@
--- The ancestry rows of a tape's versions in an array of their own, row v at 128 times v, and what two rows have in common.
+-- The ancestry rows of a tape's versions in an array of their own, one behind the other, and what two rows have in common.
 use Prim.Native.Nat.{ℕ, suc, _*_, _<_}
 use mathlib.Core.Path.{_≡_}
 use mathlib.Core.Bool.{Bool, true, false, _&&_}
@@ -9,19 +9,20 @@ use Rattle.buffer.specs.Field.{part, same}
 use Rattle.buffer.specs.Row.{row, member, intersection}
 use Rattle.graph.specs.Below.{highestBelow}
 use Rattle.graph.specs.Graph.{Graph, versionCount, ancestor}
+use Rattle.room.specs.Sound.{maxCapacity}
 use Rattle.store.specs.Layout.{rowSize}
 
 -- the highest member that two rows have in common; 0 where there is none
 abbrev pub highestCommon : List ℕ → List ℕ → ℕ
-highestCommon p q = Option·getD (highestBelow 1024 (λ v. member p v && member q v)) 0
+highestCommon p q = Option·getD (highestBelow maxCapacity (λ v. member p v && member q v)) 0
 
 -- the bytes of the rows of all versions that a store may hold
 abbrev pub rowsSize : ℕ
-rowsSize = 131072
+rowsSize = rowSize * maxCapacity
 
 -- row v
 abbrev pub ownRow : List ℕ → ℕ → List ℕ
-ownRow t v = part t (128 * v) 128
+ownRow t v = part t (rowSize * v) rowSize
 
 -- the rows of all versions of a graph stand in t
 pub record RowsOf (t : List ℕ) (g : Graph) : Type 0 where

@@ -7,7 +7,8 @@ use Rattle.buffer.specs.Field.{withPart}
 use Rattle.buffer.specs.Row.{withMember, union}
 use Rattle.graph.specs.Graph.{servesAsBase}
 use Rattle.command.specs.Code.{consoleCount}
-use Rattle.store.specs.Layout.{headFrom}
+use Rattle.room.specs.Sound.{maxCapacity}
+use Rattle.store.specs.Layout.{rowSize, headFrom}
 use Rattle.store.specs.Rules.{bothBelow}
 use Rattle.update.specs.Commons.{putHead}
 use Rattle.tape.specs.declared.Record.{Record}
@@ -26,9 +27,9 @@ parentsBelow v Broken = true
 -- the rows with that of version v, which a record makes
 abbrev pub rowsAfter : List ℕ → ℕ → Record → List ℕ
 rowsAfter rows v (Start capacity) = rows
-rowsAfter rows v (Entry parent code strip operand) = withPart rows (128 * v) (withMember (ownRow rows (parent .0)) v)
+rowsAfter rows v (Entry parent code strip operand) = withPart rows (rowSize * v) (withMember (ownRow rows (parent .0)) v)
 rowsAfter rows v (Merge receiver giver) =
-    withPart rows (128 * v) (withMember (union (ownRow rows (receiver .0)) (ownRow rows (giver .0))) v)
+    withPart rows (rowSize * v) (withMember (union (ownRow rows (receiver .0)) (ownRow rows (giver .0))) v)
 rowsAfter rows v (Head console version) = rows
 rowsAfter rows v End = rows
 rowsAfter rows v Broken = rows
@@ -47,7 +48,7 @@ abbrev pub headWithin : Record → Bool
 headWithin (Start capacity) = true
 headWithin (Entry parent code strip operand) = true
 headWithin (Merge receiver giver) = true
-headWithin (Head console version) = ltb (console .0) consoleCount && ltb (version .0) 1024
+headWithin (Head console version) = ltb (console .0) consoleCount && ltb (version .0) maxCapacity
 headWithin End = true
 headWithin Broken = true
 

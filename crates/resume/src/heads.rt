@@ -15,7 +15,7 @@ ghost use lib.ListN.{length};
 ghost use Rattle.buffer.specs.Field.{zeros, part};
 ghost use Rattle.graph.specs.Graph.{versionCount};
 ghost use Rattle.command.specs.Code.{consoleCount};
-ghost use Rattle.room.specs.Sound.{headsMeet};
+ghost use Rattle.room.specs.Sound.{maxCapacity, headsMeet};
 ghost use Rattle.store.specs.Layout.{headerSize, commonsAt, commonsSize, commonTable};
 ghost use Rattle.store.specs.Check.{commonIn};
 ghost use Rattle.update.specs.Commons.{putCommon};
@@ -29,7 +29,7 @@ ghost use Rattle.resume.specs.Versions.{headWithin, tableAfter};
 // The field of two consoles whose own fields are x and y.
 fn pair_field(rows: &[u8], x: usize, y: usize) -> usize
     requires { ⌜ length (now rows) ≡ rowsSize ⌝ }
-    requires { ⌜ (x ≤ 1024) × (y ≤ 1024) ⌝ }
+    requires { ⌜ (x ≤ maxCapacity) × (y ≤ maxCapacity) ⌝ }
     ensures { λ r. ⌜ r ≡ pairField (now (rows .entry)) x y ⌝ }
 {
     if x == 0 {
@@ -45,7 +45,7 @@ fn pair_field(rows: &[u8], x: usize, y: usize) -> usize
 fn judge_pair(rows: &[u8], header: &mut [u8], c: usize, d: usize, x: usize, y: usize) -> bool
     requires { ⌜ length (now rows) ≡ rowsSize ⌝ }
     requires { ⌜ length (now header) ≡ headerSize ⌝ }
-    requires { ⌜ (c < consoleCount) × (d < consoleCount) × (x ≤ 1024) × (y ≤ 1024) ⌝ }
+    requires { ⌜ (c < consoleCount) × (d < consoleCount) × (x ≤ maxCapacity) × (y ≤ maxCapacity) ⌝ }
     ensures { λ r. ⌜ (r ≡ pairMeets (now (rows .entry)) x y) × (now (header .exit) ≡ putCommon (now (header .entry)) c d (pairField (now (rows .entry)) x y)) ⌝ }
 {
     let z = pair_field(rows, x, y);
@@ -58,7 +58,7 @@ fn judge_console(rows: &[u8], header: &mut [u8], c: usize) -> bool
     requires { ⌜ length (now rows) ≡ rowsSize ⌝ }
     requires { ⌜ length (now header) ≡ headerSize ⌝ }
     requires { ⌜ c < consoleCount ⌝ }
-    requires { ⌜ ((k : ℕ) → k < consoleCount → commonIn (now header) k k ≤ 1024) ⌝ }
+    requires { ⌜ ((k : ℕ) → k < consoleCount → commonIn (now header) k k ≤ maxCapacity) ⌝ }
     ensures { λ r. ⌜ (r ≡ consoleMeets (now (rows .entry)) (now (header .entry)) c c) × (now (header .exit) ≡ withPairs (now (rows .entry)) (now (header .entry)) c c) ⌝ }
 {
     let mut ok = true;
@@ -75,7 +75,7 @@ fn judge_console(rows: &[u8], header: &mut [u8], c: usize) -> bool
 fn judge_table(rows: &[u8], header: &mut [u8]) -> bool
     requires { ⌜ length (now rows) ≡ rowsSize ⌝ }
     requires { ⌜ length (now header) ≡ headerSize ⌝ }
-    requires { ⌜ ((k : ℕ) → k < consoleCount → commonIn (now header) k k ≤ 1024) ⌝ }
+    requires { ⌜ ((k : ℕ) → k < consoleCount → commonIn (now header) k k ≤ maxCapacity) ⌝ }
     ensures { λ r. ⌜ (r ≡ tableMeets (now (rows .entry)) (now (header .entry)) consoleCount) × (now (header .exit) ≡ withConsoles (now (rows .entry)) (now (header .entry)) consoleCount) ⌝ }
 {
     let mut ok = true;
@@ -110,7 +110,7 @@ fn put_head(header: &mut [u8], tape_record: Record)
 fn put_heads(tape: &[u8], from: usize, heads: usize, header: &mut [u8])
     requires { ⌜ contentOf (now tape) ≡ some (contentIn (now tape)) ⌝ }
     requires { ⌜ (consolesRise (contentIn (now tape) .heads) ≡ true) × (headsNamed (contentIn (now tape) .versions) (contentIn (now tape) .heads) ≡ true) ⌝ }
-    requires { ⌜ (versionCount (contentIn (now tape) .versions) ≤ 1024) × (from ≡ headPlace (contentIn (now tape)) 0) × (heads ≡ length (contentIn (now tape) .heads)) ⌝ }
+    requires { ⌜ (versionCount (contentIn (now tape) .versions) ≤ maxCapacity) × (from ≡ headPlace (contentIn (now tape)) 0) × (heads ≡ length (contentIn (now tape) .heads)) ⌝ }
     requires { ⌜ (length (now header) ≡ headerSize) × (now header ≡ zeros headerSize) ⌝ }
     ensures { λ _. ⌜ now (header .exit) ≡ headTable (contentIn (now (tape .entry)) .heads) ⌝ }
 {
@@ -127,7 +127,7 @@ fn put_heads(tape: &[u8], from: usize, heads: usize, header: &mut [u8])
 pub fn judge_heads(tape: &[u8], from: usize, heads: usize, rows: &[u8], header: &mut [u8]) -> bool
     requires { ⌜ contentOf (now tape) ≡ some (contentIn (now tape)) ⌝ }
     requires { ⌜ (consolesRise (contentIn (now tape) .heads) ≡ true) × (headsNamed (contentIn (now tape) .versions) (contentIn (now tape) .heads) ≡ true) ⌝ }
-    requires { ⌜ (versionCount (contentIn (now tape) .versions) ≤ 1024) × (from ≡ headPlace (contentIn (now tape)) 0) × (heads ≡ length (contentIn (now tape) .heads)) ⌝ }
+    requires { ⌜ (versionCount (contentIn (now tape) .versions) ≤ maxCapacity) × (from ≡ headPlace (contentIn (now tape)) 0) × (heads ≡ length (contentIn (now tape) .heads)) ⌝ }
     requires { ⌜ RowsOf (now rows) (contentIn (now tape) .versions) ⌝ }
     requires { ⌜ (length (now header) ≡ headerSize) × (now header ≡ zeros headerSize) ⌝ }
     ensures { λ r. ⌜ (r ≡ headsMeet (roomOf (contentIn (now (tape .entry))))) × (r ≡ true → part (now (header .exit)) commonsAt commonsSize ≡ commonTable (roomOf (contentIn (now (tape .entry)))) 0 consoleCount) ⌝ }

@@ -13,7 +13,8 @@ ghost use lib.ListN.{length};
 ghost use Rattle.buffer.specs.Field.{zeros, withPart};
 ghost use Rattle.buffer.specs.Row.{withMember, union};
 ghost use Rattle.graph.specs.Graph.{servesAsBase};
-ghost use Rattle.store.specs.Layout.{headFrom};
+ghost use Rattle.room.specs.Sound.{maxCapacity};
+ghost use Rattle.store.specs.Layout.{rowSize, headFrom};
 ghost use Rattle.resume.specs.Rows.{highestCommon, rowsSize, ownRow, meetField};
 
 // The highest bit of a byte that is not 0.
@@ -47,9 +48,9 @@ fn top_bit(x: u8) -> usize
 
 // The highest version that two rows have in common; 0 where there is none.
 pub fn highest_common(p: &[u8], q: &[u8]) -> usize
-    requires { ⌜ length (now p) ≡ 128 ⌝ }
-    requires { ⌜ length (now q) ≡ 128 ⌝ }
-    ensures { λ r. ⌜ (r ≡ highestCommon (now (p .entry)) (now (q .entry))) × (r < 1024) ⌝ }
+    requires { ⌜ length (now p) ≡ rowSize ⌝ }
+    requires { ⌜ length (now q) ≡ rowSize ⌝ }
+    ensures { λ r. ⌜ (r ≡ highestCommon (now (p .entry)) (now (q .entry))) × (r < maxCapacity) ⌝ }
 {
     let mut k = ROW;
     while 0 < k {
@@ -64,8 +65,8 @@ pub fn highest_common(p: &[u8], q: &[u8]) -> usize
 
 // The row of a version.
 pub fn row_in(rows: &[u8], v: usize) -> &[u8]
-    requires { ⌜ (length (now rows) ≡ rowsSize) × (v < 1024) ⌝ }
-    ensures { λ r. ⌜ (now r ≡ ownRow (now (rows .entry)) v) × (length (now r) ≡ 128) ⌝ }
+    requires { ⌜ (length (now rows) ≡ rowsSize) × (v < maxCapacity) ⌝ }
+    ensures { λ r. ⌜ (now r ≡ ownRow (now (rows .entry)) v) × (length (now r) ≡ rowSize) ⌝ }
 {
     let at = ROW * v;
     let end = at + ROW;
@@ -74,8 +75,8 @@ pub fn row_in(rows: &[u8], v: usize) -> &[u8]
 
 // Makes a row that has version 0 alone.
 fn make_root(row: &mut [u8])
-    requires { ⌜ length (now row) ≡ 128 ⌝ }
-    ensures { λ _. ⌜ now (row .exit) ≡ withMember (zeros 128) 0 ⌝ }
+    requires { ⌜ length (now row) ≡ rowSize ⌝ }
+    ensures { λ _. ⌜ now (row .exit) ≡ withMember (zeros rowSize) 0 ⌝ }
 {
     clear(row);
     add_member(row, 0);
@@ -84,7 +85,7 @@ fn make_root(row: &mut [u8])
 // Writes the row of version 0.
 pub fn put_root(rows: &mut [u8])
     requires { ⌜ length (now rows) ≡ rowsSize ⌝ }
-    ensures { λ _. ⌜ now (rows .exit) ≡ withPart (now (rows .entry)) 0 (withMember (zeros 128) 0) ⌝ }
+    ensures { λ _. ⌜ now (rows .exit) ≡ withPart (now (rows .entry)) 0 (withMember (zeros rowSize) 0) ⌝ }
 {
     let at = 0;
     let end = ROW;
@@ -93,24 +94,24 @@ pub fn put_root(rows: &mut [u8])
 
 // Writes the row of version v, an entry on p.
 pub fn put_entry(rows: &mut [u8], v: usize, p: usize)
-    requires { ⌜ (length (now rows) ≡ rowsSize) × (p < v) × (v < 1024) ⌝ }
-    ensures { λ _. ⌜ now (rows .exit) ≡ withPart (now (rows .entry)) (128 * v) (withMember (ownRow (now (rows .entry)) p) v) ⌝ }
+    requires { ⌜ (length (now rows) ≡ rowsSize) × (p < v) × (v < maxCapacity) ⌝ }
+    ensures { λ _. ⌜ now (rows .exit) ≡ withPart (now (rows .entry)) (rowSize * v) (withMember (ownRow (now (rows .entry)) p) v) ⌝ }
 {
     put_extended(rows, ROW * p, ROW * v, v);
 }
 
 // Writes the row of version v, a merge of q into p.
 pub fn put_merge(rows: &mut [u8], v: usize, p: usize, q: usize)
-    requires { ⌜ (length (now rows) ≡ rowsSize) × (p < v) × (q < v) × (v < 1024) ⌝ }
-    ensures { λ _. ⌜ now (rows .exit) ≡ withPart (now (rows .entry)) (128 * v) (withMember (union (ownRow (now (rows .entry)) p) (ownRow (now (rows .entry)) q)) v) ⌝ }
+    requires { ⌜ (length (now rows) ≡ rowsSize) × (p < v) × (q < v) × (v < maxCapacity) ⌝ }
+    ensures { λ _. ⌜ now (rows .exit) ≡ withPart (now (rows .entry)) (rowSize * v) (withMember (union (ownRow (now (rows .entry)) p) (ownRow (now (rows .entry)) q)) v) ⌝ }
 {
     put_extended_union(rows, ROW * p, ROW * q, ROW * v, v);
 }
 
 // 1 more than the meet of two versions; 0 where they have none.
 pub fn meet_field(rows: &[u8], u: usize, v: usize) -> usize
-    requires { ⌜ (length (now rows) ≡ rowsSize) × (u < 1024) × (v < 1024) ⌝ }
-    ensures { λ r. ⌜ (r ≡ meetField (now (rows .entry)) u v) × (r ≤ 1024) ⌝ }
+    requires { ⌜ (length (now rows) ≡ rowsSize) × (u < maxCapacity) × (v < maxCapacity) ⌝ }
+    ensures { λ r. ⌜ (r ≡ meetField (now (rows .entry)) u v) × (r ≤ maxCapacity) ⌝ }
 {
     let p = row_in(rows, u);
     let q = row_in(rows, v);
@@ -123,7 +124,7 @@ pub fn meet_field(rows: &[u8], u: usize, v: usize) -> usize
 
 // Whether two versions have a meet that is neither of them.
 pub fn has_base(rows: &[u8], p: Version, q: Version) -> bool
-    requires { ⌜ (length (now rows) ≡ rowsSize) × (p .0 < 1024) × (q .0 < 1024) ⌝ }
+    requires { ⌜ (length (now rows) ≡ rowsSize) × (p .0 < maxCapacity) × (q .0 < maxCapacity) ⌝ }
     ensures { λ r. ⌜ r ≡ servesAsBase (p .0) (q .0) (headFrom (meetField (now (rows .entry)) (p .0) (q .0))) ⌝ }
 {
     let mine = row_in(rows, p.0);

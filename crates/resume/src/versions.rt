@@ -15,7 +15,8 @@ ghost use lib.ListN.{length};
 ghost use Rattle.buffer.specs.Field.{withPart};
 ghost use Rattle.buffer.specs.Row.{withMember, union};
 ghost use Rattle.graph.specs.Graph.{servesAsBase, everyVersion, parentsLower, mergeHasBase};
-ghost use Rattle.store.specs.Layout.{headFrom};
+ghost use Rattle.room.specs.Sound.{maxCapacity};
+ghost use Rattle.store.specs.Layout.{rowSize, headFrom};
 ghost use Rattle.tape.specs.Tape.{contentOf};
 ghost use Rattle.resume.specs.Content.{contentIn};
 ghost use Rattle.resume.specs.Rows.{rowsSize, ownRow, RowsOf, meetField};
@@ -23,8 +24,8 @@ ghost use Rattle.resume.specs.Versions.{parentsBelow, rowsAfter, baseFou
 
 // Writes the row of version v, an entry on p, which needs no base.
 fn judge_entry(rows: &mut [u8], v: usize, p: usize) -> bool
-    requires { ⌜ (length (now rows) ≡ rowsSize) × (p < v) × (v < 1024) ⌝ }
-    ensures { λ r. ⌜ (r ≡ true) × (now (rows .exit) ≡ withPart (now (rows .entry)) (128 * v) (withMember (ownRow (now (rows .entry)) p) v)) ⌝ }
+    requires { ⌜ (length (now rows) ≡ rowsSize) × (p < v) × (v < maxCapacity) ⌝ }
+    ensures { λ r. ⌜ (r ≡ true) × (now (rows .exit) ≡ withPart (now (rows .entry)) (rowSize * v) (withMember (ownRow (now (rows .entry)) p) v)) ⌝ }
 {
     put_entry(rows, v, p);
     true
@@ -32,8 +33,8 @@ fn judge_entry(rows: &mut [u8], v: usize, p: usize) -> bool
 
 // Writes the row of version v, a merge of q into p, and says whether the two have a base.
 fn judge_merge(rows: &mut [u8], v: usize, p: Version, q: Version) -> bool
-    requires { ⌜ (length (now rows) ≡ rowsSize) × (p .0 < v) × (q .0 < v) × (v < 1024) ⌝ }
-    ensures { λ r. ⌜ (r ≡ servesAsBase (p .0) (q .0) (headFrom (meetField (now (rows .entry)) (p .0) (q .0)))) × (now (rows .exit) ≡ withPart (now (rows .entry)) (128 * v) (withMember (union (ownRow (now (rows .entry)) (p .0)) (ownRow (now (rows .entry)) (q .0))) v)) ⌝ }
+    requires { ⌜ (length (now rows) ≡ rowsSize) × (p .0 < v) × (q .0 < v) × (v < maxCapacity) ⌝ }
+    ensures { λ r. ⌜ (r ≡ servesAsBase (p .0) (q .0) (headFrom (meetField (now (rows .entry)) (p .0) (q .0)))) × (now (rows .exit) ≡ withPart (now (rows .entry)) (rowSize * v) (withMember (union (ownRow (now (rows .entry)) (p .0)) (ownRow (now (rows .entry)) (q .0))) v)) ⌝ }
 {
     let based = has_base(rows, p, q);
     put_merge(rows, v, p.0, q.0);
@@ -42,7 +43,7 @@ fn judge_merge(rows: &mut [u8], v: usize, p: Version, q: Version) -> bool
 
 // Writes the row of version v, which a record makes, and says whether the parents of a merge have a base.
 fn judge_version(rows: &mut [u8], v: usize, tape_record: Record) -> bool
-    requires { ⌜ (length (now rows) ≡ rowsSize) × (v < 1024) × (parentsBelow v tape_record ≡ true) ⌝ }
+    requires { ⌜ (length (now rows) ≡ rowsSize) × (v < maxCapacity) × (parentsBelow v tape_record ≡ true) ⌝ }
     ensures { λ r. ⌜ (r ≡ baseFound (now (rows .entry)) tape_record) × (now (rows .exit) ≡ rowsAfter (now (rows .entry)) v tape_record) ⌝ }
 {
     match tape_record {
@@ -64,7 +65,7 @@ fn judge_version(rows: &mut [u8], v: usize, tape_record: Record) -> bool
 pub fn judge_versions(tape: &[u8], versions: usize, rows: &mut [u8]) -> bool
     requires { ⌜ contentOf (now tape) ≡ some (contentIn (now tape)) ⌝ }
     requires { ⌜ everyVersion parentsLower (contentIn (now tape) .versions) ≡ true ⌝ }
-    requires { ⌜ (versions ≡ length (contentIn (now tape) .versions)) × (versions < 1024) ⌝ }
+    requires { ⌜ (versions ≡ length (contentIn (now tape) .versions)) × (versions < maxCapacity) ⌝ }
     requires { ⌜ length (now rows) ≡ rowsSize ⌝ }
     ensures { λ r. ⌜ (r ≡ everyVersion mergeHasBase (contentIn (now (tape .entry)) .versions)) × RowsOf (now (rows .exit)) (contentIn (now (tape .entry)) .versions) ⌝ }
 {

@@ -19,7 +19,7 @@ ghost use Prim.Native.Nat.{suc, _<_, _≤_};
 ghost use lib.ListN.{length};
 ghost use Rattle.buffer.specs.Field.{part, overwrite};
 ghost use Rattle.command.specs.Code.{consoleCount};
-ghost use Rattle.room.specs.Sound.{soundRoom};
+ghost use Rattle.room.specs.Sound.{maxCapacity, soundRoom};
 ghost use Rattle.store.specs.Layout.{headerSize, storeSize, commonsAt, commonsSize, blockAt, commonTable, encode};
 ghost use Rattle.update.specs.Append.{withMerge};
 ghost use Rattle.tape.specs.Tape.{contentOf, roomOf};
@@ -30,7 +30,7 @@ ghost use Rattle.resume.specs.Writing.{baseIn, baseBelow, storeWith, wit
 
 // Writes version v, a merge of q into p, with the base that the rows of the two show.
 fn append_based(store: &mut [u8], rows: &[u8], v: usize, p: Version, q: Version)
-    requires { ⌜ (length (now rows) ≡ rowsSize) × (v < 1024) × (blockAt (suc v) ≤ length (now store)) ⌝ }
+    requires { ⌜ (length (now rows) ≡ rowsSize) × (v < maxCapacity) × (blockAt (suc v) ≤ length (now store)) ⌝ }
     requires { ⌜ (p .0 < v) × (q .0 < v) × (baseIn (now rows) (p .0) (q .0) < v) ⌝ }
     ensures { λ _. ⌜ now (store .exit) ≡ withMerge (now (store .entry)) v (p .0) (q .0) (baseIn (now (rows .entry)) (p .0) (q .0)) ⌝ }
 {
@@ -40,7 +40,7 @@ fn append_based(store: &mut [u8], rows: &[u8], v: usize, p: Version, q: Version)
 
 // Writes version v, which a record makes.
 fn append_version(store: &mut [u8], rows: &[u8], v: usize, tape_record: Record)
-    requires { ⌜ (length (now rows) ≡ rowsSize) × (v < 1024) × (blockAt (suc v) ≤ length (now store)) ⌝ }
+    requires { ⌜ (length (now rows) ≡ rowsSize) × (v < maxCapacity) × (blockAt (suc v) ≤ length (now store)) ⌝ }
     requires { ⌜ (versionInRange v tape_record ≡ true) × (baseBelow (now rows) v tape_record ≡ true) ⌝ }
     ensures { λ _. ⌜ now (store .exit) ≡ storeWith (now (store .entry)) (now (rows .entry)) v tape_record ⌝ }
 {
