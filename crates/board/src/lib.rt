@@ -4,6 +4,7 @@ use buffer::is_same;
 use buffer::put_word;
 use buffer::wide;
 use buffer::word_at;
+use graph::Strip;
 ghost use mathlib.Core.Path.{_≡_};
 ghost use Prim.Native.Nat.{_+_, _*_, _/_, _^_, _<_};
 ghost use lib.Bits.{bitOr};
@@ -33,9 +34,6 @@ const ALERTS: usize = 8;
 const FLAG: usize = 10;
 
 const REST: usize = 11;
-
-// The number of a strip of a board.
-pub struct Strip(pub usize);
 
 // A level or a heading of a merge: the giver's where the receiver kept the base's.
 fn merge_setting(l: usize, a: usize, b: usize) -> usize

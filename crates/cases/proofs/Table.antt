@@ -7,7 +7,7 @@ use Rattle.buffer.specs.Row.{rowFrom}
 use Rattle.board.specs.Board.{mergeFlag, mergeStrip, mergeStrips, enter}
 use Rattle.graph.specs.Below.{everyBelow, someBelow, countBelow, highestBelow}
 use Rattle.graph.specs.Graph.{ancestor, nodeOf, isMeet, meet, everyVersion}
-use Rattle.command.specs.Refusal.{firstRefusal}
+use Rattle.refusal.specs.Refusal.{firstRefusal}
 use Rattle.command.specs.Code.{shapeOf, lengthOf, numberAt, operandsOf, isOperand}
 use Rattle.command.specs.Decode.{commandRefusal, commandOf, decode, operandBytes, commandBytes}
 use Rattle.room.specs.Room.{common, heardCount}

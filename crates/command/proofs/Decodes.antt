@@ -13,10 +13,10 @@ use Rattle.command.specs.declared.Shape.{Shape}
 use Rattle.command.specs.declared.Operands.{Operands}
 use Rattle.command.specs.declared.Command.the-variants.{Fork, Entry, Merge, FastForward}
 use Rattle.command.specs.declared.Decoded.the-variants.{Whole, Refused}
-use Rattle.command.specs.Refusal.{firstRefusal}
+use Rattle.refusal.specs.Refusal.{firstRefusal}
 use Rattle.command.specs.Code.{shapeOf, lengthOf, numberAt, operandsOf, isEntryCode}
 use Rattle.command.specs.Decode.{codeIn, isCommandCode, operandsIn, numberTests, commandRefusal, commandOf, decode}
-use Rattle.command.proofs.Refusals.{given-here, given-later}
+use Rattle.refusal.proofs.Refusals.{given-here, given-later}
 
 -- the number at a place, by its width
 pub number-two : (s : List ℕ) (at width : ℕ) → width ≡ 2 → wordAt s at ≡ numberAt s at width

@@ -15,19 +15,19 @@ use Rattle.buffer.specs.Field.{word, wordAt}
 use Rattle.buffer.proofs.Fields.{bytes-word}
 use Rattle.buffer.proofs.Stands.{Stands}
 use Rattle.buffer.proofs.Parts.{Bytes, stands-one, word-stands}
-use Rattle.board.specs.declared.Strip.{Strip}
+use Rattle.graph.specs.declared.Strip.{Strip}
 use Rattle.command.specs.declared.Shape.the-variants.{Known}
-use Rattle.command.specs.declared.Console.{Console}
+use Rattle.graph.specs.declared.Console.{Console}
 use Rattle.command.specs.declared.Operands.{Operands}
 use Rattle.command.specs.declared.Command.{Command}
 use Rattle.command.specs.declared.Command.the-variants.{Fork, Entry, Merge, FastForward}
 use Rattle.command.specs.declared.Decoded.{Decoded}
 use Rattle.command.specs.declared.Decoded.the-variants.{Whole, Refused}
-use Rattle.command.specs.Refusal.{firstRefusal}
+use Rattle.refusal.specs.Refusal.{firstRefusal}
 use Rattle.command.specs.Code.{consoleCount, shapeOf, lengthOf, numberAt, operandsOf, isEntryCode, isStrip, isOperand}
 use Rattle.command.specs.Decode.{codeIn, isCommandCode, operandsIn, numberTests, commandRefusal, commandOf, decode, refusalOf, operandBytes, commandBytes, decodedBytes}
 use Rattle.command.specs.Decoding.{TwoConsoles, InRange}
-use Rattle.command.proofs.Refusals.{none-applies}
+use Rattle.refusal.proofs.Refusals.{none-applies}
 use Rattle.command.proofs.Limits.{within-true, within-i, within-false, entry-or-two, entry-not-two, operand-below}
 use Rattle.command.proofs.Carried.{operand-none}
 use Rattle.command.proofs.Ranges.{whole-told, refused-told}

@@ -15,7 +15,7 @@ use Rattle.command.specs.declared.Decoded.the-variants.{Whole, Refused}
 use Rattle.command.specs.Code.{consoleCount, isEntryCode, namesTwo, isConsole, isStrip, isOperand}
 use Rattle.command.specs.Decode.{codeIn, isCommandCode, operandsIn, commandRefusal, commandOf, decode}
 use Rattle.command.specs.Decoding.{TwoConsoles, InRange}
-use Rattle.command.proofs.Refusals.{none-applies}
+use Rattle.refusal.proofs.Refusals.{none-applies}
 use Rattle.command.proofs.Limits.{entry-or-two}
 
 -- the tests 1 and 3 to 6 of a command of this code

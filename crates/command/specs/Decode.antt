@@ -10,7 +10,7 @@ use Rattle.command.specs.declared.Command.{Command}
 use Rattle.command.specs.declared.Command.the-variants.{Fork, Entry, Merge, FastForward}
 use Rattle.command.specs.declared.Decoded.{Decoded}
 use Rattle.command.specs.declared.Decoded.the-variants.{Whole, Refused}
-use Rattle.command.specs.Refusal.{_when_, firstRefusal}
+use Rattle.refusal.specs.Refusal.{_when_, firstRefusal}
 use Rattle.command.specs.Code.{within, shapeOf, lengthOf, operandsOf, isEntryCode, namesTwo, isConsole, isStrip, isOperand}
 
 -- the code of a command; an empty one has none, and reads as 0, which is no command's

@@ -1,4 +1,3 @@
-pub mod Refusal
 pub mod Code
 pub mod Decode
 pub mod Decoding

@@ -1,6 +1,5 @@
 // The decoder: what follows a code, and the command that a byte string decodes to.
 use crate::Command;
-use crate::Console;
 use crate::Decoded;
 use crate::Operands;
 use crate::Shape;
@@ -10,15 +9,16 @@ use crate::numbers::is_entry_code;
 use crate::numbers::is_operand;
 use crate::numbers::is_strip;
 use crate::numbers::names_two;
-use board::Strip;
 use buffer::wide;
 use buffer::word_at;
+use graph::Console;
+use graph::Strip;
 ghost use mathlib.Core.Path.{_≡_};
 ghost use mathlib.Core.Bool.{not, _&&_, _||_};
 ghost use Prim.Native.Nat.{_+_, _≤_};
 ghost use lib.Dec.{eqb};
 ghost use lib.ListN.{length};
-ghost use Rattle.command.specs.Refusal.{firstRefusal};
+ghost use Rattle.refusal.specs.Refusal.{firstRefusal};
 ghost use Rattle.command.specs.Code.{shapeOf, lengthOf, numberAt, operandsOf, isEntryCode, namesTwo, isConsole, isStrip, isOperand};
 ghost use Rattle.command.specs.Decoding.{narrow};
 ghost use Rattle.command.specs.Decode.{numberTests, commandOf, decode, refusalOf, decodedBytes};

@@ -1,11 +1,9 @@
 // Commands: the lengths and operand widths of codes, and the commands that byte strings decode to.
-use board::Strip;
+use graph::Console;
+use graph::Strip;
 
 pub mod decoder;
 pub mod numbers;
-
-// The number of a console.
-pub struct Console(pub usize);
 
 // The widths in bytes of what follows a code; 0 where there is no such operand.
 pub enum Shape {

@@ -7,28 +7,34 @@ use mathlib.Core.Bool.{Bool, true}
 use lib.Dec.{ltb}
 use borrow.Author.Tests.{ltb-true}
 use Rattle.laws.proofs.Logic.{and-l, and-r, or-l, or-r, or-split}
-use Rattle.graph.specs.Graph.{Node, entry, merge, Graph, versionCount, someParent, parentsLower}
+use Rattle.graph.specs.declared.Version.{Version}
+use Rattle.graph.specs.declared.Strip.{Strip}
+use Rattle.graph.specs.declared.Node.{Node}
+use Rattle.graph.specs.declared.Node.the-variants.{Entry, Merge}
+use Rattle.graph.specs.Graph.{Graph, versionCount, someParent, parentsLower}
 
 pub data Parent : Node → ℕ → Type 0 where
-  sole : {p code strip operand : ℕ} → Parent (entry p code strip operand) p
-  receiver : {p q : ℕ} → Parent (merge p q) p
-  giver : {p q : ℕ} → Parent (merge p q) q
+  sole : {p : Version} {code : ℕ} {strip : Strip} {operand : ℕ} → Parent (Entry p code strip operand) (p .0)
+  receiver : {p q : Version} → Parent (Merge p q) (p .0)
+  giver : {p q : Version} → Parent (Merge p q) (q .0)
 
 -- every version after version 0 has a parent
 pub a-parent : (n : Node) → (p : ℕ) × Parent n p
-a-parent (entry p code strip operand) = (p, sole)
-a-parent (merge p q) = (p, receiver)
+a-parent (Entry p code strip operand) = (p .0, sole)
+a-parent (Merge p q) = (p .0, receiver)
 
 pub parent-to : (f : ℕ → Bool) (n : Node) → someParent f n ≡ true → (p : ℕ) × Parent n p × (f p ≡ true)
-parent-to f (entry p code strip operand) t = (p, sole, t)
-parent-to f (merge p q) t = elim (or-split (f p) (f q) t) [ inl s ↦ (p, receiver, s) | inr s ↦ (q, giver, s) ]
+parent-to f (Entry p code strip operand) t = (p .0, sole, t)
+parent-to f (Merge p q) t = elim (or-split (f (p .0)) (f (q .0)) t) [ inl s ↦ (p .0, receiver, s) | inr s ↦ (q .0, giver, s) ]
 
 pub parent-from : (f : ℕ → Bool) {n : Node} {p : ℕ} → Parent n p → f p ≡ true → someParent f n ≡ true
 parent-from f sole t = t
-parent-from f (receiver {p} {q}) t = or-l (f p) (f q) t
-parent-from f (giver {p} {q}) t = or-r (f p) (f q) t
+parent-from f (receiver {p} {q}) t = or-l (f (p .0)) (f (q .0)) t
+parent-from f (giver {p} {q}) t = or-r (f (p .0)) (f (q .0)) t
 
 pub parent-lower : (g : Graph) {n : Node} {p : ℕ} → parentsLower g n ≡ true → Parent n p → p < versionCount g
-parent-lower g w (sole {p}) = ltb-true p (versionCount g) w
-parent-lower g w (receiver {p} {q}) = ltb-true p (versionCount g) (and-l (ltb p (versionCount g)) (ltb q (versionCount g)) w)
-parent-lower g w (giver {p} {q}) = ltb-true q (versionCount g) (and-r (ltb p (versionCount g)) (ltb q (versionCount g)) w)
+parent-lower g w (sole {p}) = ltb-true (p .0) (versionCount g) w
+parent-lower g w (receiver {p} {q}) =
+    ltb-true (p .0) (versionCount g) (and-l (ltb (p .0) (versionCount g)) (ltb (q .0) (versionCount g)) w)
+parent-lower g w (giver {p} {q}) =
+    ltb-true (q .0) (versionCount g) (and-r (ltb (p .0) (versionCount g)) (ltb (q .0) (versionCount g)) w)

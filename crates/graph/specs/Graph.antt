@@ -6,14 +6,16 @@ use mathlib.Core.List.{List, [], _∷_}
 use mathlib.Core.Option.{Option, none, some, Option·getD}
 use lib.Dec.{eqb, ltb}
 use lib.ListN.{length}
+pub use Rattle.graph.specs.declared.Node.{Node}
+pub use Rattle.graph.specs.declared.Node.the-variants.{Entry, Merge}
 use Rattle.graph.specs.Below.{everyBelow, highestBelow}
 
--- a version after version 0; the base of a merge is a function of its parents
-pub data Node : Type 0 where
-  -- the parent, the code of the entry, its strip and its operand
-  entry : ℕ → ℕ → ℕ → ℕ → Node
-  -- the receiver's version and the giver's version
-  merge : ℕ → ℕ → Node
+-- A version after version 0, by its numbers: an entry's parent, code, strip and operand; a merge's receiver's version and giver's version.
+abbrev pub entry : ℕ → ℕ → ℕ → ℕ → Node
+entry parent code strip operand = Entry (record { 0 = parent }) code (record { 0 = strip }) operand
+
+abbrev pub merge : ℕ → ℕ → Node
+merge receiver giver = Merge (record { 0 = receiver }) (record { 0 = giver })
 
 -- the versions after version 0, the newest first, so that each stands before all that it can descend from
 abbrev pub Graph : Type 0
@@ -25,8 +27,8 @@ versionCount g = suc (length g)
 
 -- some parent of a version passes a test
 abbrev pub someParent : (ℕ → Bool) → Node → Bool
-someParent f (entry p code strip operand) = f p
-someParent f (merge p q) = f p || f q
+someParent f (Entry p code strip operand) = f (p .0)
+someParent f (Merge p q) = f (p .0) || f (q .0)
 
 -- "For each version an ancestry row, one bit per version, says which versions it descends from, itself included":
 -- u is an ancestor of v. A number that names no version has no ancestor.
@@ -42,8 +44,8 @@ nodeOf (n ∷ g) v = cond (eqb v (versionCount g)) (some n) (nodeOf g v)
 
 abbrev pub entryNode : Option Node → Bool
 entryNode none = false
-entryNode (some (entry p code strip operand)) = true
-entryNode (some (merge p q)) = false
+entryNode (some (Entry p code strip operand)) = true
+entryNode (some (Merge p q)) = false
 
 -- version v is an entry
 abbrev pub isEntry : Graph → ℕ → Bool
@@ -77,8 +79,8 @@ everyVersion f (n ∷ g) = f g n && everyVersion f g
 
 -- "parents are lower numbers": below the number of the version itself, which is the count of those before it
 abbrev pub parentsLower : Graph → Node → Bool
-parentsLower g (entry p code strip operand) = ltb p (versionCount g)
-parentsLower g (merge p q) = ltb p (versionCount g) && ltb q (versionCount g)
+parentsLower g (Entry p code strip operand) = ltb (p .0) (versionCount g)
+parentsLower g (Merge p q) = ltb (p .0) (versionCount g) && ltb (q .0) (versionCount g)
 
 -- "the two parents of a merge have a single lowest common ancestor, equal to neither, and it is the base": the base of a merge is the
 -- meet of its parents among the versions before it
@@ -90,5 +92,5 @@ servesAsBase p q none = false
 servesAsBase p q (some m) = not (eqb m p) && not (eqb m q)
 
 abbrev pub mergeHasBase : Graph → Node → Bool
-mergeHasBase g (entry p code strip operand) = true
-mergeHasBase g (merge p q) = servesAsBase p q (meet g p q)
+mergeHasBase g (Entry p code strip operand) = true
+mergeHasBase g (Merge p q) = servesAsBase (p .0) (q .0) (meet g (p .0) (q .0))

@@ -1,7 +1,7 @@
 // Records of the tape, each written at a place of a buffer that has room for it there.
-use board::Strip;
 use buffer::put_word;
-use command::Console;
+use graph::Console;
+use graph::Strip;
 use graph::Version;
 ghost use mathlib.Core.Path.{_≡_};
 ghost use mathlib.Core.List.{[], _∷_};

@@ -2,10 +2,10 @@
 use crate::record::put_entry;
 use crate::record::put_head;
 use crate::record::put_merge;
-use board::Strip;
 use buffer::wide;
 use buffer::word_at;
-use command::Console;
+use graph::Console;
+use graph::Strip;
 use graph::Version;
 use store::places::CONSOLES;
 use store::places::MERGE_CODE;

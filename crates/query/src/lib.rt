@@ -3,7 +3,7 @@
 use buffer::common_members;
 use buffer::has_member;
 use buffer::word_at;
-use command::Console;
+use graph::Console;
 use graph::Version;
 use store::places::CAPACITY;
 use store::places::COUNT;

@@ -7,7 +7,7 @@ use Prim.Native.Nat.{ℕ, _<_}
 use lib.Dec.{ltb}
 use borrow.Author.Tests.{ltb-true}
 use Rattle.laws.proofs.Logic.{and-l, and-r}
-use Rattle.board.specs.declared.Strip.{Strip}
+use Rattle.graph.specs.declared.Strip.{Strip}
 use Rattle.board.specs.Board.{stripCount}
 use Rattle.graph.specs.declared.Version.{Version}
 use Rattle.store.specs.Rules.{entryRanges}

@@ -6,9 +6,9 @@ use Prim.Native.Nat.{ℕ, _<_}
 use lib.Dec.{ltb}
 use borrow.Author.Tests.{ltb-true}
 use Rattle.laws.proofs.Logic.{and-l, and-r}
-use Rattle.board.specs.declared.Strip.{Strip}
+use Rattle.graph.specs.declared.Strip.{Strip}
 use Rattle.graph.specs.declared.Version.{Version}
-use Rattle.command.specs.declared.Console.{Console}
+use Rattle.graph.specs.declared.Console.{Console}
 use Rattle.command.specs.Code.{consoleCount}
 use Rattle.tape.specs.declared.Record.{Record}
 use Rattle.tape.specs.declared.Record.the-variants.{Entry, Merge, Head}

@@ -11,7 +11,7 @@ use lib.ListN.{length}
 use borrow.Author.Tests.{ne-eqb, eq-eqb}
 use Rattle.laws.proofs.Logic.{cond-true, cond-false}
 use Rattle.buffer.specs.Field.{overwrite}
-use Rattle.command.specs.Refusal.{_when_, firstRefusal}
+use Rattle.refusal.specs.Refusal.{_when_, firstRefusal}
 use Rattle.room.specs.Sound.{isCapacity, soundRoom}
 use Rattle.store.specs.Layout.{storeSize, encode}
 use Rattle.tape.specs.declared.scan.Scanned.{Scanned}

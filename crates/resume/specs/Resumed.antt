@@ -6,7 +6,7 @@ use mathlib.Core.Option.{Option, none, some}
 use lib.Dec.{eqb, ltb}
 use lib.ListN.{length}
 use Rattle.buffer.specs.Field.{overwrite}
-use Rattle.command.specs.Refusal.{_when_, firstRefusal}
+use Rattle.refusal.specs.Refusal.{_when_, firstRefusal}
 use Rattle.store.specs.Layout.{storeSize, encode}
 use Rattle.tape.specs.Tape.{Content, contentTests, roomOf}
 use Rattle.resume.specs.Content.{told}

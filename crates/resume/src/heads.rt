@@ -1,6 +1,6 @@
 // The table of common versions of a tape's heads, in a header of its own: each head on its diagonal, each pair's meet by the rows of the versions.
 use crate::rows::meet_field;
-use command::Console;
+use graph::Console;
 use store::places::CONSOLES;
 use store::places::common_in;
 use tape::Record;

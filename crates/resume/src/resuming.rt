@@ -16,7 +16,7 @@ ghost use mathlib.Core.List.{[], _∷_};
 ghost use mathlib.Core.Option.{some};
 ghost use lib.Dec.{eqb};
 ghost use lib.ListN.{length};
-ghost use Rattle.command.specs.Refusal.{_when_, firstRefusal};
+ghost use Rattle.refusal.specs.Refusal.{_when_, firstRefusal};
 ghost use Rattle.room.specs.Sound.{isCapacity};
 ghost use Rattle.tape.specs.Tape.{contentOf, inRange};
 ghost use Rattle.tape.specs.Reader.{headPlace};

@@ -7,10 +7,10 @@ use borrow.Author.Tests.{leb-false, not-false}
 use lib.Dec.{lit<}
 use Rattle.laws.proofs.Logic.{clash, or-none-l, or-none-r}
 use Rattle.graph.specs.Graph.{versionCount}
-use Rattle.board.specs.declared.Strip.{Strip}
-use Rattle.command.specs.declared.Console.{Console}
+use Rattle.graph.specs.declared.Strip.{Strip}
+use Rattle.graph.specs.declared.Console.{Console}
 use Rattle.command.specs.declared.Command.the-variants.{Fork, Entry, Merge, FastForward}
-use Rattle.command.proofs.Refusals.{none-applies}
+use Rattle.refusal.proofs.Refusals.{none-applies}
 use Rattle.room.specs.Room.{Room, present}
 use Rattle.room.specs.Step.{absent, behind, someThirdSplits, stepRefusal}
 

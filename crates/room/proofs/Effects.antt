@@ -3,9 +3,9 @@
 use Prim.Native.Nat.{ℕ}
 use mathlib.Core.Path.{_≡_, refl}
 use mathlib.Core.List.{_∷_}
-use Rattle.board.specs.declared.Strip.{Strip}
+use Rattle.graph.specs.declared.Strip.{Strip}
 use Rattle.graph.specs.Graph.{entry, merge}
-use Rattle.command.specs.declared.Console.{Console}
+use Rattle.graph.specs.declared.Console.{Console}
 use Rattle.command.specs.declared.Command.the-variants.{Fork, Entry, Merge, FastForward}
 use Rattle.room.specs.Room.{Room, head}
 use Rattle.room.specs.Step.{step}

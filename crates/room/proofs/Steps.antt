@@ -10,7 +10,7 @@ use mathlib.Core.Option.{Option, Option·getD}
 use native.Mathlib.Decide.{ℕ-discrete}
 use borrow.Author.Tests.{lt-ltb, ne-eqb, eqb-false, not-false}
 use lib.Dec.{eqb}
-use Rattle.board.specs.declared.Strip.{Strip}
+use Rattle.graph.specs.declared.Strip.{Strip}
 use Rattle.laws.proofs.Logic.{clash, decide, refuted, and-l, and-r, and-i, and-rest, implies-i2, implies-e2, not-e, not-i}
 use Rattle.graph.specs.Graph.{Node, entry, merge, versionCount, ancestor, meet, isSome, isMeet, everyVersion, parentsLower, mergeHasBase}
 use Rattle.graph.specs.Below.{everyBelow, someBelow, highestBelow}
@@ -18,7 +18,7 @@ use Rattle.graph.proofs.Below.{at, of, some-at, some-of}
 use Rattle.graph.proofs.Parent.{sole, receiver, giver}
 use Rattle.graph.proofs.Ancestor.{ancestor-above, ancestor-self}
 use Rattle.graph.proofs.Meet.{Meet, meet-found, meet-sym, meet-behind}
-use Rattle.command.specs.declared.Console.{Console}
+use Rattle.graph.specs.declared.Console.{Console}
 use Rattle.command.specs.declared.Command.{Command}
 use Rattle.command.specs.declared.Command.the-variants.{Fork, Entry, Merge, FastForward}
 use Rattle.command.specs.Code.{consoleCount}

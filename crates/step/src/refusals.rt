@@ -1,7 +1,7 @@
 // The refusals of each command by the state of the room, tested in their order.
 use crate::third::some_third_splits;
 use command::Command;
-use command::Console;
+use graph::Console;
 use query::capacity_of;
 use query::head_of;
 use query::is_ancestor;
@@ -13,7 +13,7 @@ ghost use mathlib.Core.List.{[], _∷_};
 ghost use Prim.Native.Nat.{_<_};
 ghost use Rattle.command.specs.Code.{consoleCount};
 ghost use Rattle.command.specs.Decoding.{InRange};
-ghost use Rattle.command.specs.Refusal.{_when_, firstRefusal};
+ghost use Rattle.refusal.specs.Refusal.{_when_, firstRefusal};
 ghost use Rattle.command.specs.declared.Command.the-variants.{Fork, Merge, FastForward};
 ghost use Rattle.room.specs.Step.{absent, behind, full, stepRefusal};
 ghost use Rattle.store.specs.Layout.{roomIn, holdsStore};

@@ -1,5 +1,5 @@
 // Refusal 17: whether a third console stands between two that are to be merged.
-use command::Console;
+use graph::Console;
 use graph::Version;
 use query::common_of;
 use query::is_ancestor;

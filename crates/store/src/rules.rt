@@ -1,9 +1,9 @@
 // The rules of one version, of its numbers and rows wherever they stand: in a store, or on a tape and in rows of its own.
-use board::Strip;
 use buffer::is_intersection;
 use command::numbers::is_entry_code;
 use command::numbers::is_operand;
 use command::numbers::is_strip;
+use graph::Strip;
 use graph::Version;
 ghost use mathlib.Core.Path.{_≡_};
 ghost use lib.ListN.{length};

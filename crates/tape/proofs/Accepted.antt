@@ -5,8 +5,8 @@ use mathlib.Core.Bool.{true}
 use mathlib.Core.Option.{some}
 use native.Mathlib.Omega.{arith}
 use borrow.Author.Tests.{not-false}
-use Rattle.command.specs.Refusal.{firstRefusal}
-use Rattle.command.proofs.Refusals.{none-given}
+use Rattle.refusal.specs.Refusal.{firstRefusal}
+use Rattle.refusal.proofs.Refusals.{none-given}
 use Rattle.room.specs.Sound.{isCapacity, soundRoom}
 use Rattle.tape.specs.Tape.{Content, roomOf, inRange, contentRefusal}
 

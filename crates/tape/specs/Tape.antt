@@ -7,7 +7,7 @@ use mathlib.Core.Option.{Option, none, some}
 use lib.Dec.{eqb, leb, ltb}
 use lib.ListN.{length, drop, set, replicate}
 use Rattle.graph.specs.Graph.{Graph, Node, entry, merge, versionCount, everyVersion, parentsLower}
-use Rattle.command.specs.Refusal.{_when_, firstRefusal}
+use Rattle.refusal.specs.Refusal.{_when_, firstRefusal}
 use Rattle.command.specs.Code.{consoleCount, isConsole}
 use Rattle.room.specs.Room.{Room}
 use Rattle.room.specs.Sound.{isCapacity, entryInRange, soundRoom}

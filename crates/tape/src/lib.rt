@@ -1,6 +1,6 @@
 // The pause tape: its records, one after the other, and the room that they give.
-use board::Strip;
-use command::Console;
+use graph::Console;
+use graph::Strip;
 use graph::Version;
 
 pub mod reader;

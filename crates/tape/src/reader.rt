@@ -1,12 +1,12 @@
 // The reader: the record at a place of a tape, and the place past it.
 use crate::Record;
-use board::Strip;
 use buffer::wide;
-use command::Console;
 use command::Operands;
 use command::decoder::length_of;
 use command::decoder::operands_of;
 use command::decoder::widths_of;
+use graph::Console;
+use graph::Strip;
 use graph::Version;
 ghost use mathlib.Core.Path.{_≡_};
 ghost use Prim.Native.Nat.{_+_, _≤_, _<_};

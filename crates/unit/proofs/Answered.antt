@@ -11,9 +11,9 @@ use borrow.Author.Tests.{ltb-true, ltb-false, lt-ltb, le-ltb, ne-eqb, not-false}
 use Rattle.laws.proofs.Logic.{or-l, or-r, or-none, or-none-l, or-none-r, not-i}
 use Rattle.buffer.specs.Field.{overwrite}
 use Rattle.board.specs.Board.{boardSize}
-use Rattle.command.specs.Refusal.{_when_, firstRefusal}
+use Rattle.refusal.specs.Refusal.{_when_, firstRefusal}
 use Rattle.command.specs.Code.{consoleCount, isConsole}
-use Rattle.command.proofs.Refusals.{none-applies}
+use Rattle.refusal.proofs.Refusals.{none-applies}
 use Rattle.command.proofs.Limits.{within-true}
 use Rattle.room.specs.Room.{present, head, common, heardCount, fresh}
 use Rattle.room.specs.Sound.{maxCapacity, isCapacity}

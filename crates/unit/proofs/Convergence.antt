@@ -18,7 +18,7 @@ use Rattle.graph.specs.Graph.{versionCount, ancestor, isEntry}
 use Rattle.graph.proofs.Below.{count-ext}
 use Rattle.graph.proofs.Counting.{held}
 use Rattle.graph.proofs.Growth.{WellFormed, same-entries, meet-entries}
-use Rattle.command.specs.Refusal.{firstRefusal}
+use Rattle.refusal.specs.Refusal.{firstRefusal}
 use Rattle.command.specs.Code.{consoleCount, isConsole}
 use Rattle.command.proofs.Limits.{within-true}
 use Rattle.room.specs.Room.{Room, head, heardCount}

@@ -17,7 +17,7 @@ use Rattle.command.specs.declared.Command.the-variants.{Fork, Entry, Merge, Fas
 use Rattle.command.specs.declared.Decoded.{Decoded}
 use Rattle.command.specs.declared.Decoded.the-variants.{Whole, Refused}
 use Rattle.command.specs.Decode.{decode}
-use Rattle.command.proofs.Refusals.{none-applies}
+use Rattle.refusal.proofs.Refusals.{none-applies}
 use Rattle.command.proofs.Ranges.{decode-range}
 use Rattle.room.specs.Room.{Room, fresh}
 use Rattle.room.specs.Sound.{soundRoom}

@@ -9,7 +9,7 @@ use lib.Dec.{ltb}
 use lib.ListN.{length}
 use borrow.Author.Tests.{lt-ltb, le-ltb}
 use Rattle.buffer.specs.Field.{overwrite}
-use Rattle.command.specs.Refusal.{firstRefusal}
+use Rattle.refusal.specs.Refusal.{firstRefusal}
 use Rattle.store.specs.Layout.{roomIn, holdsStore}
 use Rattle.tape.specs.Tape.{tapeOf}
 use Rattle.unit.specs.declared.Reply.{Reply}

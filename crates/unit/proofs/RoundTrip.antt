@@ -12,8 +12,8 @@ use lib.ListN.{length, take, drop, length-append}
 use lib.Seq.{take-append-seam}
 use borrow.Author.Tests.{ltb-false, le-ltb, not-false}
 use Rattle.buffer.specs.Field.{overwrite}
-use Rattle.command.specs.Refusal.{_when_, firstRefusal}
-use Rattle.command.proofs.Refusals.{none-applies}
+use Rattle.refusal.specs.Refusal.{_when_, firstRefusal}
+use Rattle.refusal.proofs.Refusals.{none-applies}
 use Rattle.room.specs.Room.{Room}
 use Rattle.store.specs.Layout.{storeSize, encode, roomIn, holdsStore}
 use Rattle.store.proofs.RoundTrip.{encode-length, room-encode, holds-encode, holds-sound, holds-front}

@@ -11,7 +11,7 @@ use Rattle.buffer.specs.Field.{overwrite}
 use Rattle.board.specs.Board.{boardSize}
 use Rattle.command.specs.declared.Decoded.{Decoded}
 use Rattle.command.specs.declared.Decoded.the-variants.{Whole, Refused}
-use Rattle.command.specs.Refusal.{_when_, firstRefusal}
+use Rattle.refusal.specs.Refusal.{_when_, firstRefusal}
 use Rattle.command.specs.Code.{isConsole}
 use Rattle.command.specs.Decode.{decode}
 use Rattle.room.specs.Room.{Room, head, common, heardCount, fresh}

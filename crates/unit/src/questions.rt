@@ -4,7 +4,7 @@ use crate::answers::counted;
 use crate::answers::refused;
 use crate::answers::size;
 use buffer::copy;
-use command::Console;
+use graph::Console;
 use query::board_of;
 use query::common_of;
 use query::head_of;

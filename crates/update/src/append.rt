@@ -1,6 +1,5 @@
 // Appends a version to a store in place: its node, its row and its board, into the block behind the last one. Only the header and the
 // blocks up to the new one need to be there, whatever stands in the new one.
-use board::Strip;
 use board::enter_board;
 use board::merge_board;
 use buffer::add_member;
@@ -10,6 +9,7 @@ use buffer::copy_within;
 use buffer::put_extended;
 use buffer::put_extended_union;
 use buffer::put_word;
+use graph::Strip;
 use graph::Version;
 use store::places::BOARD;
 use store::places::ENTRIES;

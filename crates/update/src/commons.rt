@@ -1,6 +1,6 @@
 // The table of common versions changed in place when a console moves.
 use buffer::put_word;
-use command::Console;
+use graph::Console;
 use store::places::CONSOLES;
 use store::places::common_at;
 use store::places::common_in;

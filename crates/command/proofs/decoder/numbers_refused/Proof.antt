@@ -1,7 +1,7 @@
 -- `command::decoder::numbers_refused` meets its contract.
 -- Assumes nothing.
 use mathlib.Core.Path.{sym, _∙_}
-use Rattle.command.proofs.Refusals.{given-here, given-later, given-none}
+use Rattle.refusal.proofs.Refusals.{given-here, given-later, given-none}
 use Rattle.command.proofs.decoder.numbers_refused.Statement.{statement}
 use Rattle.command.proofs.decoder.numbers_refused.Tie as tie
 

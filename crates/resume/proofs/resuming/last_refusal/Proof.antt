@@ -1,6 +1,6 @@
 -- `resume::resuming::last_refusal` meets its contract.
 -- Assumes nothing.
-use Rattle.command.specs.Refusal.{firstRefusal}
+use Rattle.refusal.specs.Refusal.{firstRefusal}
 use Rattle.resume.proofs.Resumes.{two-refusals}
 use Rattle.resume.proofs.resuming.last_refusal.Statement.{statement}
 use Rattle.resume.proofs.resuming.last_refusal.Tie as tie

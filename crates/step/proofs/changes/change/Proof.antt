@@ -8,7 +8,7 @@ use borrow.Author.Tests.{ltb-true}
 use borrow.Author.Needs.{needs}
 use Rattle.laws.proofs.Logic.{and-l, and-r}
 use Rattle.command.specs.declared.Command.{Command}
-use Rattle.command.specs.declared.Console.{Console}
+use Rattle.graph.specs.declared.Console.{Console}
 use Rattle.command.specs.Code.{consoleCount}
 use Rattle.command.specs.Decoding.{TwoConsoles, InRange}
 use Rattle.room.specs.Step.{stepRefusal, step}

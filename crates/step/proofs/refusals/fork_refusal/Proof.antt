@@ -2,7 +2,7 @@
 -- Assumes nothing.
 use mathlib.Core.Path.{sym, ap, _∙_}
 use mathlib.Core.Bool.{not}
-use Rattle.command.proofs.Refusals.{given-here, given-later, given-none}
+use Rattle.refusal.proofs.Refusals.{given-here, given-later, given-none}
 use Rattle.room.specs.Step.{stepRefusal}
 use borrow.Author.Needs.{needs}
 use Rattle.step.proofs.refusals.fork_refusal.Statement.{statement}

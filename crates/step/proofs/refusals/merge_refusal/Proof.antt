@@ -3,7 +3,7 @@
 use mathlib.Core.Path.{sym, _∙_}
 use borrow.Author.Tests.{not-false}
 use Rattle.laws.proofs.Logic.{or-none-l, or-none-r}
-use Rattle.command.proofs.Refusals.{given-here, given-later, given-none}
+use Rattle.refusal.proofs.Refusals.{given-here, given-later, given-none}
 use Rattle.room.specs.Step.{absent, stepRefusal}
 use Rattle.store.specs.Layout.{roomIn}
 use borrow.Author.Needs.{needs}

@@ -3,6 +3,7 @@
 use Prim.Native.Nat.{ℕ}
 use mathlib.Core.Bool.{Bool, cond}
 use mathlib.Core.List.{List, [], _∷_}
+use lib.Dec.{eqb}
 
 infix 68 _when_
 -- a refusal, and whether its case is there
@@ -12,3 +13,7 @@ number when applies = (number, applies)
 unfoldable pub firstRefusal : List (ℕ × Bool) → ℕ
 firstRefusal [] = 0
 firstRefusal (r ∷ later) = cond (r .1) (r .0) (firstRefusal later)
+
+-- of two refusals the first that is there
+abbrev pub firstOf : ℕ → ℕ → ℕ
+firstOf one other = cond (eqb one 0) other one

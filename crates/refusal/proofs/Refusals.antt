@@ -3,10 +3,12 @@
 use Prim.Native.Nat.{ℕ, _<_}
 use mathlib.Core.Path.{_≡_, refl}
 use mathlib.Core.Logic.{_≢_}
-use mathlib.Core.Bool.{Bool, true, false}
-use mathlib.Core.List.{List, [], _∷_}
+use mathlib.Core.Bool.{Bool, true, false, not, _&&_}
+use mathlib.Core.List.{List, [], _∷_, _++_}
 use native.Mathlib.Omega.{arith}
-use Rattle.command.specs.Refusal.{_when_, firstRefusal}
+use lib.Dec.{eqb}
+use Rattle.laws.proofs.Logic.{and-l, and-r, not-e}
+use Rattle.refusal.specs.Refusal.{_when_, firstRefusal, firstOf}
 
 -- a refusal whose case is there is given, and one whose case is not leaves the later ones
 pub given-here : (number : ℕ) (case : Bool) (later : List (ℕ × Bool)) → case ≡ true → number ≡ firstRefusal (number when case ∷ later)
@@ -38,3 +40,15 @@ pub none-applies : (tests : List (ℕ × Bool)) → firstRefusal tests ≡ 0 →
 none-applies [] h = tt
 none-applies (r ∷ later) h =
     (λ p. none-given (r .0) (r .1) later (omega arith) h .0, λ p. none-applies later (none-given (r .0) (r .1) later (omega arith) h .1))
+
+-- The numbers of a list are refusals': none is 0. Of a list that is written out it holds by computation.
+abbrev pub numbered : List (ℕ × Bool) → Bool
+numbered [] = true
+numbered (r ∷ later) = not (eqb (r .0) 0) && numbered later
+
+-- two groups of tests one after the other: the first refusal of the first group, or else of the second
+pub first-append : (a b : List (ℕ × Bool)) → numbered a ≡ true → firstRefusal (a ++ b) ≡ firstOf (firstRefusal a) (firstRefusal b)
+unfolding firstRefusal
+first-append [] b h = refl
+first-append ((number, true) ∷ later) b h = rw (not-e (eqb number 0) (and-l (not (eqb number 0)) (numbered later) h))
+first-append ((number, false) ∷ later) b h = first-append later b (and-r (not (eqb number 0)) (numbered later) h)

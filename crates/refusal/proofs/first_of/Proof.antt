@@ -1,10 +1,10 @@
--- `resume::resuming::first_of` meets its contract.
+-- `refusal::first_of` meets its contract.
 -- Assumes nothing.
 use mathlib.Core.Path.{sym}
 use borrow.Author.Tests.{eq-eqb, ne-eqb}
 use Rattle.laws.proofs.Logic.{cond-true, cond-false}
-use Rattle.resume.proofs.resuming.first_of.Statement.{statement}
-use Rattle.resume.proofs.resuming.first_of.Tie as tie
+use Rattle.refusal.proofs.first_of.Statement.{statement}
+use Rattle.refusal.proofs.first_of.Tie as tie
 
 returns : tie.Need-returns
 returns c = sym (cond-true _ _ _ (eq-eqb _ 0 (c .if1 .taken)))
