@@ -11,7 +11,8 @@ use native.Mathlib.Decide.{ℕ-discrete}
 use lib.Dec.{eqb}
 use borrow.Author.Tests.{eqb-true, eq-eqb, ne-eqb}
 use Rattle.laws.proofs.Logic.{clash, and-l, and-r, or-l, or-r, or-split, cond-true, cond-false}
-use Rattle.graph.specs.Graph.{Node, Graph, versionCount, someParent, ancestor, nodeOf, entryNode, isEntry, everyVersion, parentsLower}
+use Rattle.graph.specs.declared.Node.{Node}
+use Rattle.graph.specs.Graph.{Graph, versionCount, someParent, ancestor, nodeOf, entryNode, isEntry, everyVersion, parentsLower}
 use Rattle.graph.proofs.Parent.{Parent, a-parent, parent-to, parent-from, parent-lower}
 
 -- a test of every version holds at the newest, and of those before it

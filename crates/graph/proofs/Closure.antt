@@ -7,7 +7,8 @@ use mathlib.Core.List.{[], _∷_}
 use mathlib.Core.Option.{some}
 use native.Mathlib.Omega.{arith}
 use native.Mathlib.Decide.{ℕ-discrete}
-use Rattle.graph.specs.Graph.{Node, Graph, versionCount, ancestor, nodeOf, everyVersion, parentsLower}
+use Rattle.graph.specs.declared.Node.{Node}
+use Rattle.graph.specs.Graph.{Graph, versionCount, ancestor, nodeOf, everyVersion, parentsLower}
 pub use Rattle.graph.proofs.Parent.{Parent, sole, receiver, giver}
 use Rattle.graph.proofs.Parent.{parent-lower}
 use Rattle.graph.proofs.Ancestor.{every-new, every-old, nodeOf-new, nodeOf-old, nodeOf-named, ancestor-first, same, above, before, ways, ancestor-above, ancestor-old, ancestor-self, ancestor-trans}

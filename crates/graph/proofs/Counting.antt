@@ -9,7 +9,8 @@ use lib.ListN.{length}
 use borrow.Author.Tests.{ne-eqb}
 use Rattle.laws.proofs.Logic.{refuted, and-both}
 use Rattle.graph.specs.Below.{countBelow}
-use Rattle.graph.specs.Graph.{Node, merge, entry, Graph, versionCount, someParent, ancestor}
+use Rattle.graph.specs.declared.Node.{Node}
+use Rattle.graph.specs.Graph.{merge, entry, Graph, versionCount, someParent, ancestor}
 use Rattle.graph.proofs.Below.{count-ext, count-more, count-lt, inclusion-exclusion}
 use Rattle.graph.proofs.Ancestor.{ancestor-new, ancestor-old, ancestor-same, ancestor-le}
 use Rattle.graph.proofs.Meet.{Meet}

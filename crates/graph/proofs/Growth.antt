@@ -11,7 +11,8 @@ use native.Mathlib.Decide.{ℕ-discrete}
 use lib.Dec.{eqb}
 use borrow.Author.Tests.{eqb-false}
 use Rattle.laws.proofs.Logic.{clash, refuted, and-l, and-r, and-i, not-e, bool-ext}
-use Rattle.graph.specs.Graph.{Node, merge, Graph, versionCount, ancestor, isEntry, meet, everyVersion, parentsLower, servesAsBase, mergeHasBase}
+use Rattle.graph.specs.declared.Node.{Node}
+use Rattle.graph.specs.Graph.{merge, Graph, versionCount, ancestor, isEntry, meet, everyVersion, parentsLower, servesAsBase, mergeHasBase}
 use Rattle.graph.proofs.Parent.{Parent, sole, receiver, giver}
 use Rattle.graph.proofs.Ancestor.{every-new, every-old, isEntry-new, isEntry-old, isEntry-named, ancestor-first, same, above, before, ways, ancestor-same, ancestor-above, ancestor-old, ancestor-le, ancestor-below, ancestor-trans}
 use Rattle.graph.proofs.Meet.{Meet, meet-is, meet-sym}

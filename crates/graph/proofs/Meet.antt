@@ -9,7 +9,8 @@ use mathlib.Core.Option.{Option, none, some}
 use native.Mathlib.Omega.{arith}
 use Rattle.laws.proofs.Logic.{refuted, and-l, and-r, and-i, implies-i, implies-e}
 use Rattle.graph.specs.Below.{everyBelow}
-use Rattle.graph.specs.Graph.{Node, Graph, versionCount, ancestor, commonAncestor, isMeet, meet}
+use Rattle.graph.specs.declared.Node.{Node}
+use Rattle.graph.specs.Graph.{Graph, versionCount, ancestor, commonAncestor, isMeet, meet}
 use Rattle.graph.proofs.Below.{at, of, highest-some, highest-of}
 use Rattle.graph.proofs.Ancestor.{ancestor-old, ancestor-named, ancestor-le, ancestor-below, ancestor-self}
 

@@ -6,8 +6,8 @@ use mathlib.Core.List.{List, [], _∷_}
 use mathlib.Core.Option.{Option, none, some, Option·getD}
 use lib.Dec.{eqb, ltb}
 use lib.ListN.{length}
-pub use Rattle.graph.specs.declared.Node.{Node}
-pub use Rattle.graph.specs.declared.Node.the-variants.{Entry, Merge}
+use Rattle.graph.specs.declared.Node.{Node}
+use Rattle.graph.specs.declared.Node.the-variants.{Entry, Merge}
 use Rattle.graph.specs.Below.{everyBelow, highestBelow}
 
 -- A version after version 0, by its numbers: an entry's parent, code, strip and operand; a merge's receiver's version and giver's version.

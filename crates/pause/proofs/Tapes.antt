@@ -24,18 +24,18 @@ unfolding roomIn
 own-heads s = refl
 
 module _ (s : List ℕ) (n : ℕ) (count : n ≡ length (roomIn s .versions)) where
-  own-pieces : tapeOf (roomIn s) ≡ recordBytes (Start (roomIn s .capacity)) ++ versionPieces s n ++ headPieces s consoleCount ++ recordBytes End
+  own-pieces : tapeOf (roomIn s) ≡ recordBytes (Start (roomIn s .settings .capacity)) ++ versionPieces s n ++ headPieces s consoleCount ++ recordBytes End
   unfolding tapeOf versionPieces headPieces
   own-pieces =
       rw count
-      (ap₂ (λ (g : Graph) (heads : List (Option ℕ)). recordBytes (Start (roomIn s .capacity)) ++ versionRecords g ++ headRecords 0 heads ++ recordBytes End)
+      (ap₂ (λ (g : Graph) (heads : List (Option ℕ)). recordBytes (Start (roomIn s .settings .capacity)) ++ versionRecords g ++ headRecords 0 heads ++ recordBytes End)
       (sym (own-versions s)) (own-heads s))
 
   pub tape-size : 3 + length (versionPieces s n) + length (headPieces s consoleCount) + 1 ≡ length (tapeOf (roomIn s))
   unfolding recordBytes
   tape-size = sym (ap length own-pieces ∙ simp length-append)
 
-  pub tape-written : (old : List ℕ) {t₁ t₂ t₃ t₄ : List ℕ} {capacity at end : ℕ} → length (tapeOf (roomIn s)) ≤ length old → capacity ≡ roomIn s .capacity
+  pub tape-written : (old : List ℕ) {t₁ t₂ t₃ t₄ : List ℕ} {capacity at end : ℕ} → length (tapeOf (roomIn s)) ≤ length old → capacity ≡ roomIn s .settings .capacity
       → t₁ ≡ withPart old 0 (recordBytes (Start capacity))
       → (at ≡ 3 + length (versionPieces s n)) × (t₂ ≡ withPart t₁ 3 (versionPieces s n))
       → (end ≡ at + length (headPieces s consoleCount)) × (t₃ ≡ withPart t₂ at (headPieces s consoleCount))

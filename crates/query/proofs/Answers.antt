@@ -23,9 +23,9 @@ use Rattle.store.proofs.Checks.{own-heads}
 use Rattle.store.proofs.Whole.{whole-ranges, whole-front, whole-small, whole-held, whole-fields, whole-low}
 
 module _ (s : List ℕ) (t : holdsStore s ≡ true) where
-  pub capacity-answer : (wordAt s capacityAt ≡ roomIn s .capacity) × (wordAt s capacityAt ≤ 1024)
+  pub capacity-answer : (wordAt s capacityAt ≡ roomIn s .settings .capacity) × (wordAt s capacityAt ≤ 1024)
   unfolding roomIn
-  capacity-answer = (refl, whole-ranges s t .capacity)
+  capacity-answer = (refl, whole-ranges s t .settings .capacity)
 
   pub count-answer : (wordAt s countAt ≡ versionCount (roomIn s .versions)) × (wordAt s countAt ≤ 1024)
   count-answer =

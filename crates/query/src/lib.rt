@@ -24,7 +24,7 @@ ghost use Rattle.store.specs.Layout.{roomIn, holdsStore};
 // The most versions that the store may hold.
 pub fn capacity_of(s: &[u8]) -> usize
     requires { ⌜ holdsStore (now s) ≡ true ⌝ }
-    ensures { λ r. ⌜ (r ≡ roomIn (now (s .entry)) .capacity) × (r ≤ 1024) ⌝ }
+    ensures { λ r. ⌜ (r ≡ roomIn (now (s .entry)) .settings .capacity) × (r ≤ 1024) ⌝ }
 {
     word_at(s, CAPACITY)
 }

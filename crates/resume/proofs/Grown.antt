@@ -14,7 +14,8 @@ use Rattle.buffer.specs.Row.{rowFrom, withMember, union}
 use Rattle.buffer.proofs.Rows.{rowFrom-length}
 use Rattle.buffer.proofs.Sets.{row-ext}
 use Rattle.buffer.proofs.Patches.{with-length, with-here, with-part}
-use Rattle.graph.specs.Graph.{Graph, Node, entry, merge, versionCount, ancestor}
+use Rattle.graph.specs.declared.Node.{Node}
+use Rattle.graph.specs.Graph.{Graph, entry, merge, versionCount, ancestor}
 use Rattle.graph.proofs.Ancestor.{ancestor-new, ancestor-old}
 use Rattle.store.specs.Layout.{rowSize}
 use Rattle.store.proofs.Lineage.{lineage, entry-lineage, merge-lineage}

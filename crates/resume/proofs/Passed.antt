@@ -12,7 +12,9 @@ use lib.ListN.{length, drop, length-drop}
 use borrow.Author.Tests.{le-leb, lt-leb}
 use Rattle.laws.proofs.Logic.{and-pairs}
 use Rattle.laws.proofs.Lists.{all-first, none-first}
-use Rattle.graph.specs.Graph.{Graph, Node, entry, merge, versionCount, everyVersion, parentsLower}
+use Rattle.graph.specs.declared.Node.{Node}
+use Rattle.graph.specs.declared.Node.the-variants.{Entry, Merge}
+use Rattle.graph.specs.Graph.{Graph, entry, merge, versionCount, everyVersion, parentsLower}
 use Rattle.command.specs.Code.{isEntryCode, isStrip, isOperand}
 use Rattle.room.specs.Sound.{entryInRange}
 use Rattle.tape.specs.Record.{recordIn}
@@ -25,8 +27,8 @@ use Rattle.resume.proofs.Follows.{lastConsole, rising, risen}
 
 -- the test of a record is the test of the version that it says
 version-tested : (g : Graph) (n : Node) (v : ℕ) → versionCount g ≡ v → versionInRange v (versionRecord n) ≡ (parentsLower g n && entryInRange g n)
-version-tested g (entry p code strip operand) v e = rw (← e) (and-comm (isEntryCode code && isStrip strip && isOperand code operand) (ltb p (versionCount g)))
-version-tested g (merge p q) v e = rw (← e) (sym (and-true _))
+version-tested g (Entry p code strip operand) v e = rw (← e) (and-comm (isEntryCode code && isStrip (strip .0) && isOperand code operand) (ltb (p .0) (versionCount g)))
+version-tested g (Merge p q) v e = rw (← e) (sym (and-true _))
 
 -- the first k versions were read up to a place, and whether they are in range
 pub record VersionsPassed (t : Content) (k at : ℕ) (ok : Bool) : Type 0 where
@@ -130,12 +132,12 @@ module _ (tape : List ℕ) (t : Content) (bytes : Bytes tape) (says : contentOf 
       }
 
 -- the tests together
-pub all-tests : (t : Content) (capacity : ℕ) (versions-ok heads-ok : Bool) → capacity ≡ t .capacity → length (t .versions) < capacity
+pub all-tests : (t : Content) (capacity : ℕ) (versions-ok heads-ok : Bool) → capacity ≡ t .settings .capacity → length (t .versions) < capacity
     → versions-ok ≡ versionsInRange (t .versions) → heads-ok ≡ (consolesRise (t .heads) && headsNamed (t .versions) (t .heads))
     → versions-ok && heads-ok ≡ inRange t
 all-tests t capacity v h c l ve he =
-    rw (ve, he, le-leb (versionCount (t .versions)) (t .capacity) (omega arith))
+    rw (ve, he, le-leb (versionCount (t .versions)) (t .settings .capacity) (omega arith))
     (sym (and-assoc (versionsInRange (t .versions)) (consolesRise (t .heads)) (headsNamed (t .versions) (t .heads))))
 
-pub too-many-versions : (t : Content) (capacity : ℕ) → capacity ≡ t .capacity → capacity ≤ length (t .versions) → false ≡ inRange t
-too-many-versions t capacity c l = rw (lt-leb (versionCount (t .versions)) (t .capacity) (omega arith))
+pub too-many-versions : (t : Content) (capacity : ℕ) → capacity ≡ t .settings .capacity → capacity ≤ length (t .versions) → false ≡ inRange t
+too-many-versions t capacity c l = rw (lt-leb (versionCount (t .versions)) (t .settings .capacity) (omega arith))

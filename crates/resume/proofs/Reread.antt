@@ -14,7 +14,9 @@ use Rattle.laws.proofs.Logic.{and-l, and-r, and-i}
 use Rattle.laws.proofs.Lists.{all-first, none-first}
 use Rattle.buffer.specs.Field.{zeros}
 use Rattle.buffer.proofs.Writes.{put-length}
-use Rattle.graph.specs.Graph.{Graph, Node, entry, merge, versionCount, everyVersion, parentsLower, mergeHasBase}
+use Rattle.graph.specs.declared.Node.{Node}
+use Rattle.graph.specs.declared.Node.the-variants.{Entry, Merge}
+use Rattle.graph.specs.Graph.{Graph, entry, merge, versionCount, everyVersion, parentsLower, mergeHasBase}
 use Rattle.graph.proofs.Ancestor.{every-new, every-old}
 use Rattle.command.specs.Code.{consoleCount}
 use Rattle.store.specs.Layout.{headerSize, commonAt}
@@ -48,24 +50,24 @@ listed-first (one-head a b rest) = (a, b)
 
 -- the record of a version on top of a graph
 below-made : (g : Graph) (n : Node) → parentsBelow (versionCount g) (versionRecord n) ≡ parentsLower g n
-below-made g (entry p code strip operand) = refl
-below-made g (merge p q) = refl
+below-made g (Entry p code strip operand) = refl
+below-made g (Merge p q) = refl
 
 module _ {rows : List ℕ} {g : Graph} where
   rows-made : (n : Node) → RowsOf rows g → versionCount g < 1024 → parentsLower g n ≡ true
       → RowsOf (rowsAfter rows (versionCount g) (versionRecord n)) (n ∷ g)
-  rows-made (entry p code strip operand) r small l = rows-entry p code strip operand r small (ltb-true p (versionCount g) l)
-  rows-made (merge p q) r small l =
-      rows-merge p q r small
-      (ltb-true p (versionCount g) (and-l (ltb p (versionCount g)) (ltb q (versionCount g)) l))
-      (ltb-true q (versionCount g) (and-r (ltb p (versionCount g)) (ltb q (versionCount g)) l))
+  rows-made (Entry p code strip operand) r small l = rows-entry (p .0) code (strip .0) operand r small (ltb-true (p .0) (versionCount g) l)
+  rows-made (Merge p q) r small l =
+      rows-merge (p .0) (q .0) r small
+      (ltb-true (p .0) (versionCount g) (and-l (ltb (p .0) (versionCount g)) (ltb (q .0) (versionCount g)) l))
+      (ltb-true (q .0) (versionCount g) (and-r (ltb (p .0) (versionCount g)) (ltb (q .0) (versionCount g)) l))
 
   base-made : (n : Node) → RowsOf rows g → versionCount g ≤ 1024 → parentsLower g n ≡ true → baseFound rows (versionRecord n) ≡ mergeHasBase g n
-  base-made (entry p code strip operand) r small l = refl
-  base-made (merge p q) r small l =
-      base-shown r small p q
-      (ltb-true p (versionCount g) (and-l (ltb p (versionCount g)) (ltb q (versionCount g)) l))
-      (ltb-true q (versionCount g) (and-r (ltb p (versionCount g)) (ltb q (versionCount g)) l))
+  base-made (Entry p code strip operand) r small l = refl
+  base-made (Merge p q) r small l =
+      base-shown r small (p .0) (q .0)
+      (ltb-true (p .0) (versionCount g) (and-l (ltb (p .0) (versionCount g)) (ltb (q .0) (versionCount g)) l))
+      (ltb-true (q .0) (versionCount g) (and-r (ltb (p .0) (versionCount g)) (ltb (q .0) (versionCount g)) l))
 
 -- the first k versions have been read
 pub record Versioned (t : Content) (k at : ℕ) (rows : List ℕ) (based : Bool) : Type 0 where

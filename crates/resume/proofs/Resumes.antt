@@ -49,17 +49,17 @@ none-left true false e = (refl, refl)
 none-left false short e = absurd (omega arith)
 
 module _ (t : Content) (old : List ℕ) where
-  pub no-capacity : isCapacity (t .capacity) ≡ false → Resumed (some t) old 8 old
+  pub no-capacity : isCapacity (t .settings .capacity) ≡ false → Resumed (some t) old 8 old
   unfolding firstRefusal
   no-capacity a = refused (some t) old 8 (omega arith) (rw a)
 
-  module _ (a : isCapacity (t .capacity) ≡ true) where
+  module _ (a : isCapacity (t .settings .capacity) ≡ true) where
     pub out-of-range : inRange t ≡ false → Resumed (some t) old 9 old
     unfolding firstRefusal
     out-of-range b = refused (some t) old 9 (omega arith) (rw (a, b))
 
     -- the last two tests, made of a tape in range
-    module _ (b : inRange t ≡ true) {sound short : Bool} (c : sound ≡ soundRoom (roomOf t)) (d : short ≡ ltb (length old) (storeSize (t .capacity))) {n : ℕ} (e : n ≡ firstRefusal (10 when not sound ∷ 19 when short ∷ [])) where
+    module _ (b : inRange t ≡ true) {sound short : Bool} (c : sound ≡ soundRoom (roomOf t)) (d : short ≡ ltb (length old) (storeSize (t .settings .capacity))) {n : ℕ} (e : n ≡ firstRefusal (10 when not sound ∷ 19 when short ∷ [])) where
       answer : n ≡ resumeRefusal (some t) old
       unfolding firstRefusal
       answer = rw (e, a, b, c, d)
@@ -74,7 +74,7 @@ module _ (t : Content) (old : List ℕ) where
 -- what the scan says
 pub record Read (o : Option Content) (capacity versions heads : ℕ) : Type 0 where
   pub whole : o ≡ some (told o)
-  pub capacity-is : capacity ≡ told o .capacity
+  pub capacity-is : capacity ≡ told o .settings .capacity
   pub versions-are : versions ≡ length (told o .versions)
   pub heads-are : heads ≡ length (told o .heads)
 

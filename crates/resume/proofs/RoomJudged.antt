@@ -24,7 +24,7 @@ use Rattle.resume.proofs.HeadSlots.{headField, heads-diagonal}
 
 -- what is in range of a tape's content
 pub record Ranged (t : Content) : Type 0 where
-  pub count : versionCount (t .versions) ≤ t .capacity
+  pub count : versionCount (t .versions) ≤ t .settings .capacity
   pub lower : everyVersion parentsLower (t .versions) ≡ true
   pub ranged : everyVersion entryInRange (t .versions) ≡ true
   pub rise : consolesRise (t .heads) ≡ true
@@ -33,17 +33,17 @@ pub record Ranged (t : Content) : Type 0 where
 pub in-range : (t : Content) → inRange t ≡ true → Ranged t
 in-range t h =
     record {
-      count = leb-true (versionCount (t .versions)) (t .capacity) (search (and-l, and-r) depth 8);
+      count = leb-true (versionCount (t .versions)) (t .settings .capacity) (search (and-l, and-r) depth 8);
       lower = search (and-l, and-r) depth 8;
       ranged = search (and-l, and-r) depth 8;
       rise = search (and-l, and-r) depth 8;
       named = search (and-l, and-r) depth 8;
     }
 
-pub range-small : (t : Content) → isCapacity (t .capacity) ≡ true → Ranged t → versionCount (t .versions) ≤ 1024
+pub range-small : (t : Content) → isCapacity (t .settings .capacity) ≡ true → Ranged t → versionCount (t .versions) ≤ 1024
 range-small t cap k =
     let c = k .count in
-    omega (arith, leb-true (t .capacity) 1024 (and-r (leb 1 (t .capacity)) (leb (t .capacity) 1024) cap))
+    omega (arith, leb-true (t .settings .capacity) 1024 (and-r (leb 1 (t .settings .capacity)) (leb (t .settings .capacity) 1024) cap))
 
 -- console 0 is there
 first-present : (heads : List (ℕ × ℕ)) → consolesRise heads ≡ true → isSome (getD (headSlots heads) 0 none) ≡ true
@@ -76,7 +76,7 @@ rest-passes true false h = refl
 rest-passes true true false = refl
 rest-passes true true true = refl
 
-module _ (t : Content) (cap : isCapacity (t .capacity) ≡ true) (range : inRange t ≡ true) where
+module _ (t : Content) (cap : isCapacity (t .settings .capacity) ≡ true) (range : inRange t ≡ true) where
   heads-name : headsNameVersions (roomOf t) ≡ true
   heads-name =
       let k = in-range t range in
@@ -88,7 +88,7 @@ module _ (t : Content) (cap : isCapacity (t .capacity) ≡ true) (range : inRang
   room-judged =
       let k = in-range t range in
       let sixteen = eq-eqb (length (headSlots (t .heads))) consoleCount (length-slots (t .heads)) in
-      let fits : leb (versionCount (t .versions)) (t .capacity) ≡ true = search (and-l, and-r) depth 8 in
+      let fits : leb (versionCount (t .versions)) (t .settings .capacity) ≡ true = search (and-l, and-r) depth 8 in
       rw (k .lower, sixteen, heads-name, first-present (t .heads) (k .rise), cap, fits, k .ranged)
       (rest-passes (everyVersion mergeHasBase (t .versions)) (headsMeet (roomOf t)) (allBehindHeads (roomOf t)))
 

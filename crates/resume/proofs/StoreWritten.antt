@@ -32,7 +32,7 @@ use Rattle.resume.specs.Writing.{withHeader}
 use Rattle.resume.proofs.VersionsWritten.{Built}
 
 -- where the store of a fresh room of the tape's capacity was written over the old bytes
-module _ (t : Content) (sound : soundRoom (roomOf t) ≡ true) (old : List ℕ) (capacity : ℕ) (size : capacity ≡ t .capacity)
+module _ (t : Content) (sound : soundRoom (roomOf t) ≡ true) (old : List ℕ) (capacity : ℕ) (size : capacity ≡ t .settings .capacity)
     (room-for : storeSize capacity ≤ length old) {s : List ℕ} (made : s ≡ overwrite (encode (fresh capacity)) old) where
   abbrev r : Room
   r = roomOf t
@@ -40,25 +40,25 @@ module _ (t : Content) (sound : soundRoom (roomOf t) ≡ true) (old : List ℕ) 
   abbrev n : ℕ
   n = versionCount (t .versions)
 
-  fits : storeSize (t .capacity) ≤ length old
+  fits : storeSize (t .settings .capacity) ≤ length old
   fits = omega arith
 
-  opened : s ≡ overwrite (encode (fresh (t .capacity))) old
+  opened : s ≡ overwrite (encode (fresh (t .settings .capacity))) old
   opened = rw size at made
 
-  fresh-length : length (encode (fresh (t .capacity))) ≡ storeSize (t .capacity)
-  fresh-length = encode-length (fresh (t .capacity)) (fresh-sound (t .capacity) (sound-facts r sound .capacity))
+  fresh-length : length (encode (fresh (t .settings .capacity))) ≡ storeSize (t .settings .capacity)
+  fresh-length = encode-length (fresh (t .settings .capacity)) (fresh-sound (t .settings .capacity) (sound-facts r sound .capacity))
 
   pub opened-long : length s ≡ length old
   opened-long = let long = fresh-length in let f = fits in rw opened (simp (length-append, length-drop) (omega arith))
 
-  opened-behind : (k : ℕ) → storeSize (t .capacity) ≤ k → getD s k 0 ≡ getD old k 0
+  opened-behind : (k : ℕ) → storeSize (t .settings .capacity) ≤ k → getD s k 0 ≡ getD old k 0
   opened-behind k l =
       let long = fresh-length in
-      ap (λ (x : List ℕ). getD x k 0) opened ∙ overwrite-behind (encode (fresh (t .capacity))) old k (omega arith)
+      ap (λ (x : List ℕ). getD x k 0) opened ∙ overwrite-behind (encode (fresh (t .settings .capacity))) old k (omega arith)
 
-  parts : Placed s (fresh (t .capacity))
-  parts = placed (fresh (t .capacity)) (rw opened (stands-front (encode (fresh (t .capacity))) (drop (length (encode (fresh (t .capacity)))) old)))
+  parts : Placed s (fresh (t .settings .capacity))
+  parts = placed (fresh (t .settings .capacity)) (rw opened (stands-front (encode (fresh (t .settings .capacity))) (drop (length (encode (fresh (t .settings .capacity)))) old)))
 
   pub opened-standing : Standing s []
   opened-standing = record { versions = parts .versions; entries = parts .entries }
@@ -126,7 +126,7 @@ module _ (t : Content) (sound : soundRoom (roomOf t) ≡ true) (old : List ℕ) 
           commons = table-field r commonsAt (subst (Stands final commonsAt) common there);
           rest = stands-kept (parts .rest) (λ i x y. same i (omega (arith, zeros-length (headerSize - commonsEnd))));
           versions = λ v b. let long-block = block-length (t .versions) v in stands-kept (built .standing .versions v b) (λ i x y. stays i (omega arith) (omega arith));
-          free = free-later 1 n (t .capacity) (omega arith) (k .count) (parts .free) (λ i x. same i (omega arith));
+          free = free-later 1 n (t .settings .capacity) (omega arith) (k .count) (parts .free) (λ i x. same i (omega arith));
         }
 
     pub store-whole : {versions : ℕ} {end : List ℕ} → versions ≡ length (t .versions) → end ≡ withHeader now (versions + 1) header

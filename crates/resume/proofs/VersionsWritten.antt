@@ -15,7 +15,9 @@ use Rattle.laws.proofs.Lists.{all-first, none-first}
 use Rattle.buffer.specs.Field.{same}
 use Rattle.buffer.specs.Row.{intersection}
 use Rattle.buffer.proofs.Sets.{row-ext}
-use Rattle.graph.specs.Graph.{Graph, Node, entry, merge, versionCount, ancestor, meet, baseOf, servesAsBase, everyVersion, parentsLower, mergeHasBase}
+use Rattle.graph.specs.declared.Node.{Node}
+use Rattle.graph.specs.declared.Node.the-variants.{Entry, Merge}
+use Rattle.graph.specs.Graph.{Graph, entry, merge, versionCount, ancestor, meet, baseOf, servesAsBase, everyVersion, parentsLower, mergeHasBase}
 use Rattle.graph.proofs.Ancestor.{every-new, every-old, ancestor-old}
 use Rattle.room.specs.Sound.{entryInRange, soundRoom}
 use Rattle.room.proofs.Sound.{sound-facts}
@@ -101,24 +103,24 @@ module _ {rows : List ℕ} {g : Graph} where
           (meet-shown (old .shown) (old .small) p q (parents p q r .0) (parents p q r .1) ∙ e)
 
   ranged-new : (n : Node) → Ready rows (n ∷ g) → versionInRange (versionCount g) (versionRecord n) ≡ true
-  ranged-new (entry p code strip operand) r =
-      let n = entry p code strip operand in
+  ranged-new (Entry p code strip operand) r =
+      let n = entry (p .0) code (strip .0) operand in
       and-i _ _ (every-new entryInRange n g (r .ranged)) (every-new parentsLower n g (r .lower))
-  ranged-new (merge p q) r = every-new parentsLower (merge p q) g (r .lower)
+  ranged-new (Merge p q) r = every-new parentsLower (merge (p .0) (q .0)) g (r .lower)
 
   base-new : (n : Node) → Ready rows (n ∷ g) → baseBelow rows (versionCount g) (versionRecord n) ≡ true
-  base-new (entry p code strip operand) r = refl
-  base-new (merge p q) r = lt-ltb (baseIn rows p q) (versionCount g) (rw (base-is p q r) (meetNumber-below g p q))
+  base-new (Entry p code strip operand) r = refl
+  base-new (Merge p q) r = lt-ltb (baseIn rows (p .0) (q .0)) (versionCount g) (rw (base-is (p .0) (q .0) r) (meetNumber-below g (p .0) (q .0)))
 
   grew : (s : List ℕ) (n : Node) → Ready rows (n ∷ g) → Standing s g → blockAt (suc (versionCount g)) ≤ length s
       → Grew s (storeWith s rows (versionCount g) (versionRecord n)) g n
-  grew s (entry p code strip operand) r h fits =
+  grew s (Entry p code strip operand) r h fits =
       let small = r .small in
-      entry-grew s g h (ready-old r .lower) (omega arith) fits p code strip operand
-      (ltb-true p (versionCount g) (every-new parentsLower (entry p code strip operand) g (r .lower)))
-  grew s (merge p q) r h fits =
+      entry-grew s g h (ready-old r .lower) (omega arith) fits (p .0) code (strip .0) operand
+      (ltb-true (p .0) (versionCount g) (every-new parentsLower (entry (p .0) code (strip .0) operand) g (r .lower)))
+  grew s (Merge p q) r h fits =
       let small = r .small in
-      merge-grew s g h (ready-old r .lower) (omega arith) fits p q (baseIn rows p q) (parents p q r .0) (parents p q r .1) (base-is p q r)
+      merge-grew s g h (ready-old r .lower) (omega arith) fits (p .0) (q .0) (baseIn rows (p .0) (q .0)) (parents (p .0) (q .0) r .0) (parents (p .0) (q .0) r .1) (base-is (p .0) (q .0) r)
 
 -- bytes in which version 0 stands became bytes in which a graph stands, and nothing else changed
 pub record Built (s t : List ℕ) (g : Graph) : Type 0 where

@@ -15,7 +15,7 @@ use Rattle.resume.specs.Content.{told}
 abbrev pub resumeRefusal : Option Content → List ℕ → ℕ
 resumeRefusal none store = 7
 resumeRefusal (some t) store =
-    firstRefusal (contentTests t ++ (19 when ltb (length store) (storeSize (t .capacity)) ∷ []))
+    firstRefusal (contentTests t ++ (19 when ltb (length store) (storeSize (t .settings .capacity)) ∷ []))
 
 -- "A refusal returns its number, counts 0, and changes no lent byte."
 unfoldable pub resumedStore : Option Content → List ℕ → List ℕ

@@ -172,7 +172,7 @@ fn heads_in_range(tape: &[u8], first: usize, count: usize, heads: usize) -> bool
 // Whether what a whole tape says is in range, and then where its first head record stands. Refusal 9 is for one that is not.
 pub fn see_tape(tape: &[u8], capacity: usize, versions: usize, heads: usize) -> Seen
     requires { ⌜ contentOf (now tape) ≡ some (contentIn (now tape)) ⌝ }
-    requires { ⌜ (capacity ≡ contentIn (now tape) .capacity) × (versions ≡ length (contentIn (now tape) .versions)) × (heads ≡ length (contentIn (now tape) .heads)) ⌝ }
+    requires { ⌜ (capacity ≡ contentIn (now tape) .settings .capacity) × (versions ≡ length (contentIn (now tape) .versions)) × (heads ≡ length (contentIn (now tape) .heads)) ⌝ }
     ensures { λ r. ⌜ (r .ok ≡ inRange (contentIn (now (tape .entry)))) × (r .ok ≡ true → r .at ≡ headPlace (contentIn (now (tape .entry))) 0) ⌝ }
 {
     if capacity <= versions {

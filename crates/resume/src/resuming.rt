@@ -57,8 +57,8 @@ fn resume_ranged(
     heads: usize,
 ) -> u32
     requires { ⌜ contentOf (now tape) ≡ some (contentIn (now tape)) ⌝ }
-    requires { ⌜ (capacity ≡ contentIn (now tape) .capacity) × (versions ≡ length (contentIn (now tape) .versions)) × (from ≡ headPlace (contentIn (now tape)) 0) × (heads ≡ length (contentIn (now tape) .heads)) ⌝ }
-    requires { ⌜ (isCapacity (contentIn (now tape) .capacity) ≡ true) × (inRange (contentIn (now tape)) ≡ true) ⌝ }
+    requires { ⌜ (capacity ≡ contentIn (now tape) .settings .capacity) × (versions ≡ length (contentIn (now tape) .versions)) × (from ≡ headPlace (contentIn (now tape)) 0) × (heads ≡ length (contentIn (now tape) .heads)) ⌝ }
+    requires { ⌜ (isCapacity (contentIn (now tape) .settings .capacity) ≡ true) × (inRange (contentIn (now tape)) ≡ true) ⌝ }
     ensures { λ r. ⌜ (r ≡ resumeRefusal (some (contentIn (now (tape .entry)))) (now (store .entry))) × (now (store .exit) ≡ resumedStore (some (contentIn (now (tape .entry)))) (now (store .entry))) ⌝ }
 {
     let mut rows = [0u8; ROWS];
@@ -80,7 +80,7 @@ fn resume_whole(
     heads: usize,
 ) -> u32
     requires { ⌜ contentOf (now tape) ≡ some (contentIn (now tape)) ⌝ }
-    requires { ⌜ (capacity ≡ contentIn (now tape) .capacity) × (versions ≡ length (contentIn (now tape) .versions)) × (heads ≡ length (contentIn (now tape) .heads)) ⌝ }
+    requires { ⌜ (capacity ≡ contentIn (now tape) .settings .capacity) × (versions ≡ length (contentIn (now tape) .versions)) × (heads ≡ length (contentIn (now tape) .heads)) ⌝ }
     ensures { λ r. ⌜ (r ≡ resumeRefusal (some (contentIn (now (tape .entry)))) (now (store .entry))) × (now (store .exit) ≡ resumedStore (some (contentIn (now (tape .entry)))) (now (store .entry))) ⌝ }
 {
     if !is_capacity(capacity) {

@@ -27,7 +27,7 @@ pub fn gives_sound_room(
     header: &mut [u8],
 ) -> bool
     requires { ⌜ contentOf (now tape) ≡ some (contentIn (now tape)) ⌝ }
-    requires { ⌜ (isCapacity (contentIn (now tape) .capacity) ≡ true) × (inRange (contentIn (now tape)) ≡ true) ⌝ }
+    requires { ⌜ (isCapacity (contentIn (now tape) .settings .capacity) ≡ true) × (inRange (contentIn (now tape)) ≡ true) ⌝ }
     requires { ⌜ (versions ≡ length (contentIn (now tape) .versions)) × (from ≡ headPlace (contentIn (now tape)) 0) × (heads ≡ length (contentIn (now tape) .heads)) ⌝ }
     requires { ⌜ length (now rows) ≡ rowsSize ⌝ }
     requires { ⌜ (length (now header) ≡ headerSize) × (now header ≡ zeros headerSize) ⌝ }

@@ -83,7 +83,7 @@ pub fn write_store(
     header: &[u8],
 )
     requires { ⌜ contentOf (now tape) ≡ some (contentIn (now tape)) ⌝ }
-    requires { ⌜ (capacity ≡ contentIn (now tape) .capacity) × (versions ≡ length (contentIn (now tape) .versions)) ⌝ }
+    requires { ⌜ (capacity ≡ contentIn (now tape) .settings .capacity) × (versions ≡ length (contentIn (now tape) .versions)) ⌝ }
     requires { ⌜ (soundRoom (roomOf (contentIn (now tape))) ≡ true) × RowsOf (now rows) (contentIn (now tape) .versions) ⌝ }
     requires { ⌜ (length (now header) ≡ headerSize) × (part (now header) commonsAt commonsSize ≡ commonTable (roomOf (contentIn (now tape))) 0 consoleCount) ⌝ }
     requires { ⌜ storeSize capacity ≤ length (now store) ⌝ }

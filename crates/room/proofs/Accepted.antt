@@ -3,7 +3,7 @@
 use Prim.Native.Nat.{ℕ, _<_}
 use mathlib.Core.Path.{_≡_}
 use mathlib.Core.Bool.{true, false, not}
-use borrow.Author.Tests.{leb-false, not-false}
+use borrow.Author.Tests.{ltb-true, not-false}
 use lib.Dec.{lit<}
 use Rattle.laws.proofs.Logic.{clash, or-none-l, or-none-r}
 use Rattle.graph.specs.Graph.{versionCount}
@@ -12,32 +12,32 @@ use Rattle.graph.specs.declared.Console.{Console}
 use Rattle.command.specs.declared.Command.the-variants.{Fork, Entry, Merge, FastForward}
 use Rattle.refusal.proofs.Refusals.{none-applies}
 use Rattle.room.specs.Room.{Room, present}
-use Rattle.room.specs.Step.{absent, behind, someThirdSplits, stepRefusal}
+use Rattle.room.specs.Step.{absent, behind, someThirdSplits, stateTests, stepRefusal}
 
 -- console d is present, and c, where it is, is behind d: what a move of c to the head of d asks for
 abbrev pub MayMove : Room → ℕ → ℕ → Type 0
 MayMove r c d = (present r d ≡ true) × (present r c ≡ true → behind r c d ≡ true)
 
 pub fork-accepted : (r : Room) (new old : Console) → stepRefusal r (Fork new old) ≡ 0 → MayMove r (new .0) (old .0)
-unfolding stepRefusal
+unfolding stepRefusal stateTests
 fork-accepted r new old h =
     let t = none-applies _ h in
     let free : present r (new .0) ≡ false = t .1 (lit< tt) .0 (lit< tt) in
     (not-false _ (t .0 (lit< tt)), λ p. clash p free)
 
 pub forward-accepted : (r : Room) (a b : Console) → stepRefusal r (FastForward a b) ≡ 0 → MayMove r (a .0) (b .0)
-unfolding stepRefusal
+unfolding stepRefusal stateTests
 forward-accepted r a b h =
     let t = none-applies _ h in
     let ahead : not (behind r (a .0) (b .0)) ≡ false = t .1 (lit< tt) .1 (lit< tt) .0 (lit< tt) in
     (not-false _ (or-none-r (absent r (a .0)) _ (t .0 (lit< tt))), λ p. not-false _ ahead)
 
 pub entry-accepted : (r : Room) (c : Console) (code : ℕ) (k : Strip) (x : ℕ) → stepRefusal r (Entry c code k x) ≡ 0
-    → (present r (c .0) ≡ true) × (versionCount (r .versions) < r .capacity)
-unfolding stepRefusal
+    → (present r (c .0) ≡ true) × (versionCount (r .versions) < r .settings .capacity)
+unfolding stepRefusal stateTests
 entry-accepted r c code k x h =
     let t = none-applies _ h in
-    (not-false _ (t .0 (lit< tt)), leb-false _ _ (t .1 (lit< tt) .0 (lit< tt)))
+    (not-false _ (t .0 (lit< tt)), ltb-true _ _ (not-false _ (t .1 (lit< tt) .0 (lit< tt))))
 
 -- what a merge asks for
 pub record MayMerge (r : Room) (a b : ℕ) : Type 0 where
@@ -46,10 +46,10 @@ pub record MayMerge (r : Room) (a b : ℕ) : Type 0 where
   pub ahead : behind r b a ≡ false
   pub back : behind r a b ≡ false
   pub unsplit : someThirdSplits r a b ≡ false
-  pub left : versionCount (r .versions) < r .capacity
+  pub left : versionCount (r .versions) < r .settings .capacity
 
 pub merge-accepted : (r : Room) (a b : Console) → stepRefusal r (Merge a b) ≡ 0 → MayMerge r (a .0) (b .0)
-unfolding stepRefusal
+unfolding stepRefusal stateTests
 merge-accepted r a b h =
     let t = none-applies _ h in
     let both = t .0 (lit< tt) in
@@ -62,5 +62,5 @@ merge-accepted r a b h =
       ahead = fourteen .0 (lit< tt);
       back = fifteen .0 (lit< tt);
       unsplit = seventeen .0 (lit< tt);
-      left = leb-false _ _ (seventeen .1 (lit< tt) .0 (lit< tt));
+      left = ltb-true _ _ (not-false _ (seventeen .1 (lit< tt) .0 (lit< tt)));
     }

@@ -16,7 +16,9 @@ use Rattle.laws.proofs.Logic.{decide, and-l, and-r, cond-true, cond-false}
 use Rattle.buffer.specs.Field.{wordAt}
 use Rattle.board.specs.Board.{stripCount, boardSize, emptyBoard, callsAt, alertsAt, mergeCount, mergeBoard, enter}
 use Rattle.board.proofs.Cells.{calls-kept, alerts-kept, call-counted, alert-counted, calls-merged, alerts-merged}
-use Rattle.graph.specs.Graph.{Graph, Node, entry, merge, versionCount, ancestor, nodeOf, meetNumber, baseOf, parentsLower}
+use Rattle.graph.specs.declared.Node.{Node}
+use Rattle.graph.specs.declared.Node.the-variants.{Entry, Merge}
+use Rattle.graph.specs.Graph.{Graph, entry, merge, versionCount, ancestor, nodeOf, meetNumber, baseOf, parentsLower}
 use Rattle.graph.specs.Below.{countBelow}
 use Rattle.graph.proofs.Below.{count-ext}
 use Rattle.graph.proofs.Ancestor.{every-new, ancestor-below, nodeOf-new, nodeOf-old, nodeOf-named}
@@ -30,8 +32,8 @@ use Rattle.room.proofs.Lengths.{boardOf-length}
 -- an entry of this code on strip k
 abbrev pub entryIs : ℕ → ℕ → Option Node → Bool
 entryIs w k none = false
-entryIs w k (some (entry p code strip operand)) = eqb code w && eqb k strip
-entryIs w k (some (merge p q)) = false
+entryIs w k (some (Entry p code strip operand)) = eqb code w && eqb k (strip .0)
+entryIs w k (some (Merge p q)) = false
 
 -- how many entries of this code on strip k are among the ancestors of v
 abbrev pub tally : ℕ → ℕ → Graph → ℕ → ℕ
@@ -107,13 +109,13 @@ module _ (w : ℕ) (place : ℕ → ℕ)
   at-new : (n : Node) (g : Graph) → WellFormed (n ∷ g) → length g < 65535 → ((v : ℕ) → v < versionCount g → Counts g v)
       → wordAt (boardMade (boardOf g) (meetNumber g) n) (place k) ≡ tally w k (n ∷ g) (versionCount g)
   unfolding boardMade
-  at-new (entry p code strip x) g wf small ih =
-      let n : Node = entry p code strip x in
+  at-new (Entry p code strip x) g wf small ih =
+      let n : Node = entry (p .0) code (strip .0) x in
       let f : ℕ → Bool = λ e. entryIs w k (nodeOf (n ∷ g) e) in
-      let newest : f (versionCount g) ≡ (eqb code w && eqb k strip) = ap (entryIs w k) (nodeOf-new n g) in
-      at-entry p code strip x g small (ih p (parent-lower g (every-new parentsLower n g (wf .lower)) (sole {code = code} {strip = strip} {operand = x})))
-      ∙ sym (held-entry f p code strip x g ∙ cc (tally-same w k n g p, newest))
-  at-new (merge p q) g wf small ih = at-merge p q g wf small ih
+      let newest : f (versionCount g) ≡ (eqb code w && eqb k (strip .0)) = ap (entryIs w k) (nodeOf-new n g) in
+      at-entry (p .0) code (strip .0) x g small (ih (p .0) (parent-lower g (every-new parentsLower n g (wf .lower)) (sole {code = code} {strip = strip} {operand = x})))
+      ∙ sym (held-entry f (p .0) code (strip .0) x g ∙ cc (tally-same w k n g (p .0), newest))
+  at-new (Merge p q) g wf small ih = at-merge (p .0) (q .0) g wf small ih
 
   at-first : (v : ℕ) → Counts [] v
   unfolding Counts boardOf held countBelow nodeOf

@@ -9,14 +9,16 @@ use lib.ListN.{length}
 use Rattle.buffer.proofs.Fields.{zeros-length}
 use Rattle.board.specs.Board.{boardSize}
 use Rattle.board.proofs.Length.{enter-length, mergeBoard-length}
-use Rattle.graph.specs.Graph.{Graph, Node, entry, merge, versionCount, meetNumber}
+use Rattle.graph.specs.declared.Node.{Node}
+use Rattle.graph.specs.declared.Node.the-variants.{Entry, Merge}
+use Rattle.graph.specs.Graph.{Graph, entry, merge, versionCount, meetNumber}
 use Rattle.room.specs.Boards.{boardMade, boardOf}
 
 boardMade-length : (board : ℕ → List ℕ) (base : ℕ → ℕ → ℕ) (n : Node)
     → ((v : ℕ) → length (board v) ≡ boardSize) → length (boardMade board base n) ≡ boardSize
 unfolding boardMade
-boardMade-length board base (entry p code strip operand) h = enter-length code strip operand (board p) ∙ h p
-boardMade-length board base (merge p q) h = mergeBoard-length (board (base p q)) (board p) (board q)
+boardMade-length board base (Entry p code strip operand) h = enter-length code (strip .0) operand (board (p .0)) ∙ h (p .0)
+boardMade-length board base (Merge p q) h = mergeBoard-length (board (base (p .0) (q .0))) (board (p .0)) (board (q .0))
 
 pub boardOf-length : (g : Graph) (v : ℕ) → length (boardOf g v) ≡ boardSize
 unfolding boardOf

@@ -10,7 +10,8 @@ use native.Mathlib.Decide.{ℕ-discrete, decLt}
 use lib.ListN.{length, length-set}
 use lib.Seq.{getD-set-same, getD-set-other}
 use Rattle.laws.proofs.Logic.{and-i}
-use Rattle.graph.specs.Graph.{Node, versionCount, ancestor, isSome, everyVersion, parentsLower, mergeHasBase}
+use Rattle.graph.specs.declared.Node.{Node}
+use Rattle.graph.specs.Graph.{versionCount, ancestor, isSome, everyVersion, parentsLower, mergeHasBase}
 use Rattle.graph.proofs.Parent.{Parent}
 use Rattle.graph.proofs.Ancestor.{ancestor-old, ancestor-same, ancestor-above, ancestor-trans, ancestor-named}
 use Rattle.graph.proofs.Meet.{Meet, meet-sym, meet-self, Meet-new}
@@ -184,7 +185,7 @@ module _ (r : Room) (s : Sound r) (c : ℕ) (p : present r c ≡ true) (n : Node
               )
         ]
 
-    pub grown-sound : versionCount (r .versions) < r .capacity → Sound (grown r c n)
+    pub grown-sound : versionCount (r .versions) < r .settings .capacity → Sound (grown r c n)
     unfolding everyVersion
     grown-sound left = record {
       lower = and-i (parentsLower (r .versions) n) _ lower (s .lower);

@@ -7,7 +7,8 @@ use mathlib.Core.Bool.{true}
 use mathlib.Core.List.{_∷_}
 use mathlib.Core.Logic.{_⊎_, inl, inr}
 use native.Mathlib.Omega.{arith}
-use Rattle.graph.specs.Graph.{Graph, Node, entry, merge, versionCount, ancestor}
+use Rattle.graph.specs.declared.Node.{Node}
+use Rattle.graph.specs.Graph.{Graph, entry, merge, versionCount, ancestor}
 use Rattle.graph.proofs.Parent.{Parent, sole, receiver, giver}
 use Rattle.graph.proofs.Ancestor.{same, above, before, ways, ancestor-old, ancestor-above, ancestor-le, ancestor-trans}
 use Rattle.graph.proofs.Meet.{Meet}

@@ -24,8 +24,8 @@ pub record Sound (r : Room) : Type 0 where
   pub meets : (c d : ℕ) → present r c ≡ true → present r d ≡ true → (m : ℕ) × Meet (r .versions) (head r c) (head r d) m
   pub first : present r 0 ≡ true
   pub behind : (v : ℕ) → v < versionCount (r .versions) → (c : ℕ) × (present r c ≡ true) × (ancestor (r .versions) v (head r c) ≡ true)
-  pub capacity : isCapacity (r .capacity) ≡ true
-  pub fits : versionCount (r .versions) ≤ r .capacity
+  pub capacity : isCapacity (r .settings .capacity) ≡ true
+  pub fits : versionCount (r .versions) ≤ r .settings .capacity
   pub ranged : everyVersion entryInRange (r .versions) ≡ true
 
 -- a present console is one of the sixteen

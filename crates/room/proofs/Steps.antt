@@ -12,7 +12,8 @@ use borrow.Author.Tests.{lt-ltb, ne-eqb, eqb-false, not-false}
 use lib.Dec.{eqb}
 use Rattle.graph.specs.declared.Strip.{Strip}
 use Rattle.laws.proofs.Logic.{clash, decide, refuted, and-l, and-r, and-i, and-rest, implies-i2, implies-e2, not-e, not-i}
-use Rattle.graph.specs.Graph.{Node, entry, merge, versionCount, ancestor, meet, isSome, isMeet, everyVersion, parentsLower, mergeHasBase}
+use Rattle.graph.specs.declared.Node.{Node}
+use Rattle.graph.specs.Graph.{entry, merge, versionCount, ancestor, meet, isSome, isMeet, everyVersion, parentsLower, mergeHasBase}
 use Rattle.graph.specs.Below.{everyBelow, someBelow, highestBelow}
 use Rattle.graph.proofs.Below.{at, of, some-at, some-of}
 use Rattle.graph.proofs.Parent.{sole, receiver, giver}
@@ -48,7 +49,7 @@ forward-sound r s a b range h =
 
 -- an entry on the head of a present console, where a version is left
 pub entry-grown : (r : Room) → Sound r → (c code k x : ℕ) → present r c ≡ true → entryInRange (r .versions) (entry (head r c) code k x) ≡ true
-    → versionCount (r .versions) < r .capacity → Sound (grown r c (entry (head r c) code k x))
+    → versionCount (r .versions) < r .settings .capacity → Sound (grown r c (entry (head r c) code k x))
 entry-grown r s c code k x p range left =
     grown-sound r s c p (entry (head r c) code k x) (lt-ltb _ _ (head-named r s c p)) refl range sole
     (λ d q ne. let m = s .meets c d p q in (m .0, entry-meet code k x (head-named r s d q) (m .1)))
@@ -141,7 +142,7 @@ module _ (r : Room) (s : Sound r) (a b : ℕ) (pa : present r a ≡ true) (pb : 
             (refuted _ (λ t. clash (some-of consoleCount (splits r a b) d (present-console r d (s .sixteen) pd) t) h))
       ]
 
-  pub merge-grown : someThirdSplits r a b ≡ false → versionCount (r .versions) < r .capacity → Sound (grown r a (merge (head r a) (head r b)))
+  pub merge-grown : someThirdSplits r a b ≡ false → versionCount (r .versions) < r .settings .capacity → Sound (grown r a (merge (head r a) (head r b)))
   merge-grown h left =
       grown-sound r s a pa (merge (head r a) (head r b)) merge-lower merge-based refl receiver (meeting h) left
 

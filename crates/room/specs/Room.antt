@@ -7,11 +7,12 @@ use lib.ListN.{getD, set, replicate}
 use Rattle.graph.specs.Below.{countBelow}
 use Rattle.graph.specs.Graph.{Graph, versionCount, ancestor, isEntry, meetNumber, isSome}
 use Rattle.command.specs.Code.{consoleCount}
+use Rattle.room.specs.declared.Settings.{Settings}
 
--- Rows, boards, bases and commons are functions of these three. Versions, consoles and strips are plain numbers here, as they are counted,
+-- Rows, boards, bases and commons are functions of these three: what the room is set to, its versions and its heads. Versions, consoles and strips are plain numbers here, as they are counted,
 -- compared and looked up; a value of the code (a command, a record of a tape) has them as tuple structs.
 pub record Room : Type 0 where
-  pub capacity : ℕ
+  pub settings : Settings
   pub versions : Graph
   -- for each console number its head, or none while it is absent
   pub heads : List (Option ℕ)
@@ -39,6 +40,10 @@ hears r c v = isEntry (r .versions) v && ancestor (r .versions) v (head r c)
 unfoldable pub heardCount : Room → ℕ → ℕ
 heardCount r c = countBelow (versionCount (r .versions)) (hears r c)
 
+-- what opening with a capacity sets a room to
+abbrev pub opened : ℕ → Settings
+opened capacity = record { capacity = capacity }
+
 -- "Opening makes version 0 with console 0 on it."
 abbrev pub fresh : ℕ → Room
-fresh capacity = record { capacity = capacity; versions = []; heads = set (replicate consoleCount none) 0 (some 0) }
+fresh capacity = record { settings = opened capacity; versions = []; heads = set (replicate consoleCount none) 0 (some 0) }

@@ -6,8 +6,11 @@ use mathlib.Core.Option.{Option, none, some}
 use lib.Dec.{eqb, leb, ltb}
 use lib.ListN.{length}
 use Rattle.graph.specs.Below.{everyBelow, someBelow}
-use Rattle.graph.specs.Graph.{Graph, Node, entry, merge, versionCount, ancestor, meet, isSome, everyVersion, parentsLower, mergeHasBase}
+use Rattle.graph.specs.declared.Node.{Node}
+use Rattle.graph.specs.declared.Node.the-variants.{Entry, Merge}
+use Rattle.graph.specs.Graph.{Graph, versionCount, ancestor, meet, isSome, everyVersion, parentsLower, mergeHasBase}
 use Rattle.command.specs.Code.{consoleCount, within, isEntryCode, isStrip, isOperand}
+use Rattle.room.specs.declared.Settings.{Settings}
 use Rattle.room.specs.Room.{Room, headOf, present, head}
 
 -- "Capacity, 1 to 1,024, counts versions, version 0 included."
@@ -17,10 +20,14 @@ maxCapacity = 1024
 abbrev pub isCapacity : ℕ → Bool
 isCapacity capacity = within 1 maxCapacity capacity
 
+-- a room can be set to these
+abbrev pub settingsInRange : Settings → Bool
+settingsInRange settings = isCapacity (settings .capacity)
+
 -- "entry codes, strips and operands are in range"
 abbrev pub entryInRange : Graph → Node → Bool
-entryInRange g (entry p code strip operand) = isEntryCode code && isStrip strip && isOperand code operand
-entryInRange g (merge p q) = true
+entryInRange g (Entry p code strip operand) = isEntryCode code && isStrip (strip .0) && isOperand code operand
+entryInRange g (Merge p q) = true
 
 -- a head names a version
 abbrev pub namesVersion : Graph → Option ℕ → Bool
@@ -52,5 +59,5 @@ soundRoom r =
     && eqb (length (r .heads)) consoleCount && headsNameVersions r && headsMeet r
     && present r 0
     && allBehindHeads r
-    && isCapacity (r .capacity) && leb (versionCount (r .versions)) (r .capacity)
+    && settingsInRange (r .settings) && leb (versionCount (r .versions)) (r .settings .capacity)
     && everyVersion entryInRange (r .versions)

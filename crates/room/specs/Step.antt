@@ -1,12 +1,13 @@
 -- What each command does to a room, and the refusals 12 to 18 in their order.
 use Prim.Native.Nat.{ℕ}
 use mathlib.Core.Bool.{Bool, not, _&&_, _||_}
-use mathlib.Core.List.{[], _∷_}
+use mathlib.Core.List.{List, [], _∷_, _++_}
 use mathlib.Core.Option.{Option, some}
-use lib.Dec.{eqb, leb}
+use lib.Dec.{eqb, ltb}
 use lib.ListN.{set}
 use Rattle.graph.specs.Below.{someBelow}
-use Rattle.graph.specs.Graph.{Node, entry, merge, versionCount, ancestor}
+use Rattle.graph.specs.declared.Node.{Node}
+use Rattle.graph.specs.Graph.{entry, merge, versionCount, ancestor}
 use Rattle.command.specs.declared.Command.{Command}
 use Rattle.command.specs.declared.Command.the-variants.{Fork, Entry, Merge, FastForward}
 use Rattle.refusal.specs.Refusal.{_when_, firstRefusal}
@@ -33,39 +34,58 @@ splits r receiver giver k =
 abbrev pub someThirdSplits : Room → ℕ → ℕ → Bool
 someThirdSplits r receiver giver = someBelow consoleCount (splits r receiver giver)
 
--- "18 entry or merge: no version left."
-abbrev pub full : Room → Bool
-full r = leb (r .capacity) (versionCount (r .versions))
+-- "18 entry or merge: no version left.": a version is left
+abbrev pub versionLeft : Room → Bool
+versionLeft r = ltb (versionCount (r .versions)) (r .settings .capacity)
 
--- The first refusal that applies, or 0. "12 a named console is absent (fork: the old one). 13 fork's new console is present. 14 merge or fast-forward: giver's head is an ancestor of
+-- The tests of a command in the state of a room, in their order, given whether a version is left: 18 asks for nothing else. "12 a named
+-- console is absent (fork: the old one). 13 fork's new console is present. 14 merge or fast-forward: giver's head is an ancestor of
 -- receiver's. 15 merge: receiver's head is an ancestor of giver's. 16 fast-forward: receiver's head isn't an ancestor of giver's."
+abbrev pub receiverGiverTests : Room → ℕ → ℕ → List (ℕ × Bool)
+receiverGiverTests r receiver giver =
+    12 when (absent r receiver || absent r giver)
+    ∷ 14 when behind r giver receiver
+    ∷ []
+
+abbrev pub forkTests : Room → ℕ → ℕ → List (ℕ × Bool)
+forkTests r new old = 12 when absent r old ∷ 13 when present r new ∷ []
+
+abbrev pub entryTests : Room → Bool → ℕ → List (ℕ × Bool)
+entryTests r left console = 12 when absent r console ∷ 18 when not left ∷ []
+
+abbrev pub mergeTests : Room → Bool → ℕ → ℕ → List (ℕ × Bool)
+mergeTests r left receiver giver =
+    receiverGiverTests r receiver giver
+    ++ (15 when behind r receiver giver
+    ∷ 17 when someThirdSplits r receiver giver
+    ∷ 18 when not left
+    ∷ [])
+
+abbrev pub fastForwardTests : Room → ℕ → ℕ → List (ℕ × Bool)
+fastForwardTests r receiver giver =
+    receiverGiverTests r receiver giver
+    ++ (16 when not (behind r receiver giver)
+    ∷ [])
+
+unfoldable pub stateTests : Room → Bool → Command → List (ℕ × Bool)
+stateTests r left (Fork new old) = forkTests r (new .0) (old .0)
+stateTests r left (Entry console code strip operand) = entryTests r left (console .0)
+stateTests r left (Merge receiver giver) = mergeTests r left (receiver .0) (giver .0)
+stateTests r left (FastForward receiver giver) = fastForwardTests r (receiver .0) (giver .0)
+
+-- the first refusal that applies, or 0
 unfoldable pub stepRefusal : Room → Command → ℕ
-stepRefusal r (Fork new old) = firstRefusal (12 when absent r (old .0) ∷ 13 when present r (new .0) ∷ [])
-stepRefusal r (Entry console code strip operand) = firstRefusal (12 when absent r (console .0) ∷ 18 when full r ∷ [])
-stepRefusal r (Merge receiver giver) =
-    firstRefusal
-    (12 when (absent r (receiver .0) || absent r (giver .0))
-    ∷ 14 when behind r (giver .0) (receiver .0)
-    ∷ 15 when behind r (receiver .0) (giver .0)
-    ∷ 17 when someThirdSplits r (receiver .0) (giver .0)
-    ∷ 18 when full r
-    ∷ [])
-stepRefusal r (FastForward receiver giver) =
-    firstRefusal
-    (12 when (absent r (receiver .0) || absent r (giver .0))
-    ∷ 14 when (behind r (giver .0) (receiver .0))
-    ∷ 16 when not (behind r (receiver .0) (giver .0))
-    ∷ [])
+stepRefusal r c = firstRefusal (stateTests r (versionLeft r) c)
 
 -- console c moves to the head given
 abbrev pub moved : Room → ℕ → Option ℕ → Room
-moved r c h = record { capacity = r .capacity; versions = r .versions; heads = set (r .heads) c h }
+moved r c h = record { settings = r .settings; versions = r .versions; heads = set (r .heads) c h }
 
 -- console c moves to a new version
 abbrev pub grown : Room → ℕ → Node → Room
 grown r c n =
     record {
-      capacity = r .capacity;
+      settings = r .settings;
       versions = n ∷ r .versions;
       heads = set (r .heads) c (some (versionCount (r .versions)));
     }

@@ -1,1 +1,6 @@
-// The room: capacity, versions and heads; what a sound room is and what each command does to it.
+// A room without its bytes: what it is set to, what is sound, what each command does. The rest of it is definitions and theorems.
+
+// What a room is set to for good when it is opened: the most versions that it may hold.
+pub struct Settings {
+    pub capacity: usize,
+}

@@ -14,7 +14,9 @@ use Rattle.buffer.specs.Row.{row}
 use Rattle.buffer.proofs.Fields.{zeros-length}
 use Rattle.buffer.proofs.Stands.{Stands, stands-left, stands-right}
 use Rattle.buffer.proofs.Rows.{rowFrom-length}
-use Rattle.graph.specs.Graph.{Graph, Node, entry, merge, versionCount, ancestor, isEntry, nodeOf}
+use Rattle.graph.specs.declared.Node.{Node}
+use Rattle.graph.specs.declared.Node.the-variants.{Entry, Merge}
+use Rattle.graph.specs.Graph.{Graph, entry, merge, versionCount, ancestor, isEntry, nodeOf}
 use Rattle.command.specs.Code.{consoleCount}
 use Rattle.room.specs.Room.{Room}
 use Rattle.room.specs.Boards.{boardOf}
@@ -40,8 +42,8 @@ header-length r =
 pub nodeBytes-length : (g : Graph) (n : Option Node) → length (nodeBytes g n) ≡ nodeSize
 unfolding nodeBytes
 nodeBytes-length g none = refl
-nodeBytes-length g (some (entry p code strip operand)) = refl
-nodeBytes-length g (some (merge p q)) = refl
+nodeBytes-length g (some (Entry p code strip operand)) = refl
+nodeBytes-length g (some (Merge p q)) = refl
 
 pub block-length : (g : Graph) (v : ℕ) → length (block g v) ≡ blockSize
 unfolding block
@@ -120,7 +122,7 @@ module _ {s : List ℕ} (g : Graph) (v : ℕ) (h : Stands s (blockAt v) (block g
 
 -- the start of a header, up to the row of the entry versions; that row; the table
 abbrev start : Room → List ℕ
-start r = word (r .capacity) ++ word (versionCount (r .versions)) ++ zeros (entriesAt - 4)
+start r = word (r .settings .capacity) ++ word (versionCount (r .versions)) ++ zeros (entriesAt - 4)
 
 abbrev entries : Room → List ℕ
 entries r = row (isEntry (r .versions)) rowSize
@@ -135,7 +137,7 @@ filled r = blocks (r .versions) (versionCount (r .versions))
 module _ {s : List ℕ} (r : Room) (h : Stands s 0 (encode r)) where
   stands-used : Stands s 0 (header r ++ filled r)
   unfolding encode
-  stands-used = stands-left (header r ++ filled r) (zeros (blockSize * (r .capacity - versionCount (r .versions)))) h
+  stands-used = stands-left (header r ++ filled r) (zeros (blockSize * (r .settings .capacity - versionCount (r .versions)))) h
 
   pub stands-header : Stands s 0 (header r)
   stands-header = stands-left (header r) (filled r) stands-used
@@ -147,14 +149,14 @@ module _ {s : List ℕ} (r : Room) (h : Stands s 0 (encode r)) where
   stands-start : Stands s 0 (start r)
   stands-start = stands-left (start r) (entries r) (stands-left (start r ++ entries r) (table r) stands-fields)
 
-  pub stands-capacity : Stands s capacityAt (word (r .capacity))
+  pub stands-capacity : Stands s capacityAt (word (r .settings .capacity))
   stands-capacity =
-      stands-left (word (r .capacity)) (word (versionCount (r .versions)) ++ zeros (entriesAt - 4)) stands-start
+      stands-left (word (r .settings .capacity)) (word (versionCount (r .versions)) ++ zeros (entriesAt - 4)) stands-start
 
   pub stands-count : Stands s countAt (word (versionCount (r .versions)))
   stands-count =
       stands-left (word (versionCount (r .versions))) (zeros (entriesAt - 4))
-      (stands-right (word (r .capacity)) (word (versionCount (r .versions)) ++ zeros (entriesAt - 4)) stands-start refl)
+      (stands-right (word (r .settings .capacity)) (word (versionCount (r .versions)) ++ zeros (entriesAt - 4)) stands-start refl)
 
   pub stands-entries : Stands s entriesAt (row (isEntry (r .versions)) rowSize)
   stands-entries = stands-right (start r) (entries r) (stands-left (start r ++ entries r) (table r) stands-fields) refl

@@ -80,14 +80,14 @@ module _ (s : List ℕ) where
       (same-of _ _ (k .behind)))
 
   -- the test, of the room's own capacity and number of versions
-  pub right-checks : storeRight s ≡ true → Checks s (roomIn s .capacity) (versionCount (roomIn s .versions))
+  pub right-checks : storeRight s ≡ true → Checks s (roomIn s .settings .capacity) (versionCount (roomIn s .versions))
   unfolding roomIn
   right-checks h =
       let k = fields-checks h in
       let e = versions-length s (pred (wordAt s countAt)) in
       subst (Checks s (wordAt s capacityAt)) (omega (arith, k .some)) k
 
-  pub checks-right : Checks s (roomIn s .capacity) (versionCount (roomIn s .versions)) → storeRight s ≡ true
+  pub checks-right : Checks s (roomIn s .settings .capacity) (versionCount (roomIn s .versions)) → storeRight s ≡ true
   unfolding roomIn
   checks-right k = checks-fields (subst (Checks s (wordAt s capacityAt)) (sym (k .count)) k)
 

@@ -42,7 +42,7 @@ module _ (s : List ℕ) (t : holdsStore s ≡ true) where
       let f = sound .behind v l in
       some-of consoleCount _ (f .0) (present-console r (f .0) (sound .sixteen) (f .1)) (and-i _ _ (f .1) (f .2))
 
-  hold-checks : Checks s (r .capacity) (versionCount g)
+  hold-checks : Checks s (r .settings .capacity) (versionCount g)
   hold-checks =
       record {
         known = sound .capacity;
@@ -54,7 +54,7 @@ module _ (s : List ℕ) (t : holdsStore s ≡ true) where
         rest = stands-zero commonsEnd (headerSize - commonsEnd) (stands-rest r (whole-front s t));
         versions = held-versions s (length g) (whole-small s t) (rw own-versions (whole-held s t));
         none = rw (whole-entries s t) (none-row (isEntry g) rowSize (versionCount g) (no-entry g));
-        free = stands-zero (blockAt (versionCount g)) (blockSize * (r .capacity - versionCount g)) (stands-free r (whole-front s t));
+        free = stands-zero (blockAt (versionCount g)) (blockSize * (r .settings .capacity - versionCount g)) (stands-free r (whole-front s t));
         consoles = fields-consoles s r (own-heads s) (whole-small s t) (whole-held s t) (whole-fields s t);
         first = lt-ltb 0 (commonIn s 0 0) (let x = eqb-false (commonIn s 0 0) 0 (not-zero s r (own-heads s) 0 (omega arith) (sound .first)) in omega arith);
         behind = behind-row s r (own-heads s) (rowPart s) (λ v l. whole-held s t .told v l .line) (whole-low s t) ∙ behind-all r behind;

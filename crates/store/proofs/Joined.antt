@@ -62,20 +62,20 @@ join-block g v a b c =
 
 -- the parts of an encoding, each in its place
 pub record Placed (s : List ℕ) (r : Room) : Type 0 where
-  pub capacity : Stands s capacityAt (word (r .capacity))
+  pub capacity : Stands s capacityAt (word (r .settings .capacity))
   pub count : Stands s countAt (word (versionCount (r .versions)))
   pub gap : Stands s (countAt + 2) (zeros (entriesAt - (countAt + 2)))
   pub entries : Stands s entriesAt (row (isEntry (r .versions)) rowSize)
   pub commons : (c d : ℕ) → c < consoleCount → d < consoleCount → Stands s (commonAt c d) (word (commonField r c d))
   pub rest : Stands s commonsEnd (zeros (headerSize - commonsEnd))
   pub versions : (v : ℕ) → v < versionCount (r .versions) → Stands s (blockAt v) (block (r .versions) v)
-  pub free : Stands s (blockAt (versionCount (r .versions))) (zeros (blockSize * (r .capacity - versionCount (r .versions))))
+  pub free : Stands s (blockAt (versionCount (r .versions))) (zeros (blockSize * (r .settings .capacity - versionCount (r .versions))))
 
 abbrev gap : List ℕ
 gap = zeros (entriesAt - (countAt + 2))
 
 abbrev start : Room → List ℕ
-start r = word (r .capacity) ++ word (versionCount (r .versions)) ++ gap
+start r = word (r .settings .capacity) ++ word (versionCount (r .versions)) ++ gap
 
 abbrev entries : Room → List ℕ
 entries r = row (isEntry (r .versions)) rowSize
@@ -100,7 +100,7 @@ module _ {s : List ℕ} (r : Room) where
       stands-join (start r ++ entries r ++ table r) (zeros (headerSize - commonsEnd))
       (stands-join (start r ++ entries r) (table r)
       (stands-join (start r) (entries r)
-      (stands-join (word (r .capacity)) (word (versionCount (r .versions)) ++ gap) (p .capacity)
+      (stands-join (word (r .settings .capacity)) (word (versionCount (r .versions)) ++ gap) (p .capacity)
       (stands-join (word (versionCount (r .versions))) gap (p .count) (p .gap) refl) refl)
       (p .entries) refl)
       (join-commons commonsAt (p .commons)) (simp rowFrom-length))
@@ -109,7 +109,7 @@ module _ {s : List ℕ} (r : Room) where
   pub join-encode : Placed s r → Stands s 0 (encode r)
   unfolding encode
   join-encode p =
-      stands-join (used r) (zeros (blockSize * (r .capacity - versionCount (r .versions))))
+      stands-join (used r) (zeros (blockSize * (r .settings .capacity - versionCount (r .versions))))
       (stands-join (header r) (blocks (r .versions) (versionCount (r .versions))) (join-header p) (join-blocks (r .versions) (versionCount (r .versions)) (p .versions)) (rw header-length))
       (p .free)
       (simp (length-append, header-length, blocks-length) (omega arith))
@@ -125,16 +125,16 @@ module _ {s : List ℕ} (r : Room) where
     pub stands-gap : Stands s (countAt + 2) (zeros (entriesAt - (countAt + 2)))
     unfolding header
     stands-gap =
-        stands-right (word (r .capacity) ++ word (versionCount (r .versions))) gap
+        stands-right (word (r .settings .capacity) ++ word (versionCount (r .versions))) gap
         (stands-left (start r) (entries r)
         (stands-left (start r ++ entries r) (table r)
         (stands-left (start r ++ entries r ++ table r) (zeros (headerSize - commonsEnd)) (stands-header r h))))
         refl
 
-    pub stands-free : Stands s (blockAt (versionCount (r .versions))) (zeros (blockSize * (r .capacity - versionCount (r .versions))))
+    pub stands-free : Stands s (blockAt (versionCount (r .versions))) (zeros (blockSize * (r .settings .capacity - versionCount (r .versions))))
     unfolding encode
     stands-free =
-        stands-right (used r) (zeros (blockSize * (r .capacity - versionCount (r .versions)))) h
+        stands-right (used r) (zeros (blockSize * (r .settings .capacity - versionCount (r .versions)))) h
         (simp (length-append, header-length, blocks-length) (omega arith))
 
     -- each part in its place again

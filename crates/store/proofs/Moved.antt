@@ -8,7 +8,8 @@ use mathlib.Core.Logic.{inl, inr}
 use Prim.Native.Nat.{ℕ, suc, pred, max, _≤_, _<_}
 use native.Mathlib.Omega.{arith}
 use Rattle.laws.proofs.Logic.{clash, refuted}
-use Rattle.graph.specs.Graph.{Node, entry, merge, versionCount, isSome}
+use Rattle.graph.specs.declared.Node.{Node}
+use Rattle.graph.specs.Graph.{entry, merge, versionCount, isSome}
 use Rattle.graph.proofs.Ancestor.{ancestor-le, ancestor-trans}
 use Rattle.graph.proofs.Meet.{Meet, meet-self, Meet-new}
 use Rattle.command.specs.Code.{consoleCount}

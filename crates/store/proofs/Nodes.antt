@@ -11,7 +11,8 @@ use lib.ListN.{getD}
 use Rattle.buffer.specs.Field.{byte, word, wordAt, zeros, part, allZero}
 use Rattle.buffer.proofs.Stands.{Stands, stands-left, stands-right, stands-field}
 use Rattle.buffer.proofs.Parts.{Bytes, stands-one, stands-join, word-stands, zero-stands, stands-zero}
-use Rattle.graph.specs.Graph.{Graph, Node, entry, merge, versionCount, baseOf}
+use Rattle.graph.specs.declared.Node.{Node}
+use Rattle.graph.specs.Graph.{Graph, entry, merge, versionCount, baseOf}
 use Rattle.room.specs.Sound.{maxCapacity}
 use Rattle.store.specs.Layout.{nodeSize, blockAt, nodeCodeAt, nodeStripAt, nodeOperandAt, nodeParentAt, nodeGiverAt, nodeBaseAt, nodeBytes}
 use Rattle.store.proofs.Diagonal.{meetNumber-below}

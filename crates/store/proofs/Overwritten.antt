@@ -14,8 +14,8 @@ use Rattle.room.specs.Sound.{soundRoom}
 use Rattle.store.specs.Layout.{storeSize, encode}
 use Rattle.store.proofs.RoundTrip.{encode-length}
 
-pub overwritten : (s s′ : List ℕ) (r : Room) → soundRoom r ≡ true → Stands s′ 0 (encode r) → storeSize (r .capacity) ≤ length s
-    → length s′ ≡ length s → ((k : ℕ) → storeSize (r .capacity) ≤ k → getD s′ k 0 ≡ getD s k 0) → s′ ≡ overwrite (encode r) s
+pub overwritten : (s s′ : List ℕ) (r : Room) → soundRoom r ≡ true → Stands s′ 0 (encode r) → storeSize (r .settings .capacity) ≤ length s
+    → length s′ ≡ length s → ((k : ℕ) → storeSize (r .settings .capacity) ≤ k → getD s′ k 0 ≡ getD s k 0) → s′ ≡ overwrite (encode r) s
 overwritten s s′ r sound front fits long kept =
     let n = encode-length r sound in
     stands-overwrite (encode r) s s′ front (omega arith) long (λ k l. kept k (omega arith))

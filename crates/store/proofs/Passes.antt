@@ -44,9 +44,9 @@ module _ (s : List ℕ) (b : Bytes s) where
   abbrev g : Graph
   g = r .versions
 
-  module _ (k : Checks s (r .capacity) (versionCount g)) where
+  module _ (k : Checks s (r .settings .capacity) (versionCount g)) where
     small : versionCount g ≤ maxCapacity
-    small = omega (arith, k .fits, within-true 1 maxCapacity (r .capacity) (k .known))
+    small = omega (arith, k .fits, within-true 1 maxCapacity (r .settings .capacity) (k .known))
 
     held : Held s g
     held = rw own-versions at (versions-held s (length g) b (omega (arith, k .long, k .fits)) small (k .versions))
@@ -110,14 +110,14 @@ module _ (s : List ℕ) (b : Bytes s) where
               let t = held .told v l in
               join-block g v (t .node) (part-stands rowSize (t .line) (rowFrom-length (λ u. ancestor g u v) 0 rowSize))
               (part-stands boardSize (t .board) (boardOf-length g v));
-          free = zero-stands (blockAt (versionCount g)) (blockSize * (r .capacity - versionCount g)) (k .free);
+          free = zero-stands (blockAt (versionCount g)) (blockSize * (r .settings .capacity - versionCount g)) (k .free);
         }
 
     checks-hold : holdsStore s ≡ true
     unfolding holdsStore roomIn
     checks-hold =
         let whole = facts-sound r sound in
-        let n = storeSize (r .capacity) in
+        let n = storeSize (r .settings .capacity) in
         and-i _ _ (and-i _ _ (le-leb n (length s) (k .long)) whole)
         (same-of (take n s) (encode r) (stands-part n (join-encode r parts) (encode-length r whole) (omega (arith, k .long))))
 

@@ -13,8 +13,8 @@ use Rattle.room.proofs.Sound.{sound-facts, heads-named}
 
 -- the ranges, clause by clause of soundness
 pub record Ranges (r : Room) : Type 0 where
-  pub capacity : r .capacity ≤ 1024
-  pub count : versionCount (r .versions) ≤ r .capacity
+  pub capacity : r .settings .capacity ≤ 1024
+  pub count : versionCount (r .versions) ≤ r .settings .capacity
   pub parents : everyVersion parentsLower (r .versions) ≡ true
   pub entries : everyVersion entryInRange (r .versions) ≡ true
   pub sixteen : length (r .heads) ≡ consoleCount
@@ -24,7 +24,7 @@ pub ranges : (r : Room) → soundRoom r ≡ true → Ranges r
 ranges r h =
     let k = sound-facts r h in
     record {
-      capacity = within-true 1 maxCapacity (r .capacity) (k .capacity) .1;
+      capacity = within-true 1 maxCapacity (r .settings .capacity) (k .capacity) .1;
       count = k .fits;
       parents = k .lower;
       entries = k .ranged;

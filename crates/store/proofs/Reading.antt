@@ -14,7 +14,9 @@ use borrow.Author.Tests.{leb-true, ltb-true, ne-eqb}
 use Rattle.laws.proofs.Logic.{and-l, and-r}
 use Rattle.buffer.specs.Field.{wordAt}
 use Rattle.buffer.proofs.Stands.{Stands, stands-first, stands-field, stands-word}
-use Rattle.graph.specs.Graph.{isSome, Graph, Node, entry, merge, versionCount, nodeOf, everyVersion, parentsLower}
+use Rattle.graph.specs.declared.Node.{Node}
+use Rattle.graph.specs.declared.Node.the-variants.{Entry, Merge}
+use Rattle.graph.specs.Graph.{isSome, Graph, entry, merge, versionCount, nodeOf, everyVersion, parentsLower}
 use Rattle.graph.proofs.Ancestor.{nodeOf-new, nodeOf-old}
 use Rattle.command.specs.Code.{consoleCount}
 use Rattle.room.specs.Room.{Room, headOf, present, head, common}
@@ -31,24 +33,24 @@ node-read : (s : List ℕ) (v : ℕ) (g before : Graph) (n : Node)
     → length before < 1024 → parentsLower before n ≡ true → entryInRange before n ≡ true
     → nodeIn s v ≡ n
 unfolding nodeBytes nodeIn
-node-read s v g before (entry p code strip operand) h l i j =
+node-read s v g before (Entry p code strip operand) h l i j =
     let a = leb-true 2 code (search (and-l, and-r)) in
     let b = leb-true code 8 (search (and-l, and-r)) in
-    let c = ltb-true strip 32 (search (and-l, and-r)) in
+    let c = ltb-true (strip .0) 32 (search (and-l, and-r)) in
     let d = operand-below code operand (search (and-l, and-r)) in
-    let e = ltb-true p (versionCount before) i in
+    let e = ltb-true (p .0) (versionCount before) i in
     let first : getD s (blockAt v) 0 ≡ code = stands-first h ∙ omega arith in
     let second : getD s (blockAt v + 1) 0 ≡ strip = h .read 1 (omega arith) ∙ omega arith in
     let third = stands-field h 2 operand (omega arith) refl refl (omega arith) in
-    let fourth = stands-field h 4 p (omega arith) refl refl (omega arith) in
+    let fourth = stands-field h 4 (p .0) (omega arith) refl refl (omega arith) in
     let other : eqb code 9 ≡ false = ne-eqb code 9 (omega arith) in
     cc
-node-read s v g before (merge p q) h l i j =
-    let a = ltb-true p (versionCount before) (search and-l) in
-    let b = ltb-true q (versionCount before) (search and-r) in
+node-read s v g before (Merge p q) h l i j =
+    let a = ltb-true (p .0) (versionCount before) (search and-l) in
+    let b = ltb-true (q .0) (versionCount before) (search and-r) in
     let first : getD s (blockAt v) 0 ≡ 9 = stands-first h in
-    let third = stands-field h 4 p (omega arith) refl refl (omega arith) in
-    let fourth = stands-field h 6 q (omega arith) refl refl (omega arith) in
+    let third = stands-field h 4 (p .0) (omega arith) refl refl (omega arith) in
+    let fourth = stands-field h 6 (q .0) (omega arith) refl refl (omega arith) in
     cc
 
 -- the versions of h read back where their records stand, whatever graph g the bases are taken from
@@ -90,8 +92,8 @@ field-self r c none e n = refl
 field-self r c (some v) e n = ap some (rw e (meetNumber-self (r .versions) v (ltb-true v (versionCount (r .versions)) n)))
 
 module _ (s : List ℕ) (r : Room) (h : Stands s 0 (encode r)) (k : Ranges r) where
-  pub capacity-read : wordAt s capacityAt ≡ r .capacity
-  capacity-read = stands-word (r .capacity) (stands-capacity r h) (omega arith)
+  pub capacity-read : wordAt s capacityAt ≡ r .settings .capacity
+  capacity-read = stands-word (r .settings .capacity) (stands-capacity r h) (omega arith)
 
   pub count-read : wordAt s countAt ≡ versionCount (r .versions)
   count-read = stands-word (versionCount (r .versions)) (stands-count r h) (omega arith)

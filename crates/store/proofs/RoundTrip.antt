@@ -21,7 +21,7 @@ use Rattle.store.proofs.Blocks.{header-length, blocks-length}
 use Rattle.store.proofs.Ranges.{ranges}
 use Rattle.store.proofs.Reading.{capacity-read, count-read, versions-read, heads-read}
 
-pub encode-length : (r : Room) → soundRoom r ≡ true → length (encode r) ≡ storeSize (r .capacity)
+pub encode-length : (r : Room) → soundRoom r ≡ true → length (encode r) ≡ storeSize (r .settings .capacity)
 unfolding encode
 encode-length r h =
     let k = ranges r h in
@@ -44,7 +44,7 @@ pub holds-encode : (r : Room) (rest : List ℕ) → soundRoom r ≡ true → hol
 unfolding holdsStore
 holds-encode r rest h =
     let s = encode r ++ rest in
-    let n = storeSize (r .capacity) in
+    let n = storeSize (r .settings .capacity) in
     let l = encode-length r h in
     let fits = le-leb n (length s) (rw length-append (omega arith)) in
     rw (capacity-read s r (stands-front (encode r) rest) (ranges r h), room-encode r rest h, take-at (encode r) rest n l)
@@ -57,7 +57,7 @@ unfolding holdsStore
 holds-sound s h = search (and-l, and-r)
 
 -- and begin with its encoding
-pub holds-front : (s : List ℕ) → holdsStore s ≡ true → s ≡ encode (roomIn s) ++ drop (storeSize (roomIn s .capacity)) s
+pub holds-front : (s : List ℕ) → holdsStore s ≡ true → s ≡ encode (roomIn s) ++ drop (storeSize (roomIn s .settings .capacity)) s
 unfolding holdsStore roomIn
 holds-front s h =
     let n = storeSize (wordAt s capacityAt) in

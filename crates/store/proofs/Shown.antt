@@ -12,7 +12,9 @@ use lib.Dec.{eqb}
 use Rattle.laws.proofs.Logic.{refuted}
 use Rattle.buffer.specs.Row.{row}
 use Rattle.buffer.proofs.Sets.{row-ext}
-use Rattle.graph.specs.Graph.{Graph, Node, entry, merge, versionCount, someParent, ancestor, nodeOf, entryNode, isEntry, baseOf, everyVersion, parentsLower}
+use Rattle.graph.specs.declared.Node.{Node}
+use Rattle.graph.specs.declared.Node.the-variants.{Entry, Merge}
+use Rattle.graph.specs.Graph.{Graph, entry, merge, versionCount, someParent, ancestor, nodeOf, entryNode, isEntry, baseOf, everyVersion, parentsLower}
 use Rattle.graph.proofs.Ancestor.{every-new, every-old, ancestor-new, ancestor-old, nodeOf-new, nodeOf-old, nodeOf-named, isEntry-new, isEntry-old, isEntry-named}
 use Rattle.graph.proofs.Parent.{Parent, parent-lower, receiver, giver}
 use Rattle.graph.proofs.Meet.{meet-old}
@@ -43,8 +45,8 @@ made g n =
 -- parents that are versions have the base that they had
 node-kept : (n m : Node) (g : Graph) → ((p : ℕ) → Parent m p → p < versionCount g) → nodeBytes (n ∷ g) (some m) ≡ nodeBytes g (some m)
 unfolding nodeBytes
-node-kept n (entry p code strip operand) g h = refl
-node-kept n (merge p q) g h = rw (meet-old n g p q (h p receiver) (h q giver))
+node-kept n (Entry p code strip operand) g h = refl
+node-kept n (Merge p q) g h = rw (meet-old n g (p .0) (q .0) (h (p .0) receiver) (h (q .0) giver))
 
 node-lower : (g : Graph) (v : ℕ) (m : Node) → everyVersion parentsLower g ≡ true → nodeOf g v ≡ some m → (p : ℕ) → Parent m p → p < versionCount g
 node-lower [] v m h e p r = absurd (omega (arith, nodeOf-named [] v m e))

@@ -10,7 +10,8 @@ use native.Mathlib.Omega.{arith}
 use Rattle.laws.proofs.Logic.{and-i}
 use Rattle.buffer.specs.Row.{member, intersection}
 use Rattle.buffer.proofs.Stands.{Stands}
-use Rattle.graph.specs.Graph.{Graph, Node, versionCount, everyVersion, parentsLower, mergeHasBase}
+use Rattle.graph.specs.declared.Node.{Node}
+use Rattle.graph.specs.Graph.{Graph, versionCount, everyVersion, parentsLower, mergeHasBase}
 use Rattle.graph.proofs.Ancestor.{every-new, every-old, ancestor-below}
 use Rattle.graph.proofs.Meet.{Meet}
 use Rattle.room.specs.Sound.{maxCapacity, entryInRange}

@@ -39,7 +39,7 @@ module _ (s : List ℕ) (t : holdsStore s ≡ true) where
   pub whole-front : Stands s 0 (encode (roomIn s))
   whole-front = subst (λ (u : List ℕ). Stands u 0 (encode (roomIn s))) (sym (holds-front s t)) (stands-front (encode (roomIn s)) _)
 
-  pub whole-long : storeSize (roomIn s .capacity) ≤ length s
+  pub whole-long : storeSize (roomIn s .settings .capacity) ≤ length s
   unfolding holdsStore roomIn
   whole-long = leb-true _ _ (search (and-l, and-r))
 

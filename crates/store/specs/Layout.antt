@@ -9,7 +9,9 @@ use lib.ListN.{length, getD, take}
 use Rattle.buffer.specs.Field.{byte, word, wordAt, zeros, same}
 use Rattle.buffer.specs.Row.{row}
 use Rattle.board.specs.Board.{boardSize}
-use Rattle.graph.specs.Graph.{Graph, Node, entry, merge, versionCount, ancestor, isEntry, nodeOf, baseOf}
+use Rattle.graph.specs.declared.Node.{Node}
+use Rattle.graph.specs.declared.Node.the-variants.{Entry, Merge}
+use Rattle.graph.specs.Graph.{Graph, entry, merge, versionCount, ancestor, isEntry, nodeOf, baseOf}
 use Rattle.command.specs.Code.{consoleCount}
 use Rattle.room.specs.Room.{Room, present, common}
 use Rattle.room.specs.Sound.{maxCapacity, soundRoom}
@@ -107,7 +109,7 @@ commonTable r c (suc n) = commonFields r c 0 consoleCount ++ commonTable r (suc 
 
 unfoldable pub header : Room → List ℕ
 header r =
-    word (r .capacity) ++ word (versionCount (r .versions)) ++ zeros (entriesAt - (countAt + 2))
+    word (r .settings .capacity) ++ word (versionCount (r .versions)) ++ zeros (entriesAt - (countAt + 2))
     ++ row (isEntry (r .versions)) rowSize
     ++ commonTable r 0 consoleCount
     ++ zeros (headerSize - commonsEnd)
@@ -122,8 +124,8 @@ mergeNodeBytes p q l = 0x09 ∷ 0 ∷ 0 ∷ 0 ∷ word p ++ word q ++ word l ++ 
 
 unfoldable pub nodeBytes : Graph → Option Node → List ℕ
 nodeBytes g none = zeros nodeSize
-nodeBytes g (some (entry p code strip operand)) = entryNodeBytes p code strip operand
-nodeBytes g (some (merge p q)) = mergeNodeBytes p q (baseOf g p q)
+nodeBytes g (some (Entry p code strip operand)) = entryNodeBytes (p .0) code (strip .0) operand
+nodeBytes g (some (Merge p q)) = mergeNodeBytes (p .0) (q .0) (baseOf g (p .0) (q .0))
 
 -- the block of version v of a graph
 unfoldable pub block : Graph → ℕ → List ℕ
@@ -139,7 +141,7 @@ unfoldable pub encode : Room → List ℕ
 encode r =
     header r
     ++ blocks (r .versions) (versionCount (r .versions))
-    ++ zeros (blockSize * (r .capacity - versionCount (r .versions)))
+    ++ zeros (blockSize * (r .settings .capacity - versionCount (r .versions)))
 
 -- Reading a room off bytes: the fields as they stand, whatever they hold.
 unfoldable pub nodeIn : List ℕ → ℕ → Node

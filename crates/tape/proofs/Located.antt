@@ -11,7 +11,8 @@ use lib.Seq.{drop-at}
 use borrow.Author.Tests.{le-ltb}
 use Rattle.laws.proofs.Logic.{cond-false}
 use Rattle.laws.proofs.Lists.{all-first, none-first, one-more}
-use Rattle.graph.specs.Graph.{Graph, Node, merge, versionCount, nodeOf}
+use Rattle.graph.specs.declared.Node.{Node}
+use Rattle.graph.specs.Graph.{Graph, merge, versionCount, nodeOf}
 use Rattle.graph.proofs.Ancestor.{nodeOf-new, nodeOf-old}
 use Rattle.tape.specs.declared.Record.{Record}
 use Rattle.tape.specs.declared.Record.the-variants.{Start, End}
@@ -110,10 +111,10 @@ pub record HeadAt (tape : List ℕ) (t : Content) (j : ℕ) (h : ℕ × ℕ) : T
   pub record-at : RecordAt tape (headPlace t j) (headRecord h) (headPlace t (suc j))
 
 module _ (tape : List ℕ) (t : Content) (bytes : Bytes tape) (says : contentOf tape ≡ some t) where
-  in-versions : tape ≡ recordBytes (Start (t .capacity)) ++ (versionRecords (t .versions) ++ (headBytes (t .heads) ++ recordBytes End))
+  in-versions : tape ≡ recordBytes (Start (t .settings .capacity)) ++ (versionRecords (t .versions) ++ (headBytes (t .heads) ++ recordBytes End))
   in-versions = tape-written tape t bytes says ∙ simp append-assoc
 
-  in-heads : tape ≡ (recordBytes (Start (t .capacity)) ++ versionRecords (t .versions)) ++ (headBytes (t .heads) ++ recordBytes End)
+  in-heads : tape ≡ (recordBytes (Start (t .settings .capacity)) ++ versionRecords (t .versions)) ++ (headBytes (t .heads) ++ recordBytes End)
   in-heads = tape-written tape t bytes says ∙ simp append-assoc
 
   -- past the start record stands the record of version 1, or the first head where there is no version after 0
@@ -121,7 +122,7 @@ module _ (tape : List ℕ) (t : Content) (bytes : Bytes tape) (says : contentOf 
   unfolding recordBytes
   start-past =
       rw in-versions
-      (record-between [] (versionRecords (t .versions) ++ (headBytes (t .heads) ++ recordBytes End)) (Start (t .capacity)) 0 (versionPlace (t .versions) 0) (tape-fits tape t bytes says .capacity) refl
+      (record-between [] (versionRecords (t .versions) ++ (headBytes (t .heads) ++ recordBytes End)) (Start (t .settings .capacity)) 0 (versionPlace (t .versions) 0) (tape-fits tape t bytes says .capacity) refl
       (sym (first-place (t .versions))) .past)
 
   pub version-at : (k : ℕ) → k < length (t .versions) → VersionAt tape (t .versions) k (nextNode (t .versions) k)
@@ -137,7 +138,7 @@ module _ (tape : List ℕ) (t : Content) (bytes : Bytes tape) (says : contentOf 
         node = rw count at node;
         record-at =
             rw in-versions
-            (in-sequence versionRecord versionRecords refl (λ x before. refl) (recordBytes (Start (t .capacity))) _ g (merge 0 0) k (tape-fits tape t bytes says .versions) l);
+            (in-sequence versionRecord versionRecords refl (λ x before. refl) (recordBytes (Start (t .settings .capacity))) _ g (merge 0 0) k (tape-fits tape t bytes says .versions) l);
       }
 
   pub head-at : (j : ℕ) → j < length (t .heads) → HeadAt tape t j (nextHead (t .heads) j)
@@ -145,7 +146,7 @@ module _ (tape : List ℕ) (t : Content) (bytes : Bytes tape) (says : contentOf 
   head-at j l =
       let g = t .versions in
       let heads = t .heads in
-      let front : List ℕ = recordBytes (Start (t .capacity)) ++ versionRecords g in
+      let front : List ℕ = recordBytes (Start (t .settings .capacity)) ++ versionRecords g in
       let far : (k : ℕ) → k ≤ length heads → length front + length (headBytes (firstHeads k heads)) ≡ headPlace t k =
       λ k le. rw (head-bytes-length, all-first g) (omega (arith, length-drop (length heads - k) heads))
       in

@@ -11,7 +11,9 @@ use lib.Dec.{eqb, ltb}
 use lib.ListN.{length, getD, drop, length-append}
 use borrow.Author.Tests.{ltb-true}
 use Rattle.laws.proofs.Logic.{clash, and-l, and-r}
-use Rattle.graph.specs.Graph.{Graph, Node, entry, merge, versionCount, isSome, everyVersion, parentsLower}
+use Rattle.graph.specs.declared.Node.{Node}
+use Rattle.graph.specs.declared.Node.the-variants.{Entry, Merge}
+use Rattle.graph.specs.Graph.{Graph, entry, merge, versionCount, isSome, everyVersion, parentsLower}
 use Rattle.command.specs.Code.{consoleCount, shapeOf, lengthOf}
 use Rattle.command.proofs.Limits.{entry-below}
 use Rattle.room.specs.Sound.{entryInRange}
@@ -24,7 +26,7 @@ use Rattle.tape.proofs.Heads.{headsFrom, Named, named-tail}
 
 -- a content with other heads
 abbrev pub withHeads : Content → List (ℕ × ℕ) → Content
-withHeads t heads = record { capacity = t .capacity; versions = t .versions; heads = heads }
+withHeads t heads = record { capacity = t .settings .capacity; versions = t .versions; heads = heads }
 
 -- one step of reading, over what the record at the front says of it
 abbrev pub go : ℕ → Content → List ℕ → Next → Option Content
@@ -46,24 +48,24 @@ read-one k stage next t more x rest fits e =
     read-step k stage t (recordBytes x ++ rest) (goOn next more) (rw (record-read x rest fits) e) ∙ rw (record-rest x rest fits)
 
 node-fits : (g : Graph) (n : Node) → parentsLower g n ≡ true → entryInRange g n ≡ true → length g < 65535 → Fits (versionRecord n)
-node-fits g (entry p code strip operand) lower range l =
-    let below = entry-below code strip operand range in omega (arith, ltb-true p (versionCount g) lower)
-node-fits g (merge p q) lower range l =
-    omega (arith, ltb-true p (versionCount g) (and-l _ _ lower), ltb-true q (versionCount g) (and-r (ltb p (versionCount g)) _ lower))
+node-fits g (Entry p code strip operand) lower range l =
+    let below = entry-below code (strip .0) operand range in omega (arith, ltb-true (p .0) (versionCount g) lower)
+node-fits g (Merge p q) lower range l =
+    omega (arith, ltb-true (p .0) (versionCount g) (and-l _ _ lower), ltb-true (q .0) (versionCount g) (and-r (ltb (p .0) (versionCount g)) _ lower))
 
 reads-version : (capacity : ℕ) (g : Graph) (n : Node)
     → afterRecord inVersions (record { capacity = capacity; versions = g; heads = [] }) (versionRecord n)
     ≡ goOn inVersions (record { capacity = capacity; versions = n ∷ g; heads = [] })
 unfolding afterRecord
-reads-version capacity g (entry p code strip operand) = refl
-reads-version capacity g (merge p q) = refl
+reads-version capacity g (Entry p code strip operand) = refl
+reads-version capacity g (Merge p q) = refl
 
 -- each version takes a byte at least
 pub versions-long : (g : Graph) → length g ≤ length (versionRecords g)
 unfolding versionRecords recordBytes
 versions-long [] = omega arith
-versions-long (entry p code strip operand ∷ g) = simp length-append (omega (arith, versions-long g))
-versions-long (merge p q ∷ g) = simp length-append (omega (arith, versions-long g))
+versions-long (Entry p code strip operand ∷ g) = simp length-append (omega (arith, versions-long g))
+versions-long (Merge p q ∷ g) = simp length-append (omega (arith, versions-long g))
 
 pub read-versions : (g : Graph) (k capacity : ℕ) (rest : List ℕ) → everyVersion parentsLower g ≡ true
     → everyVersion entryInRange g ≡ true → length g < 65536

@@ -25,10 +25,10 @@ use Rattle.tape.proofs.Reading.{read-versions, versions-long, read-all-
 
 -- what the tape of a room says
 abbrev pub contentIn : Room → Content
-contentIn r = record { capacity = r .capacity; versions = r .versions; heads = headsFrom 0 (r .heads) [] }
+contentIn r = record { capacity = r .settings .capacity; versions = r .versions; heads = headsFrom 0 (r .heads) [] }
 
 tape-parts : (r : Room)
-    → tapeOf r ≡ recordBytes (Start (r .capacity)) ++ (versionRecords (r .versions) ++ (headRecords 0 (r .heads) ++ recordBytes End))
+    → tapeOf r ≡ recordBytes (Start (r .settings .capacity)) ++ (versionRecords (r .versions) ++ (headRecords 0 (r .heads) ++ recordBytes End))
 unfolding tapeOf
 tape-parts r = simp append-assoc
 
@@ -39,25 +39,25 @@ module _ (r : Room) (s : soundRoom r ≡ true) where
   named-heads : Named (r .versions) (r .heads)
   named-heads c l = heads-named r s c (omega (arith, k .sixteen))
 
-  small : (r .capacity ≤ maxCapacity) × (length (r .versions) < maxCapacity)
-  small = omega (arith, k .fits, within-true 1 maxCapacity (r .capacity) (k .capacity))
+  small : (r .settings .capacity ≤ maxCapacity) × (length (r .versions) < maxCapacity)
+  small = omega (arith, k .fits, within-true 1 maxCapacity (r .settings .capacity) (k .capacity))
 
   read-parts : (fuel : ℕ) → length (versionRecords (r .versions)) + length (headRecords 0 (r .heads)) < fuel
-      → readOn fuel inVersions (record { capacity = r .capacity; versions = []; heads = [] })
+      → readOn fuel inVersions (record { capacity = r .settings .capacity; versions = []; heads = [] })
       (versionRecords (r .versions) ++ (headRecords 0 (r .heads) ++ recordBytes End))
       ≡ some (contentIn r)
   read-parts fuel enough =
       let long = versions-long (r .versions) in
       let split : fuel ≡ length (r .versions) + (fuel - length (r .versions)) = omega arith in
       rw split
-      (read-versions (r .versions) (fuel - length (r .versions)) (r .capacity) _ (k .lower) (k .ranged) (omega (arith, small))
+      (read-versions (r .versions) (fuel - length (r .versions)) (r .settings .capacity) _ (k .lower) (k .ranged) (omega (arith, small))
       ∙ read-all-heads _ (r .heads) _ (omega arith) (k .first) named-heads (omega (arith, small)) (omega (arith, k .sixteen)))
 
   pub tape-content : contentOf (tapeOf r) ≡ some (contentIn r)
   unfolding contentOf recordBytes
   tape-content =
-      let fits : r .capacity < 65536 = omega (arith, small) in
-      rw (tape-parts, record-read (Start (r .capacity)) _ fits, record-rest (Start (r .capacity)) _ fits)
+      let fits : r .settings .capacity < 65536 = omega (arith, small) in
+      rw (tape-parts, record-read (Start (r .settings .capacity)) _ fits, record-rest (Start (r .settings .capacity)) _ fits)
       (read-parts _ (simp length-append (omega arith)))
 
   pub tape-room : roomOf (contentIn r) ≡ r
@@ -65,7 +65,7 @@ module _ (r : Room) (s : soundRoom r ≡ true) where
 
   pub tape-accepted : contentRefusal (some (contentIn r)) ≡ 0
   tape-accepted =
-      let enough = le-leb (versionCount (r .versions)) (r .capacity) (k .fits) in
+      let enough = le-leb (versionCount (r .versions)) (r .settings .capacity) (k .fits) in
       let rise = rises (r .heads) (k .sixteen) (k .first) in
       let named = all-named (r .versions) (r .heads) named-heads in
       accepts (contentIn r)

@@ -15,7 +15,8 @@ use borrow.Author.Tests.{eq-eqb, ne-eqb, eqb-true, le-ltb, ltb-false}
 use Rattle.laws.proofs.Logic.{decide, bool-ext, cond-true, cond-false}
 use Rattle.command.specs.declared.Operands.{Operands}
 use Rattle.command.specs.Code.{shapeOf, lengthOf}
-use Rattle.graph.specs.Graph.{Node, entry, merge}
+use Rattle.graph.specs.declared.Node.{Node}
+use Rattle.graph.specs.Graph.{entry, merge}
 use Rattle.tape.specs.declared.Record.{Record}
 use Rattle.tape.specs.declared.Record.the-variants.{Start, Entry, Merge, Head, End, Broken}
 use Rattle.tape.specs.declared.scan.Kind.{Kind}
@@ -101,7 +102,7 @@ Staged inHeads t = 0 < length (t .heads)
 
 -- what the scan makes of a content that was read so far and the rest
 abbrev scanFrom : ℕ → Content → List ℕ → Scanned
-scanFrom k t rest = scanOn k (t .capacity) (length (t .versions)) (length (t .heads)) rest
+scanFrom k t rest = scanOn k (t .settings .capacity) (length (t .versions)) (length (t .heads)) rest
 
 abbrev Scans : ℕ → Type 0
 Scans k = (stage : Stage) (t : Content) (rest : List ℕ) → Staged stage t → scannedOf (readOn k stage t rest) ≡ scanFrom k t rest
@@ -118,7 +119,7 @@ module _ (k : ℕ) (later : Scans k) (stage : Stage) (t : Content) (rest : List 
       ap scannedOf (read-step k stage t rest finish a) ∙ answer (eqb (length rest) (recordLength rest)) ∙ sym (scan-ended k _ _ _ rest e)
     where
       answer : (b : Bool)
-          → scannedOf (cond b (some t) none) ≡ cond b (scanned-is.Whole (t .capacity) (length (t .versions)) (length (t .heads))) scanned-is.Broken
+          → scannedOf (cond b (some t) none) ≡ cond b (scanned-is.Whole (t .settings .capacity) (length (t .versions)) (length (t .heads))) scanned-is.Broken
       answer true = refl
       answer false = refl
 

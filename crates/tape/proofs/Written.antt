@@ -21,7 +21,7 @@ use Rattle.tape.proofs.Reading.{read-step}
 
 -- the records of a content
 abbrev pub written : Content → List ℕ
-written t = recordBytes (Start (t .capacity)) ++ (versionRecords (t .versions) ++ headBytes (t .heads))
+written t = recordBytes (Start (t .settings .capacity)) ++ (versionRecords (t .versions) ++ headBytes (t .heads))
 
 -- the record of a head
 abbrev pub headRecord : ℕ × ℕ → Record
@@ -33,7 +33,7 @@ AllFit recordOf [] = Unit {0}
 AllFit recordOf (x ∷ before) = Fits (recordOf x) × AllFit recordOf before
 
 pub record ContentFits (t : Content) : Type 0 where
-  pub capacity : t .capacity < 65536
+  pub capacity : t .settings .capacity < 65536
   pub versions : AllFit versionRecord (t .versions)
   pub heads : AllFit headRecord (t .heads)
 

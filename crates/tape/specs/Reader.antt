@@ -5,7 +5,8 @@ use mathlib.Core.List.{List}
 use mathlib.Core.Option.{Option, none, some}
 use lib.Dec.{eqb, ltb}
 use lib.ListN.{length, getD, drop}
-use Rattle.graph.specs.Graph.{Graph, Node, merge}
+use Rattle.graph.specs.declared.Node.{Node}
+use Rattle.graph.specs.Graph.{Graph, merge}
 use Rattle.tape.specs.declared.Record.{Record}
 use Rattle.tape.specs.declared.Record.the-variants as record-is
 use Rattle.tape.specs.declared.scan.Kind.{Kind}
@@ -46,7 +47,7 @@ headPlace t j = versionPlace (t .versions) (length (t .versions)) + 4 * j
 -- the scan's answer: the tape's capacity, and how many versions and heads it has, where it "is such a sequence of whole records"
 abbrev pub scannedOf : Option Content → Scanned
 scannedOf none = Broken
-scannedOf (some t) = Whole (t .capacity) (length (t .versions)) (length (t .heads))
+scannedOf (some t) = Whole (t .settings .capacity) (length (t .versions)) (length (t .heads))
 
 -- the paper's number for the scan's answer: 0, or "7 tape isn't such a sequence of whole records, with at least one head."
 abbrev pub scanRefusal : Scanned → ℕ

@@ -6,7 +6,9 @@ use mathlib.Core.List.{List, [], _∷_, _++_}
 use mathlib.Core.Option.{Option, none, some}
 use lib.Dec.{eqb, leb, ltb}
 use lib.ListN.{length, drop, set, replicate}
-use Rattle.graph.specs.Graph.{Graph, Node, entry, merge, versionCount, everyVersion, parentsLower}
+use Rattle.graph.specs.declared.Node.{Node}
+use Rattle.graph.specs.declared.Node.the-variants.{Entry, Merge}
+use Rattle.graph.specs.Graph.{Graph, entry, merge, versionCount, everyVersion, parentsLower}
 use Rattle.refusal.specs.Refusal.{_when_, firstRefusal}
 use Rattle.command.specs.Code.{consoleCount, isConsole}
 use Rattle.room.specs.Room.{Room}
@@ -17,8 +19,8 @@ use Rattle.tape.specs.Record.{recordIn, recordLength, recordBytes}
 
 -- The tape of a room.
 abbrev pub versionRecord : Node → Record
-versionRecord (entry p code strip operand) = Entry (record { 0 = p }) code (record { 0 = strip }) operand
-versionRecord (merge p q) = Merge (record { 0 = p }) (record { 0 = q })
+versionRecord (Entry p code strip operand) = Entry (record { 0 = (p .0) }) code (record { 0 = (strip .0) }) operand
+versionRecord (Merge p q) = Merge (record { 0 = (p .0) }) (record { 0 = (q .0) })
 
 -- "one record per version from 1 upward"
 unfoldable pub versionRecords : Graph → List ℕ
@@ -33,7 +35,7 @@ headRecords c (some v ∷ later) = recordBytes (Head (record { 0 = c }) (record 
 
 unfoldable pub tapeOf : Room → List ℕ
 tapeOf r =
-    recordBytes (Start (r .capacity)) ++ versionRecords (r .versions) ++ headRecords 0 (r .heads) ++ recordBytes End
+    recordBytes (Start (r .settings .capacity)) ++ versionRecords (r .versions) ++ headRecords 0 (r .heads) ++ recordBytes End
 
 -- The grammar: what was read so far, the newest version and the last head first.
 pub record Content : Type 0 where
@@ -43,10 +45,10 @@ pub record Content : Type 0 where
   pub heads : List (ℕ × ℕ)
 
 abbrev pub withVersion : Content → Node → Content
-withVersion t n = record { capacity = t .capacity; versions = n ∷ t .versions; heads = t .heads }
+withVersion t n = record { capacity = t .settings .capacity; versions = n ∷ t .versions; heads = t .heads }
 
 abbrev pub withHead : Content → ℕ → ℕ → Content
-withHead t c v = record { capacity = t .capacity; versions = t .versions; heads = (c, v) ∷ t .heads }
+withHead t c v = record { capacity = t .settings .capacity; versions = t .versions; heads = (c, v) ∷ t .heads }
 
 -- what may follow: versions or the first head; further heads or the end
 pub data Stage : Type 0 where
@@ -102,7 +104,7 @@ headSlots [] = replicate consoleCount none
 headSlots (h ∷ before) = set (headSlots before) (h .0) (some (h .1))
 
 abbrev pub roomOf : Content → Room
-roomOf t = record { capacity = t .capacity; versions = t .versions; heads = headSlots (t .heads) }
+roomOf t = record { capacity = t .settings .capacity; versions = t .versions; heads = headSlots (t .heads) }
 
 -- "the first console not 0, a console not above the one before it or above 15"
 unfoldable pub consolesRise : List (ℕ × ℕ) → Bool
@@ -119,7 +121,7 @@ headsNamed g (h ∷ before) = ltb (h .1) (versionCount g) && headsNamed g before
 -- console not 0, a console not above the one before it or above 15, a head that names no version."
 abbrev pub inRange : Content → Bool
 inRange t =
-    leb (versionCount (t .versions)) (t .capacity)
+    leb (versionCount (t .versions)) (t .settings .capacity)
     && everyVersion parentsLower (t .versions)
     && everyVersion entryInRange (t .versions)
     && consolesRise (t .heads)
@@ -128,7 +130,7 @@ inRange t =
 -- "8 capacity outside 1 to 1,024.", 9, "10 the tape's versions and heads give no sound store."
 abbrev pub contentTests : Content → List (ℕ × Bool)
 contentTests t =
-    8 when not (isCapacity (t .capacity))
+    8 when not (isCapacity (t .settings .capacity))
     ∷ 9 when not (inRange t)
     ∷ 10 when not (soundRoom (roomOf t))
     ∷ []

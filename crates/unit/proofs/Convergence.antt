@@ -130,7 +130,7 @@ module _ (store : List ℕ) (h : holdsStore store ≡ true) where
         let g = r .versions in
         let v = head r c in
         let named : v < versionCount g = s .named c v (present-head r c p) in
-        let small : length g < 65535 = omega (arith, s .fits, within-true 1 maxCapacity (r .capacity) (s .capacity)) in
+        let small : length g < 65535 = omega (arith, s .fits, within-true 1 maxCapacity (r .settings .capacity) (s .capacity)) in
         let front = wordAt-left (boardOf g v) _ (callsAt k) (omega (arith, boardOf-length g v)) in
         rw (board-shown output fits) (refl, front ∙ calls-tally g v k well-formed small named l ∙ sym (calls-count r c k))
 

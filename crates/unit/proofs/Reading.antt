@@ -10,15 +10,17 @@ use borrow.Author.Tests.{eqb-true, eq-eqb}
 use lib.Dec.{eqb}
 use lib.ListN.{length-map}
 use Rattle.laws.proofs.Logic.{bool-ext}
-use Rattle.graph.specs.Graph.{Graph, Node, entry, merge, versionCount, ancestor, nodeOf, entryNode, isEntry}
+use Rattle.graph.specs.declared.Node.{Node}
+use Rattle.graph.specs.declared.Node.the-variants.{Entry, Merge}
+use Rattle.graph.specs.Graph.{Graph, entry, merge, versionCount, ancestor, nodeOf, entryNode, isEntry}
 use Rattle.room.proofs.Counters.{entryIs}
 use Rattle.unit.specs.Journal.{madeBy, leads, madeAs, wasEntered, callOf}
 
 pub leads-ancestor : (g : Graph) (u v : ℕ) → leads (map madeBy g) u v ≡ ancestor g u v
 unfolding leads ancestor
 leads-ancestor [] u v = refl
-leads-ancestor (entry p code strip operand ∷ g) u v = cc (length-map g madeBy, leads-ancestor g u p, leads-ancestor g u v)
-leads-ancestor (merge p q ∷ g) u v = cc (length-map g madeBy, leads-ancestor g u p, leads-ancestor g u q, leads-ancestor g u v)
+leads-ancestor (Entry p code strip operand ∷ g) u v = cc (length-map g madeBy, leads-ancestor g u p, leads-ancestor g u v)
+leads-ancestor (Merge p q ∷ g) u v = cc (length-map g madeBy, leads-ancestor g u (p .0), leads-ancestor g u (q .0), leads-ancestor g u v)
 
 -- a version as it was made is made by its node
 made-chosen : (b : Bool) (n o : Option Node) → cond b (Option·map madeBy n) (Option·map madeBy o) ≡ Option·map madeBy (cond b n o)
@@ -32,16 +34,16 @@ made-node (n ∷ g) v = cc (length-map g madeBy, made-node g v, made-chosen (eqb
 
 node-entered : (o : Option Node) → wasEntered (Option·map madeBy o) ≡ entryNode o
 node-entered none = refl
-node-entered (some (entry p code strip operand)) = refl
-node-entered (some (merge p q)) = refl
+node-entered (some (Entry p code strip operand)) = refl
+node-entered (some (Merge p q)) = refl
 
 eqb-sym : (a b : ℕ) → eqb a b ≡ eqb b a
 eqb-sym a b = bool-ext _ _ (λ t. eq-eqb b a (sym (eqb-true a b t))) (λ t. eq-eqb a b (sym (eqb-true b a t)))
 
 node-call : (k : ℕ) (o : Option Node) → callOf k (Option·map madeBy o) ≡ entryIs 6 k o
 node-call k none = refl
-node-call k (some (entry p code strip operand)) = ap (λ (b : Bool). eqb code 6 && b) (eqb-sym strip k)
-node-call k (some (merge p q)) = refl
+node-call k (some (Entry p code strip operand)) = ap (λ (b : Bool). eqb code 6 && b) (eqb-sym (strip .0) k)
+node-call k (some (Merge p q)) = refl
 
 pub entered-entry : (g : Graph) (e : ℕ) → wasEntered (madeAs (map madeBy g) e) ≡ isEntry g e
 entered-entry g e = rw made-node (node-entered (nodeOf g e))

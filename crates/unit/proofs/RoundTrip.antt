@@ -41,7 +41,7 @@ pause-allowed store output h =
 
 -- the tests of resume on what a tape says
 abbrev resumeTests : Content → List ℕ → List (ℕ × Bool)
-resumeTests t store = contentTests t ++ (19 when tooShort store (storeSize (t .capacity)) ∷ [])
+resumeTests t store = contentTests t ++ (19 when tooShort store (storeSize (t .settings .capacity)) ∷ [])
 
 resume-allowed : (t : Content) (store : List ℕ) → firstRefusal (resumeTests t store) ≡ 0 → Accepted t
 resume-allowed t store h =
@@ -53,9 +53,9 @@ resume-allowed t store h =
       room = not-false _ (range .1 (lit< tt) .0 (lit< tt));
     }
 
-resume-none : (t : Content) (store : List ℕ) → Accepted t → storeSize (t .capacity) ≤ length store → firstRefusal (resumeTests t store) ≡ 0
+resume-none : (t : Content) (store : List ℕ) → Accepted t → storeSize (t .settings .capacity) ≤ length store → firstRefusal (resumeTests t store) ≡ 0
 unfolding firstRefusal
-resume-none t store a fits = simp (a .size, a .range, a .room, le-ltb (length store) (storeSize (t .capacity)) fits)
+resume-none t store a fits = simp (a .size, a .range, a .room, le-ltb (length store) (storeSize (t .settings .capacity)) fits)
 
 -- what resume takes, pause writes again
 content-pauses : (tape store output : List ℕ) (o : Option Content) → Bytes tape → contentOf tape ≡ o → resumed o store .reply .answer ≡ 0
@@ -76,10 +76,10 @@ resumed-pauses tape store output bytes h fits = content-pauses tape store output
 
 -- the tape of a store, resumed over that store, changes no byte
 module _ (store : List ℕ) (held : holdsStore store ≡ true) where
-  store-long : storeSize (roomIn store .capacity) ≤ length store
+  store-long : storeSize (roomIn store .settings .capacity) ≤ length store
   store-long =
       let r = roomIn store in
-      let whole = ap length (holds-front store held) ∙ length-append (encode r) (drop (storeSize (r .capacity)) store) in
+      let whole = ap length (holds-front store held) ∙ length-append (encode r) (drop (storeSize (r .settings .capacity)) store) in
       omega (arith, encode-length r (holds-sound store held))
 
   store-kept : overwrite (encode (roomIn store)) store ≡ store

@@ -21,7 +21,8 @@ use Rattle.buffer.proofs.Rows.{rowFrom-length}
 use Rattle.buffer.proofs.Sets.{row-ext, row-with}
 use Rattle.buffer.proofs.Stands.{Stands, stands-kept}
 use Rattle.board.specs.Board.{boardSize}
-use Rattle.graph.specs.Graph.{Graph, Node, entry, merge, versionCount, ancestor, nodeOf, entryNode, isEntry, baseOf, everyVersion, parentsLower}
+use Rattle.graph.specs.declared.Node.{Node}
+use Rattle.graph.specs.Graph.{Graph, entry, merge, versionCount, ancestor, nodeOf, entryNode, isEntry, baseOf, everyVersion, parentsLower}
 use Rattle.room.specs.Sound.{maxCapacity}
 use Rattle.room.specs.Boards.{boardMade, boardOf}
 use Rattle.room.proofs.Lengths.{boardOf-length}

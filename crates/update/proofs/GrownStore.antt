@@ -18,7 +18,8 @@ use Rattle.buffer.proofs.Parts.{put-stands}
 use Rattle.buffer.proofs.Stands.{Stands, stands-kept}
 use Rattle.buffer.proofs.Writes.{put-length, put-other}
 use Rattle.board.specs.Board.{stripCount}
-use Rattle.graph.specs.Graph.{Graph, Node, entry, merge, versionCount, isEntry, baseOf}
+use Rattle.graph.specs.declared.Node.{Node}
+use Rattle.graph.specs.Graph.{Graph, entry, merge, versionCount, isEntry, baseOf}
 use Rattle.command.specs.Code.{consoleCount, isEntryCode, isStrip, isOperand}
 use Rattle.room.specs.Room.{Room, present, head, common}
 use Rattle.room.specs.Sound.{maxCapacity}
@@ -70,7 +71,7 @@ free-later {s} n m capacity a l h kept =
     }
 
 -- a store that holds fewer versions than it may
-module _ (s : List ℕ) (t : holdsStore s ≡ true) (left : versionCount (roomIn s .versions) < roomIn s .capacity) where
+module _ (s : List ℕ) (t : holdsStore s ≡ true) (left : versionCount (roomIn s .versions) < roomIn s .settings .capacity) where
   abbrev r : Room
   r = roomIn s
 
@@ -142,7 +143,7 @@ module _ (s : List ℕ) (t : holdsStore s ≡ true) (left : versionCount (roomIn
           commons = commons;
           rest = stands-kept (parts .rest) (λ i x y. same i (omega (arith, zeros-length (headerSize - commonsEnd))) (omega arith));
           versions = λ v l. stands-kept (grew .standing .versions v l) (λ i x y. stays i (omega arith) (omega arith));
-          free = free-later n (suc n) (r .capacity) (omega arith) left (parts .free) (λ k l. same k (omega arith) (omega arith));
+          free = free-later n (suc n) (r .settings .capacity) (omega arith) left (parts .free) (λ k l. same k (omega arith) (omega arith));
         }))
         (whole-long s t) (long ∙ counted-long) (λ k l. same k (omega arith) (omega arith))
 

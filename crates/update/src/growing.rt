@@ -28,7 +28,7 @@ pub fn enter(s: &mut [u8], c: Console, code: usize, strip: Strip, operand: usize
     requires { ⌜ (c .0 < consoleCount) × (strip .0 < stripCount) ⌝ }
     requires { ⌜ (isEntryCode code ≡ true) × (isOperand code operand ≡ true) ⌝ }
     requires { ⌜ present (roomIn (now s)) (c .0) ≡ true ⌝ }
-    requires { ⌜ versionCount (roomIn (now s) .versions) < roomIn (now s) .capacity ⌝ }
+    requires { ⌜ versionCount (roomIn (now s) .versions) < roomIn (now s) .settings .capacity ⌝ }
     ensures { λ _. ⌜ now (s .exit) ≡ overwrite (encode (grown (roomIn (now (s .entry))) (c .0) (entry (head (roomIn (now (s .entry))) (c .0)) code (strip .0) operand))) (now (s .entry)) ⌝ }
 {
     let n = version_count(s);
@@ -46,7 +46,7 @@ pub fn merge(s: &mut [u8], c: Console, d: Console)
     requires { ⌜ (present (roomIn (now s)) (c .0) ≡ true) × (present (roomIn (now s)) (d .0) ≡ true) ⌝ }
     requires { ⌜ (behind (roomIn (now s)) (d .0) (c .0) ≡ false) × (behind (roomIn (now s)) (c .0) (d .0) ≡ false) ⌝ }
     requires { ⌜ someThirdSplits (roomIn (now s)) (c .0) (d .0) ≡ false ⌝ }
-    requires { ⌜ versionCount (roomIn (now s) .versions) < roomIn (now s) .capacity ⌝ }
+    requires { ⌜ versionCount (roomIn (now s) .versions) < roomIn (now s) .settings .capacity ⌝ }
     ensures { λ _. ⌜ now (s .exit) ≡ overwrite (encode (grown (roomIn (now (s .entry))) (c .0) (merge (head (roomIn (now (s .entry))) (c .0)) (head (roomIn (now (s .entry))) (d .0))))) (now (s .entry)) ⌝ }
 {
     let n = version_count(s);
