@@ -22,19 +22,45 @@ markCount = 16
 abbrev pub within : ℕ → ℕ → ℕ → Bool
 within low high x = leb low x && leb x high
 
+-- Codes of commands: "01 fork", "09 merge, 0A fast-forward"; 02 to 08 make an entry.
+abbrev pub forkCommand : ℕ
+forkCommand = 0x01
+
+abbrev pub mergeCommand : ℕ
+mergeCommand = 0x09
+
+abbrev pub fastForwardCommand : ℕ
+fastForwardCommand = 0x0A
+
+-- Codes of tape records: "20, capacity", "21: parent ..", "22: receiver's version ..", "23: console ..", "24, the last byte".
+abbrev pub startRecord : ℕ
+startRecord = 0x20
+
+abbrev pub entryRecord : ℕ
+entryRecord = 0x21
+
+abbrev pub mergeRecord : ℕ
+mergeRecord = 0x22
+
+abbrev pub headRecord : ℕ
+headRecord = 0x23
+
+abbrev pub endRecord : ℕ
+endRecord = 0x24
+
 -- "01 fork", "02 level", .. "0A fast-forward"; the tape's records are 20 to 24
 unfoldable pub shapeOf : ℕ → Shape
 shapeOf code =
-    cond (eqb code 0x01) (Known 1 1 0 0)
+    cond (eqb code forkCommand) (Known 1 1 0 0)
     (cond (within 0x02 0x03 code) (Known 1 1 2 0)
     (cond (within 0x04 0x05 code) (Known 1 1 1 0)
     (cond (within 0x06 0x08 code) (Known 1 1 0 0)
-    (cond (within 0x09 0x0A code) (Known 1 1 0 0)
-    (cond (eqb code 0x20) (Known 2 0 0 0)
-    (cond (eqb code 0x21) (Known 2 1 1 2)
-    (cond (eqb code 0x22) (Known 2 2 0 0)
-    (cond (eqb code 0x23) (Known 1 2 0 0)
-    (cond (eqb code 0x24) (Known 0 0 0 0) Unknown)))))))))
+    (cond (within mergeCommand fastForwardCommand code) (Known 1 1 0 0)
+    (cond (eqb code startRecord) (Known 2 0 0 0)
+    (cond (eqb code entryRecord) (Known 2 1 1 2)
+    (cond (eqb code mergeRecord) (Known 2 2 0 0)
+    (cond (eqb code headRecord) (Known 1 2 0 0)
+    (cond (eqb code endRecord) (Known 0 0 0 0) Unknown)))))))))
 
 -- how many bytes a code and what follows it take; an unknown code is refused, with 1 as a command and 7 on a tape
 unfoldable pub lengthOf : Shape → ℕ
@@ -62,7 +88,7 @@ isEntryCode code = within 0x02 0x08 code
 
 -- "01 fork | new console, old console", "09 merge, 0A fast-forward | receiver, giver": a command of this code names two consoles
 abbrev pub namesTwo : ℕ → Bool
-namesTwo code = eqb code 0x01 || within 0x09 0x0A code
+namesTwo code = eqb code forkCommand || within mergeCommand fastForwardCommand code
 
 abbrev pub isConsole : ℕ → Bool
 isConsole c = ltb c consoleCount

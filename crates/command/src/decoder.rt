@@ -3,6 +3,14 @@ use crate::Command;
 use crate::Decoded;
 use crate::Operands;
 use crate::Shape;
+use crate::codes::END_RECORD;
+use crate::codes::ENTRY_RECORD;
+use crate::codes::FAST_FORWARD_COMMAND;
+use crate::codes::FORK_COMMAND;
+use crate::codes::HEAD_RECORD;
+use crate::codes::MERGE_COMMAND;
+use crate::codes::MERGE_RECORD;
+use crate::codes::START_RECORD;
 use crate::numbers::is_command_code;
 use crate::numbers::is_console;
 use crate::numbers::is_entry_code;
@@ -40,16 +48,16 @@ pub fn widths_of(code: usize) -> Shape
     ensures { λ r. ⌜ r ≡ shapeOf code ⌝ }
 {
     match code {
-        0x01 => widths(1, 1, 0, 0),
+        FORK_COMMAND => widths(1, 1, 0, 0),
         0x02..=0x03 => widths(1, 1, 2, 0),
         0x04..=0x05 => widths(1, 1, 1, 0),
         0x06..=0x08 => widths(1, 1, 0, 0),
-        0x09..=0x0A => widths(1, 1, 0, 0),
-        0x20 => widths(2, 0, 0, 0),
-        0x21 => widths(2, 1, 1, 2),
-        0x22 => widths(2, 2, 0, 0),
-        0x23 => widths(1, 2, 0, 0),
-        0x24 => widths(0, 0, 0, 0),
+        MERGE_COMMAND..=FAST_FORWARD_COMMAND => widths(1, 1, 0, 0),
+        START_RECORD => widths(2, 0, 0, 0),
+        ENTRY_RECORD => widths(2, 1, 1, 2),
+        MERGE_RECORD => widths(2, 2, 0, 0),
+        HEAD_RECORD => widths(1, 2, 0, 0),
+        END_RECORD => widths(0, 0, 0, 0),
         _ => Shape::Unknown,
     }
 }

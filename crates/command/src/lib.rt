@@ -2,6 +2,7 @@
 use graph::Console;
 use graph::Strip;
 
+pub mod codes;
 pub mod decoder;
 pub mod numbers;
 
