@@ -4,15 +4,17 @@ use Prim.Native.Nat.{ℕ, zero, suc, pred, _+_, _-_, _*_}
 use mathlib.Core.Bool.{Bool, cond, not, _&&_, _||_}
 use mathlib.Core.List.{List}
 use lib.Dec.{eqb, leb, ltb}
-use lib.ListN.{length, getD}
+use lib.ListN.{length}
 use Rattle.buffer.specs.Field.{wordAt, zeros, part, same, allZero}
 use Rattle.buffer.specs.Row.{row, member, withMember, union, intersection, noneFrom}
 use Rattle.board.specs.Board.{boardSize, enter, mergeBoard}
 use Rattle.graph.specs.Below.{everyBelow}
+use Rattle.graph.specs.declared.Node.{Node}
+use Rattle.graph.specs.declared.Node.the-variants.{Entry, Merge}
 use Rattle.command.specs.Code.{consoleCount}
-use Rattle.room.specs.Sound.{isCapacity}
+use Rattle.room.specs.Sound.{settingsInRange}
 use Rattle.store.specs.Rules.{entryRanges, bothBelow, isBase}
-use Rattle.store.specs.Layout.{headerSize, nodeSize, rowSize, blockSize, storeSize, capacityAt, countAt, entriesAt, commonsEnd, commonAt, blockAt, nodeCodeAt, nodeStripAt, nodeOperandAt, nodeParentAt, nodeGiverAt, nodeBaseAt, rowAt, boardAt}
+use Rattle.store.specs.Layout.{headerSize, nodeSize, rowSize, blockSize, storeSize, capacityAt, countAt, spareAt, entriesAt, commonsEnd, commonAt, blockAt, nodeStripAt, nodeGiverAt, nodeBaseAt, rowAt, boardAt, nodeIn, settingsIn}
 
 abbrev pub rowPart : List ℕ → ℕ → List ℕ
 rowPart s v = part s (rowAt v) rowSize
@@ -31,31 +33,42 @@ rootRight s =
     && allZero (boardPart s 0)
     && not (member (entriesPart s) 0)
 
--- an entry with this parent, code, strip and operand
-unfoldable pub entryRight : List ℕ → ℕ → ℕ → ℕ → ℕ → ℕ → Bool
-entryRight s v p code strip operand =
-    entryRanges v p code strip operand
-    && allZero (part s (nodeGiverAt v) (nodeSize - 6))
+-- an entry on p: what its node does not use is zero, its row and its board are made of its parent's, and it is listed as an entry
+unfoldable pub entryParts : List ℕ → ℕ → ℕ → ℕ → ℕ → ℕ → Bool
+entryParts s v p code strip operand =
+    allZero (part s (nodeGiverAt v) (nodeSize - 6))
     && same (rowPart s v) (withMember (rowPart s p) v)
     && same (boardPart s v) (enter code strip operand (boardPart s p))
     && member (entriesPart s) v
 
--- a merge with these parents and this base
-unfoldable pub mergeRight : List ℕ → ℕ → ℕ → ℕ → ℕ → Bool
-mergeRight s v p q l =
-    bothBelow v p q && ltb l v
-    && allZero (part s (nodeStripAt v) 3)
-    && allZero (part s (nodeBaseAt v + 2) (nodeSize - 10))
-    && isBase l p q (rowPart s l) (rowPart s p) (rowPart s q)
+abbrev pub entryRight : List ℕ → ℕ → ℕ → ℕ → ℕ → ℕ → Bool
+entryRight s v p code strip operand = entryRanges v p code strip operand && entryParts s v p code strip operand
+
+-- a merge of q into p with the base l: the base is theirs and its row made of theirs
+abbrev pub mergeRows : List ℕ → ℕ → ℕ → ℕ → ℕ → Bool
+mergeRows s v p q l =
+    isBase l p q (rowPart s l) (rowPart s p) (rowPart s q)
     && same (rowPart s v) (withMember (union (rowPart s p) (rowPart s q)) v)
+
+-- what its node does not use is zero, its rows, its board is made of the three, and it is not listed as an entry
+unfoldable pub mergeParts : List ℕ → ℕ → ℕ → ℕ → ℕ → Bool
+mergeParts s v p q l =
+    allZero (part s (nodeStripAt v) 3)
+    && allZero (part s (nodeBaseAt v + 2) (nodeSize - 10))
+    && mergeRows s v p q l
     && same (boardPart s v) (mergeBoard (boardPart s l) (boardPart s p) (boardPart s q))
     && not (member (entriesPart s) v)
 
+abbrev pub mergeRight : List ℕ → ℕ → ℕ → ℕ → ℕ → Bool
+mergeRight s v p q l = (bothBelow v p q && ltb l v) && mergeParts s v p q l
+
+-- version v, as its node says
+abbrev pub nodeRight : List ℕ → ℕ → Node → Bool
+nodeRight s v (Entry p code strip operand) = entryRight s v (p .0) code (strip .0) operand
+nodeRight s v (Merge p q) = mergeRight s v (p .0) (q .0) (wordAt s (nodeBaseAt v))
+
 unfoldable pub versionRight : List ℕ → ℕ → Bool
-versionRight s v =
-    cond (eqb (getD s (nodeCodeAt v) 0) 0x09)
-    (mergeRight s v (wordAt s (nodeParentAt v)) (wordAt s (nodeGiverAt v)) (wordAt s (nodeBaseAt v)))
-    (entryRight s v (wordAt s (nodeParentAt v)) (getD s (nodeCodeAt v) 0) (getD s (nodeStripAt v) 0) (wordAt s (nodeOperandAt v)))
+versionRight s v = nodeRight s v (nodeIn s v)
 
 -- versions 0 to n
 unfoldable pub versionsRight : List ℕ → ℕ → Bool
@@ -85,22 +98,35 @@ behindHeads s rowOf zero = zeros rowSize
 behindHeads s rowOf (suc c) =
     cond (eqb (commonIn s c c) 0) (behindHeads s rowOf c) (union (behindHeads s rowOf c) (rowOf (pred (commonIn s c c))))
 
--- a store of this capacity with n versions
+-- the spare bytes of the header are zero
+abbrev pub spareZero : List ℕ → Bool
+spareZero s = allZero (part s spareAt (entriesAt - spareAt)) && allZero (part s commonsEnd (headerSize - commonsEnd))
+
+-- nothing stands past the last of n versions: no bit of the row of entries, and no byte of the blocks that are free
+abbrev pub restZero : List ℕ → ℕ → ℕ → Bool
+restZero s capacity n = noneFrom (entriesPart s) n && allZero (part s (blockAt n) (blockSize * (capacity - n)))
+
+abbrev pub consolesRight : List ℕ → ℕ → Bool
+consolesRight s n = everyBelow consoleCount (consoleRight s n)
+
+-- console 0 is present, and every version is an ancestor of a head
+abbrev pub headsCover : List ℕ → ℕ → Bool
+headsCover s n = ltb 0 (commonIn s 0 0) && same (behindHeads s (rowPart s) consoleCount) (row (λ v. ltb v n) rowSize)
+
+-- A store of this capacity with n versions, group by group as the code tests them: where one fails, none behind it is looked at.
 unfoldable pub contentsRight : List ℕ → ℕ → ℕ → Bool
 contentsRight s capacity n =
-    leb 1 n && leb n capacity
-    && allZero (part s (countAt + 2) (entriesAt - (countAt + 2)))
-    && allZero (part s commonsEnd (headerSize - commonsEnd))
-    && versionsRight s (pred n)
-    && noneFrom (entriesPart s) n
-    && allZero (part s (blockAt n) (blockSize * (capacity - n)))
-    && everyBelow consoleCount (consoleRight s n)
-    && ltb 0 (commonIn s 0 0)
-    && same (behindHeads s (rowPart s) consoleCount) (row (λ v. ltb v n) rowSize)
+    leb 1 n
+    && (leb n capacity
+    && (spareZero s
+    && (versionsRight s (pred n)
+    && (restZero s capacity n
+    && (consolesRight s n
+    && headsCover s n)))))
 
 unfoldable pub storeRight : List ℕ → Bool
 storeRight s =
     leb headerSize (length s)
-    && isCapacity (wordAt s capacityAt)
-    && leb (storeSize (wordAt s capacityAt)) (length s)
-    && contentsRight s (wordAt s capacityAt) (wordAt s countAt)
+    && (settingsInRange (settingsIn s)
+    && (leb (storeSize (wordAt s capacityAt)) (length s)
+    && contentsRight s (wordAt s capacityAt) (wordAt s countAt)))

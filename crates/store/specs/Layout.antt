@@ -13,6 +13,7 @@ use Rattle.graph.specs.declared.Node.{Node}
 use Rattle.graph.specs.declared.Node.the-variants.{Entry, Merge}
 use Rattle.graph.specs.Graph.{Graph, entry, merge, versionCount, ancestor, isEntry, nodeOf, baseOf}
 use Rattle.command.specs.Code.{consoleCount}
+use Rattle.room.specs.declared.Settings.{Settings}
 use Rattle.room.specs.Room.{Room, present, common}
 use Rattle.room.specs.Sound.{maxCapacity, soundRoom}
 use Rattle.room.specs.Boards.{boardOf}
@@ -34,12 +35,21 @@ blockSize = nodeSize + rowSize + boardSize
 abbrev pub storeSize : ℕ → ℕ
 storeSize capacity = headerSize + blockSize * capacity
 
--- Places in the header: the capacity, the number of versions, the row of the entry versions, the table of common versions.
+-- Places in the header: what the room is set to, the number of versions, the row of the entry versions, the table of common versions.
+abbrev pub settingsAt : ℕ
+settingsAt = 0
+
 abbrev pub capacityAt : ℕ
-capacityAt = 0
+capacityAt = settingsAt
+
+abbrev pub settingsEnd : ℕ
+settingsEnd = capacityAt + 2
 
 abbrev pub countAt : ℕ
-countAt = 2
+countAt = settingsEnd
+
+abbrev pub spareAt : ℕ
+spareAt = countAt + 2
 
 abbrev pub entriesAt : ℕ
 entriesAt = 128
@@ -63,6 +73,10 @@ headAt c = commonAt c c
 -- the place of the block of version v, and of what it is made of
 abbrev pub blockAt : ℕ → ℕ
 blockAt v = headerSize + blockSize * v
+
+-- the code of a merge in its node; no entry has it
+abbrev pub mergeNodeCode : ℕ
+mergeNodeCode = 0x09
 
 -- the fields of the node: code, strip, operand, parent (a merge: the receiver's version), giver's version, base
 abbrev pub nodeCodeAt : ℕ → ℕ
@@ -107,20 +121,24 @@ unfoldable pub commonTable : Room → ℕ → ℕ → List ℕ
 commonTable r c zero = []
 commonTable r c (suc n) = commonFields r c 0 consoleCount ++ commonTable r (suc c) n
 
+-- what a room is set to
+abbrev pub settingsBytes : Settings → List ℕ
+settingsBytes settings = word (settings .capacity)
+
 unfoldable pub header : Room → List ℕ
 header r =
-    word (r .settings .capacity) ++ word (versionCount (r .versions)) ++ zeros (entriesAt - (countAt + 2))
+    settingsBytes (r .settings) ++ word (versionCount (r .versions)) ++ zeros (entriesAt - spareAt)
     ++ row (isEntry (r .versions)) rowSize
     ++ commonTable r 0 consoleCount
     ++ zeros (headerSize - commonsEnd)
 
--- The node of a version: 09 stands for the code of a merge, 0 for that of version 0; what a version does not have is 0.
+-- The node of a version: a merge has a code of its own, version 0 has 0; what a version does not have is 0.
 abbrev pub entryNodeBytes : ℕ → ℕ → ℕ → ℕ → List ℕ
 entryNodeBytes p code strip operand = byte code ∷ byte strip ∷ word operand ++ word p ++ zeros (nodeSize - 6)
 
 -- with l, the base of the merge of q into p
 abbrev pub mergeNodeBytes : ℕ → ℕ → ℕ → List ℕ
-mergeNodeBytes p q l = 0x09 ∷ 0 ∷ 0 ∷ 0 ∷ word p ++ word q ++ word l ++ zeros (nodeSize - 10)
+mergeNodeBytes p q l = mergeNodeCode ∷ 0 ∷ 0 ∷ 0 ∷ word p ++ word q ++ word l ++ zeros (nodeSize - 10)
 
 unfoldable pub nodeBytes : Graph → Option Node → List ℕ
 nodeBytes g none = zeros nodeSize
@@ -146,7 +164,7 @@ encode r =
 -- Reading a room off bytes: the fields as they stand, whatever they hold.
 unfoldable pub nodeIn : List ℕ → ℕ → Node
 nodeIn s v =
-    cond (eqb (getD s (nodeCodeAt v) 0) 0x09)
+    cond (eqb (getD s (nodeCodeAt v) 0) mergeNodeCode)
     (merge (wordAt s (nodeParentAt v)) (wordAt s (nodeGiverAt v)))
     (entry (wordAt s (nodeParentAt v)) (getD s (nodeCodeAt v) 0) (getD s (nodeStripAt v) 0) (wordAt s (nodeOperandAt v)))
 
@@ -165,10 +183,13 @@ unfoldable pub headsIn : List ℕ → ℕ → ℕ → List (Option ℕ)
 headsIn s c zero = []
 headsIn s c (suc n) = headFrom (wordAt s (headAt c)) ∷ headsIn s (suc c) n
 
+abbrev pub settingsIn : List ℕ → Settings
+settingsIn s = record { capacity = wordAt s capacityAt }
+
 unfoldable pub roomIn : List ℕ → Room
 roomIn s =
     record {
-      capacity = wordAt s capacityAt;
+      settings = settingsIn s;
       versions = versionsIn s (pred (wordAt s countAt));
       heads = headsIn s 0 consoleCount;
     }
