@@ -1,6 +1,6 @@
 -- An entry writes within its strip: a board after an entry is the board with its strip as the entry makes it.
 -- Assumes nothing.
-use Prim.Native.Nat.{ℕ, _+_, _*_, _/_, _^_, _<_, _≤_}
+use Prim.Native.Nat.{ℕ, _+_, _*_, _/_, _<_, _≤_}
 use mathlib.Core.Path.{_≡_, refl, sym, ap, _∙_}
 use mathlib.Core.Bool.{Bool, true, false, cond}
 use mathlib.Core.List.{List, [], _∷_, _++_}
@@ -15,7 +15,7 @@ use Rattle.laws.proofs.Lists.{three-parts}
 use Rattle.buffer.specs.Field.{byte, wordAt, putWord}
 use Rattle.buffer.proofs.Fields.{wordAt-left, wordAt-right, part-length}
 use Rattle.buffer.proofs.Writes.{put-length}
-use Rattle.board.specs.Board.{stripSize, levelAt, headingAt, marksAt, callsAt, alertsAt, flagAt, without, enter}
+use Rattle.board.specs.Board.{stripSize, levelAt, headingAt, marksAt, callsAt, alertsAt, flagAt, markBit, without, enter}
 use Rattle.board.proofs.Boards.{strip}
 
 -- a code that is no entry's changes nothing
@@ -68,8 +68,8 @@ module _ (p r : List ℕ) (k : ℕ) (before : length p ≡ stripSize * k) where
     enter-placed code x =
         choice-placed (eqb code 0x02) _ _ (put-placed q 0 (levelAt k) x long (omega arith) (omega arith))
         (choice-placed (eqb code 0x03) _ _ (put-placed q 2 (headingAt k) x long (omega arith) (omega arith))
-        (choice-placed (eqb code 0x04) _ _ (cell-placed (λ w. bitOr w (2 ^ x)) 4 (marksAt k) (omega arith) (omega arith))
-        (choice-placed (eqb code 0x05) _ _ (cell-placed (λ w. without w (2 ^ x)) 4 (marksAt k) (omega arith) (omega arith))
+        (choice-placed (eqb code 0x04) _ _ (cell-placed (λ w. bitOr w (markBit x)) 4 (marksAt k) (omega arith) (omega arith))
+        (choice-placed (eqb code 0x05) _ _ (cell-placed (λ w. without w (markBit x)) 4 (marksAt k) (omega arith) (omega arith))
         (choice-placed (eqb code 0x06) _ _ (cell-placed (λ w. w + 1) 6 (callsAt k) (omega arith) (omega arith))
         (choice-placed (eqb code 0x07) _ _
         (ap (λ (t : List ℕ). set t (flagAt k) 1) (cell-placed (λ w. w + 1) 8 (alertsAt k) (omega arith) (omega arith))

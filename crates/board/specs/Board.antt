@@ -1,5 +1,5 @@
 -- "32 strips of 12 bytes, 384 in all." The cells of a strip, what an entry writes, and how three boards are merged.
-use Prim.Native.Nat.{ℕ, zero, suc, _+_, _-_, _*_, _^_}
+use Prim.Native.Nat.{ℕ, zero, suc, _+_, _-_, _*_, _%_, _^_}
 use mathlib.Core.Bool.{Bool, true, false, cond}
 use mathlib.Core.List.{List, [], _∷_, _++_}
 use lib.Bits.{bitAnd, bitOr}
@@ -40,6 +40,14 @@ alertsAt k = stripSize * k + 8
 
 abbrev pub flagAt : ℕ → ℕ
 flagAt k = stripSize * k + 10
+
+-- "mark k is the bit worth 2 to the k, k from 0 to 15"
+abbrev pub markCount : ℕ
+markCount = 16
+
+-- The bit of a mark. An operand that names none is taken by its remainder, so that the rule is total.
+abbrev pub markBit : ℕ → ℕ
+markBit x = 2 ^ (x % markCount)
 
 -- a flag is on when its byte is 1
 abbrev pub flagOn : List ℕ → ℕ → Bool
@@ -93,8 +101,8 @@ unfoldable pub enter : ℕ → ℕ → ℕ → List ℕ → List ℕ
 enter code k x s =
     cond (eqb code 0x02) (putWord s (levelAt k) x)
     (cond (eqb code 0x03) (putWord s (headingAt k) x)
-    (cond (eqb code 0x04) (putWord s (marksAt k) (bitOr (wordAt s (marksAt k)) (2 ^ x)))
-    (cond (eqb code 0x05) (putWord s (marksAt k) (without (wordAt s (marksAt k)) (2 ^ x)))
+    (cond (eqb code 0x04) (putWord s (marksAt k) (bitOr (wordAt s (marksAt k)) (markBit x)))
+    (cond (eqb code 0x05) (putWord s (marksAt k) (without (wordAt s (marksAt k)) (markBit x)))
     (cond (eqb code 0x06) (putWord s (callsAt k) (wordAt s (callsAt k) + 1))
     (cond (eqb code 0x07) (set (putWord s (alertsAt k) (wordAt s (alertsAt k) + 1)) (flagAt k) 1)
     (cond (eqb code 0x08) (set s (flagAt k) 0) s))))))

@@ -6,12 +6,12 @@ use buffer::wide;
 use buffer::word_at;
 use graph::Strip;
 ghost use mathlib.Core.Path.{_≡_};
-ghost use Prim.Native.Nat.{_+_, _*_, _/_, _^_, _<_};
+ghost use Prim.Native.Nat.{_+_, _*_, _/_, _<_};
 ghost use lib.Bits.{bitOr};
 ghost use lib.ListN.{length, set};
 ghost use Rattle.buffer.specs.Field.{byte, wordAt, putWord, part, same};
 ghost use Rattle.buffer.specs.Row.{bit};
-ghost use Rattle.board.specs.Board.{stripSize, stripCount, boardSize, marksAt, alertsAt, flagAt, flagOn, mergeSetting, mergeMarks, mergeCount, mergeFlag, mergeStrip, mergeBoard, without, enter};
+ghost use Rattle.board.specs.Board.{stripSize, stripCount, boardSize, marksAt, alertsAt, flagAt, flagOn, mergeSetting, mergeMarks, mergeCount, mergeFlag, mergeStrip, mergeBoard, markBit, without, enter};
 
 // The bytes of a strip, and the strips of a board.
 const STRIP_SIZE: usize = 12;
@@ -35,6 +35,9 @@ const FLAG: usize = 10;
 
 const REST: usize = 11;
 
+// The marks of a strip.
+const MARK_COUNT: usize = 16;
+
 // A level or a heading of a merge: the giver's where the receiver kept the base's.
 fn merge_setting(l: usize, a: usize, b: usize) -> usize
     ensures { λ r. ⌜ r ≡ mergeSetting l a b ⌝ }
@@ -44,10 +47,9 @@ fn merge_setting(l: usize, a: usize, b: usize) -> usize
 
 // The number that has one mark alone.
 fn mark_bit(mark: usize) -> usize
-    requires { ⌜ mark < 16 ⌝ }
-    ensures { λ r. ⌜ r ≡ 2 ^ mark ⌝ }
+    ensures { λ r. ⌜ r ≡ markBit mark ⌝ }
 {
-    1usize << mark
+    1usize << (mark % MARK_COUNT)
 }
 
 // The marks of a that l does not have.
@@ -208,8 +210,8 @@ fn count_up(s: &mut [u8], at: usize)
 
 // Puts a mark of a strip.
 fn put_mark(s: &mut [u8], mark: usize)
-    requires { ⌜ (length (now s) ≡ stripSize) × (mark < 16) ⌝ }
-    ensures { λ _. ⌜ now (s .exit) ≡ putWord (now (s .entry)) (marksAt 0) (bitOr (wordAt (now (s .entry)) (marksAt 0)) (2 ^ mark)) ⌝ }
+    requires { ⌜ length (now s) ≡ stripSize ⌝ }
+    ensures { λ _. ⌜ now (s .exit) ≡ putWord (now (s .entry)) (marksAt 0) (bitOr (wordAt (now (s .entry)) (marksAt 0)) (markBit mark)) ⌝ }
 {
     let marks = word_at(s, MARKS);
     put_word(s, MARKS, marks | mark_bit(mark));
@@ -217,8 +219,8 @@ fn put_mark(s: &mut [u8], mark: usize)
 
 // Takes a mark of a strip.
 fn take_mark(s: &mut [u8], mark: usize)
-    requires { ⌜ (length (now s) ≡ stripSize) × (mark < 16) ⌝ }
-    ensures { λ _. ⌜ now (s .exit) ≡ putWord (now (s .entry)) (marksAt 0) (without (wordAt (now (s .entry)) (marksAt 0)) (2 ^ mark)) ⌝ }
+    requires { ⌜ length (now s) ≡ stripSize ⌝ }
+    ensures { λ _. ⌜ now (s .exit) ≡ putWord (now (s .entry)) (marksAt 0) (without (wordAt (now (s .entry)) (marksAt 0)) (markBit mark)) ⌝ }
 {
     let marks = word_at(s, MARKS);
     put_word(s, MARKS, marks_without(marks, mark_bit(mark)));
@@ -226,7 +228,7 @@ fn take_mark(s: &mut [u8], mark: usize)
 
 // Makes an entry on a strip.
 fn enter_strip(s: &mut [u8], code: usize, operand: usize)
-    requires { ⌜ (length (now s) ≡ stripSize) × (code ≡ 0x04 → operand < 16) × (code ≡ 0x05 → operand < 16) ⌝ }
+    requires { ⌜ length (now s) ≡ stripSize ⌝ }
     ensures { λ _. ⌜ now (s .exit) ≡ enter code 0 operand (now (s .entry)) ⌝ }
 {
     match code {
@@ -246,7 +248,7 @@ fn enter_strip(s: &mut [u8], code: usize, operand: usize)
 
 // Makes an entry on a board.
 pub fn enter_board(board: &mut [u8], code: usize, strip: Strip, operand: usize)
-    requires { ⌜ (length (now board) ≡ boardSize) × (strip .0 < stripCount) × (code ≡ 0x04 → operand < 16) × (code ≡ 0x05 → operand < 16) ⌝ }
+    requires { ⌜ (length (now board) ≡ boardSize) × (strip .0 < stripCount) ⌝ }
     ensures { λ _. ⌜ now (board .exit) ≡ enter code (strip .0) operand (now (board .entry)) ⌝ }
 {
     let at = STRIP_SIZE * strip.0;
@@ -257,7 +259,7 @@ pub fn enter_board(board: &mut [u8], code: usize, strip: Strip, operand: usize)
 // A board is its parent's after an entry. It is made and compared whole too, which was faster than a comparison before, at and behind
 // the strip.
 pub fn is_entered(board: &[u8], parent: &[u8], code: usize, strip: Strip, operand: usize) -> bool
-    requires { ⌜ (length (now board) ≡ boardSize) × (length (now parent) ≡ boardSize) × (strip .0 < stripCount) × (code ≡ 0x04 → operand < 16) × (code ≡ 0x05 → operand < 16) ⌝ }
+    requires { ⌜ (length (now board) ≡ boardSize) × (length (now parent) ≡ boardSize) × (strip .0 < stripCount) ⌝ }
     ensures { λ r. ⌜ r ≡ same (now (board .entry)) (enter code (strip .0) operand (now (parent .entry))) ⌝ }
 {
     let mut entered = [0u8; BOARD_SIZE];

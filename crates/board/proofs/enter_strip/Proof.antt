@@ -15,14 +15,10 @@ put-word-requires-2 : tie.Need-put-word-requires-2
 put-word-requires-2 c κs = omega arith
 
 put-mark-requires : tie.Need-put-mark-requires
-put-mark-requires c κs =
-    let small = c .before .before .before .pre .1 (c .before .match .keys3) in
-    omega arith
+put-mark-requires c κs = omega arith
 
 take-mark-requires : tie.Need-take-mark-requires
-take-mark-requires c κs =
-    let small = c .before .before .before .pre .2 (c .before .match .keys4) in
-    omega arith
+take-mark-requires c κs = omega arith
 
 count-up-requires : tie.Need-count-up-requires
 count-up-requires c κs = omega arith

@@ -1,8 +1,10 @@
 -- `board::mark_bit` meets its contract. The shift stays within 64 bits.
 -- Assumes nothing.
+use Prim.Native.Nat.{_%_}
 use native.Mathlib.Omega.{arith}
 use borrow.Author.Needs.{needs}
 use lib.Pow.{shl-exact}
+use Rattle.board.specs.Board.{markCount}
 use Rattle.board.proofs.mark_bit.Statement.{statement}
 use Rattle.board.proofs.mark_bit.Tie as tie
 
@@ -10,7 +12,7 @@ shl-result : tie.Need-shl-result
 shl-result c = search needs
 
 returns : tie.Need-returns
-returns c = omega (arith, shl-exact {a = 1} 1 (c .args .mark) 64 (omega arith) (omega arith))
+returns c = omega (arith, shl-exact {a = 1} 1 (c .args .mark % markCount) 64 (omega arith) (omega arith))
 
 pub mark-bit-spec : {M : Type 1} → statement M
 mark-bit-spec = tie.close (tie.spec shl-result returns)
