@@ -1,7 +1,7 @@
 pub mod Length
 pub mod Cells
 pub mod Marks
-pub mod Turned
+pub mod LittleEndian
 pub mod Strips
 pub mod Boards
 pub mod Entries

@@ -9,16 +9,17 @@ ghost use mathlib.Core.Path.{_≡_};
 ghost use Prim.Native.Nat.{_+_, _*_, _/_, _<_};
 ghost use lib.Bits.{bitOr};
 ghost use lib.ListN.{length, set};
-ghost use Rattle.buffer.specs.Field.{byte, wordAt, putWord, part, same};
+ghost use Rattle.buffer.specs.Field.{wordAt, putWord, part, same};
 ghost use Rattle.buffer.specs.Row.{bit};
 ghost use Rattle.board.specs.Board.{stripSize, stripCount, boardSize, marksAt, alertsAt, flagAt, flagOn, mergeSetting, mergeMarks, mergeCount, mergeFlag, mergeStrip, mergeBoard, markBit, without, enter};
+ghost use Rattle.board.specs.LittleEndian.{swapped};
 
-// The bytes of a strip, and the strips of a board.
+// The bytes of a strip, the strips of a board, and its bytes.
 const STRIP_SIZE: usize = 12;
 
-const STRIP_COUNT: usize = 32;
+pub const STRIP_COUNT: usize = 32;
 
-const BOARD_SIZE: usize = 384;
+pub const BOARD_SIZE: usize = STRIP_SIZE * STRIP_COUNT;
 
 // The cells of a strip, by their first bytes.
 const LEVEL: usize = 0;
@@ -85,17 +86,17 @@ fn merge_flag(a_on: bool, b_on: bool, l: usize, a: usize, b: usize) -> bool
 }
 
 // The 16 bits at a place, low byte first: the machine reads them so at once.
-fn turned_at(s: &[u8], at: usize) -> usize
+fn le_word_at(s: &[u8], at: usize) -> usize
     requires { ⌜ at + 1 < length (now s) ⌝ }
-    ensures { λ r. ⌜ (r ≡ byte (wordAt (now (s .entry)) at) * 256 + byte (wordAt (now (s .entry)) at / 256)) × (wordAt (now (s .entry)) at < 65536) ⌝ }
+    ensures { λ r. ⌜ (r ≡ swapped (wordAt (now (s .entry)) at)) × (wordAt (now (s .entry)) at < 65536) ⌝ }
 {
     wide(s[at]) + wide(s[at + 1]) * 256
 }
 
 // Writes a number's 16 bits at a place, low byte first.
-fn put_turned(s: &mut [u8], at: usize, x: usize)
+fn put_le_word(s: &mut [u8], at: usize, x: usize)
     requires { ⌜ at + 1 < length (now s) ⌝ }
-    ensures { λ _. ⌜ now (s .exit) ≡ putWord (now (s .entry)) at (byte x * 256 + byte (x / 256)) ⌝ }
+    ensures { λ _. ⌜ now (s .exit) ≡ putWord (now (s .entry)) at (swapped x) ⌝ }
 {
     s[at] = (x % 256) as u8;
     s[at + 1] = (x / 256 % 256) as u8;
@@ -106,10 +107,10 @@ fn merge_setting_at(s: &mut [u8], l: &[u8], a: &[u8], b: &[u8], at: usize)
     requires { ⌜ (at + 1 < length (now s)) × (at + 1 < length (now l)) × (at + 1 < length (now a)) × (at + 1 < length (now b)) ⌝ }
     ensures { λ _. ⌜ now (s .exit) ≡ putWord (now (s .entry)) at (mergeSetting (wordAt (now (l .entry)) at) (wordAt (now (a .entry)) at) (wordAt (now (b .entry)) at)) ⌝ }
 {
-    put_turned(
+    put_le_word(
         s,
         at,
-        merge_setting(turned_at(l, at), turned_at(a, at), turned_at(b, at)),
+        merge_setting(le_word_at(l, at), le_word_at(a, at), le_word_at(b, at)),
     );
 }
 
@@ -118,10 +119,10 @@ fn merge_marks_at(s: &mut [u8], l: &[u8], a: &[u8], b: &[u8], at: usize)
     requires { ⌜ (at + 1 < length (now s)) × (at + 1 < length (now l)) × (at + 1 < length (now a)) × (at + 1 < length (now b)) ⌝ }
     ensures { λ _. ⌜ now (s .exit) ≡ putWord (now (s .entry)) at (mergeMarks (wordAt (now (l .entry)) at) (wordAt (now (a .entry)) at) (wordAt (now (b .entry)) at)) ⌝ }
 {
-    put_turned(
+    put_le_word(
         s,
         at,
-        merge_marks(turned_at(l, at), turned_at(a, at), turned_at(b, at)),
+        merge_marks(le_word_at(l, at), le_word_at(a, at), le_word_at(b, at)),
     );
 }
 

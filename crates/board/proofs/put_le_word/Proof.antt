@@ -1,11 +1,11 @@
--- `board::put_turned` meets its contract. The low byte is the high one of the number turned round.
+-- `board::put_le_word` meets its contract. The low byte is the high one of the number with its bytes swapped.
 -- Assumes nothing.
 use native.Mathlib.Omega.{arith}
 use denote.Ref.{now}
 use lib.ListN.{length-set}
-use Rattle.board.proofs.Turned.{put-low-first}
-use Rattle.board.proofs.put_turned.Statement.{statement}
-use Rattle.board.proofs.put_turned.Tie as tie
+use Rattle.board.proofs.LittleEndian.{put-low-first}
+use Rattle.board.proofs.put_le_word.Statement.{statement}
+use Rattle.board.proofs.put_le_word.Tie as tie
 
 cast-s : tie.Need-cast-s
 cast-s c = omega arith
@@ -28,6 +28,6 @@ same-length c = simp length-set
 returns : tie.Need-returns
 returns c = put-low-first (now (c .args .s)) (c .args .at) (c .args .x)
 
-pub put-turned-spec : {M : Type 1} → statement M
-put-turned-spec =
+pub put-le-word-spec : {M : Type 1} → statement M
+put-le-word-spec =
     tie.close (tie.spec cast-s slice-write-s cast-s-2 add-s slice-write-s-2 same-length returns)
