@@ -1,6 +1,7 @@
 // A board: 32 strips of 12 bytes, and the rules that make the board of a new version.
 use buffer::copy;
 use buffer::is_same;
+use buffer::part_of;
 use buffer::put_word;
 use buffer::wide;
 use buffer::word_at;
@@ -168,9 +169,7 @@ fn strip_of(board: &[u8], k: usize) -> &[u8]
     requires { ⌜ (length (now board) ≡ boardSize) × (k < stripCount) ⌝ }
     ensures { λ r. ⌜ (now r ≡ part (now (board .entry)) (stripSize * k) stripSize) × (length (now r) ≡ stripSize) ⌝ }
 {
-    let at = STRIP_SIZE * k;
-    let end = at + STRIP_SIZE;
-    &board[at..end]
+    part_of(board, STRIP_SIZE * k, STRIP_SIZE)
 }
 
 // Writes the merge of three boards, strip by strip.

@@ -24,6 +24,15 @@ pub fn word_at(s: &[u8], at: usize) -> usize
     wide(s[at]) * 256 + wide(s[at + 1])
 }
 
+// The n bytes at a place.
+pub fn part_of(s: &[u8], at: usize, n: usize) -> &[u8]
+    requires { ⌜ at + n ≤ length (now s) ⌝ }
+    ensures { λ r. ⌜ (now r ≡ part (now (s .entry)) at n) × (length (now r) ≡ n) ⌝ }
+{
+    let end = at + n;
+    &s[at..end]
+}
+
 // Writes a number's 16 bits at a place.
 pub fn put_word(s: &mut [u8], at: usize, x: usize)
     requires { ⌜ at + 1 < length (now s) ⌝ }
