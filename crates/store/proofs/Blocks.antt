@@ -21,7 +21,7 @@ use Rattle.command.specs.Code.{consoleCount}
 use Rattle.room.specs.Room.{Room}
 use Rattle.room.specs.Boards.{boardOf}
 use Rattle.room.proofs.Lengths.{boardOf-length}
-use Rattle.store.specs.Layout.{headerSize, nodeSize, rowSize, blockSize, capacityAt, countAt, entriesAt, commonsAt, commonsEnd, commonAt, blockAt, rowAt, boardAt, commonField, commonFields, commonTable, header, nodeBytes, block, blocks, encode}
+use Rattle.store.specs.Layout.{headerSize, nodeSize, rowSize, blockSize, settingsAt, countAt, spareAt, entriesAt, commonsAt, commonsEnd, commonAt, blockAt, rowAt, boardAt, commonField, commonFields, commonTable, settingsBytes, header, nodeBytes, block, blocks, encode}
 
 pub commonFields-length : (r : Room) (c d n : ℕ) → length (commonFields r c d n) ≡ 2 * n
 unfolding commonFields
@@ -122,7 +122,7 @@ module _ {s : List ℕ} (g : Graph) (v : ℕ) (h : Stands s (blockAt v) (block g
 
 -- the start of a header, up to the row of the entry versions; that row; the table
 abbrev start : Room → List ℕ
-start r = word (r .settings .capacity) ++ word (versionCount (r .versions)) ++ zeros (entriesAt - 4)
+start r = settingsBytes (r .settings) ++ word (versionCount (r .versions)) ++ zeros (entriesAt - spareAt)
 
 abbrev entries : Room → List ℕ
 entries r = row (isEntry (r .versions)) rowSize
@@ -149,14 +149,14 @@ module _ {s : List ℕ} (r : Room) (h : Stands s 0 (encode r)) where
   stands-start : Stands s 0 (start r)
   stands-start = stands-left (start r) (entries r) (stands-left (start r ++ entries r) (table r) stands-fields)
 
-  pub stands-capacity : Stands s capacityAt (word (r .settings .capacity))
-  stands-capacity =
-      stands-left (word (r .settings .capacity)) (word (versionCount (r .versions)) ++ zeros (entriesAt - 4)) stands-start
+  pub stands-settings : Stands s settingsAt (settingsBytes (r .settings))
+  stands-settings =
+      stands-left (settingsBytes (r .settings)) (word (versionCount (r .versions)) ++ zeros (entriesAt - spareAt)) stands-start
 
   pub stands-count : Stands s countAt (word (versionCount (r .versions)))
   stands-count =
-      stands-left (word (versionCount (r .versions))) (zeros (entriesAt - 4))
-      (stands-right (word (r .settings .capacity)) (word (versionCount (r .versions)) ++ zeros (entriesAt - 4)) stands-start refl)
+      stands-left (word (versionCount (r .versions))) (zeros (entriesAt - spareAt))
+      (stands-right (settingsBytes (r .settings)) (word (versionCount (r .versions)) ++ zeros (entriesAt - spareAt)) stands-start refl)
 
   pub stands-entries : Stands s entriesAt (row (isEntry (r .versions)) rowSize)
   stands-entries = stands-right (start r) (entries r) (stands-left (start r ++ entries r) (table r) stands-fields) refl

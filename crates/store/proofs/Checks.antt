@@ -19,7 +19,7 @@ use Rattle.graph.specs.Graph.{versionCount}
 use Rattle.command.specs.Code.{consoleCount}
 use Rattle.room.specs.Room.{headOf}
 use Rattle.room.specs.Sound.{isCapacity}
-use Rattle.store.specs.Layout.{headerSize, rowSize, blockSize, storeSize, capacityAt, countAt, entriesAt, commonsEnd, blockAt, versionsIn, headFrom, roomIn}
+use Rattle.store.specs.Layout.{headerSize, rowSize, blockSize, storeSize, capacityAt, countAt, spareAt, entriesAt, commonsEnd, blockAt, versionsIn, headFrom, roomIn}
 use Rattle.store.specs.Check.{rowPart, entriesPart, versionsRight, commonIn, consoleRight, behindHeads, contentsRight, storeRight}
 use Rattle.store.proofs.Reading.{headsIn-length, headsIn-one}
 use Rattle.store.proofs.Versions.{versions-length}
@@ -31,7 +31,7 @@ pub record Checks (s : List ℕ) (capacity n : ℕ) : Type 0 where
   pub count : wordAt s countAt ≡ n
   pub some : 1 ≤ n
   pub fits : n ≤ capacity
-  pub gap : allZero (part s (countAt + 2) (entriesAt - (countAt + 2))) ≡ true
+  pub gap : allZero (part s spareAt (entriesAt - spareAt)) ≡ true
   pub rest : allZero (part s commonsEnd (headerSize - commonsEnd)) ≡ true
   pub versions : versionsRight s (pred n) ≡ true
   pub none : noneFrom (entriesPart s) n ≡ true
@@ -63,21 +63,15 @@ module _ (s : List ℕ) where
   checks-fields : Checks s (wordAt s capacityAt) (wordAt s countAt) → storeRight s ≡ true
   unfolding storeRight contentsRight
   checks-fields k =
-      and-i _ _ (and-i _ _ (and-i _ _
-      (le-leb headerSize (length s) (omega (arith, k .long)))
-      (k .known))
-      (le-leb (storeSize (wordAt s capacityAt)) (length s) (k .long)))
-      (and-i _ _ (and-i _ _ (and-i _ _ (and-i _ _ (and-i _ _ (and-i _ _ (and-i _ _ (and-i _ _ (and-i _ _
-      (le-leb 1 (wordAt s countAt) (k .some))
-      (le-leb (wordAt s countAt) (wordAt s capacityAt) (k .fits)))
-      (k .gap))
-      (k .rest))
-      (k .versions))
-      (k .none))
-      (k .free))
-      (k .consoles))
-      (k .first))
-      (same-of _ _ (k .behind)))
+      and-i _ _ (le-leb headerSize (length s) (omega (arith, k .long)))
+      (and-i _ _ (k .known)
+      (and-i _ _ (le-leb (storeSize (wordAt s capacityAt)) (length s) (k .long))
+      (and-i _ _ (le-leb 1 (wordAt s countAt) (k .some))
+      (and-i _ _ (le-leb (wordAt s countAt) (wordAt s capacityAt) (k .fits))
+      (and-i _ _ (and-i _ _ (k .gap) (k .rest))
+      (and-i _ _ (k .versions)
+      (and-i _ _ (and-i _ _ (k .none) (k .free))
+      (and-i _ _ (k .consoles) (and-i _ _ (k .first) (same-of _ _ (k .behind)))))))))))
 
   -- the test, of the room's own capacity and number of versions
   pub right-checks : storeRight s ≡ true → Checks s (roomIn s .settings .capacity) (versionCount (roomIn s .versions))

@@ -4,8 +4,8 @@
 use mathlib.Core.Path.{_≡_, refl, ap}
 use mathlib.Core.Bool.{Bool, true, false, cond}
 use mathlib.Core.List.{List}
-use Prim.Native.Nat.{ℕ, pred, _+_, _-_, _*_, _≤_, _<_}
-use native.Mathlib.Numerals.{add-one, sub-one}
+use Prim.Native.Nat.{ℕ, pred, _+_, _*_, _≤_, _<_}
+use native.Mathlib.Numerals.{add-one}
 use native.Mathlib.Omega.{arith}
 use lib.Dec.{eqb, leb}
 use lib.ListN.{length}
@@ -45,8 +45,8 @@ module _ (s : List ℕ) (rowOf : ℕ → List ℕ) where
 
 -- the row of the version that a field stands for lies inside
 pub row-inside : (rows : List ℕ) (first stride field : ℕ) → (0 < field → first + stride * pred field + rowSize ≤ length rows) → (field ≡ 0 → ⊥)
-    → first + stride * (field - 1) + rowSize ≤ length rows
-row-inside rows first stride field inside ne = rw sub-one (inside (omega arith))
+    → first + stride * pred field + rowSize ≤ length rows
+row-inside rows first stride field inside ne = inside (omega arith)
 
 -- in a store the rows stand a block apart
 row-place : (v : ℕ) → headerSize + nodeSize + blockSize * v ≡ rowAt v

@@ -16,7 +16,7 @@ use Rattle.command.specs.Code.{consoleCount}
 use Rattle.room.specs.Room.{Room}
 use Rattle.room.specs.Sound.{behindHead}
 use Rattle.room.proofs.Sound.{Sound, present-console}
-use Rattle.store.specs.Layout.{headerSize, rowSize, blockSize, countAt, entriesAt, commonsEnd, blockAt, roomIn, holdsStore}
+use Rattle.store.specs.Layout.{headerSize, rowSize, blockSize, countAt, spareAt, entriesAt, commonsEnd, blockAt, roomIn, holdsStore}
 use Rattle.store.specs.Check.{rowPart, commonIn, storeRight}
 use Rattle.store.proofs.Reading.{count-read}
 use Rattle.store.proofs.Shown.{no-entry}
@@ -50,7 +50,7 @@ module _ (s : List ℕ) (t : holdsStore s ≡ true) where
         count = count-read s r (whole-front s t) (whole-ranges s t);
         some = omega arith;
         fits = sound .fits;
-        gap = stands-zero (countAt + 2) (entriesAt - (countAt + 2)) (stands-gap r (whole-front s t));
+        gap = stands-zero spareAt (entriesAt - spareAt) (stands-gap r (whole-front s t));
         rest = stands-zero commonsEnd (headerSize - commonsEnd) (stands-rest r (whole-front s t));
         versions = held-versions s (length g) (whole-small s t) (rw own-versions (whole-held s t));
         none = rw (whole-entries s t) (none-row (isEntry g) rowSize (versionCount g) (no-entry g));

@@ -16,8 +16,8 @@ use Rattle.graph.specs.Graph.{Graph, versionCount, isEntry, nodeOf}
 use Rattle.command.specs.Code.{consoleCount}
 use Rattle.room.specs.Room.{Room}
 use Rattle.room.specs.Boards.{boardOf}
-use Rattle.store.specs.Layout.{headerSize, rowSize, blockSize, capacityAt, countAt, entriesAt, commonsAt, commonsEnd, commonAt, blockAt, rowAt, boardAt, commonField, commonFields, commonTable, header, nodeBytes, block, blocks, encode}
-use Rattle.store.proofs.Blocks.{commonFields-length, commonTable-length, header-length, nodeBytes-length, blocks-length, stands-header, stands-capacity, stands-count, stands-entries, stands-common, stands-block}
+use Rattle.store.specs.Layout.{headerSize, rowSize, blockSize, settingsAt, countAt, spareAt, entriesAt, commonsAt, commonsEnd, commonAt, blockAt, rowAt, boardAt, commonField, commonFields, commonTable, settingsBytes, header, nodeBytes, block, blocks, encode}
+use Rattle.store.proofs.Blocks.{commonFields-length, commonTable-length, header-length, nodeBytes-length, blocks-length, stands-header, stands-settings, stands-count, stands-entries, stands-common, stands-block}
 use Rattle.store.proofs.Lineage.{lineage}
 
 stands-none : {s : List ℕ} {at : ℕ} → Stands s at []
@@ -62,9 +62,9 @@ join-block g v a b c =
 
 -- the parts of an encoding, each in its place
 pub record Placed (s : List ℕ) (r : Room) : Type 0 where
-  pub capacity : Stands s capacityAt (word (r .settings .capacity))
+  pub settings : Stands s settingsAt (settingsBytes (r .settings))
   pub count : Stands s countAt (word (versionCount (r .versions)))
-  pub gap : Stands s (countAt + 2) (zeros (entriesAt - (countAt + 2)))
+  pub gap : Stands s spareAt (zeros (entriesAt - spareAt))
   pub entries : Stands s entriesAt (row (isEntry (r .versions)) rowSize)
   pub commons : (c d : ℕ) → c < consoleCount → d < consoleCount → Stands s (commonAt c d) (word (commonField r c d))
   pub rest : Stands s commonsEnd (zeros (headerSize - commonsEnd))
@@ -72,10 +72,10 @@ pub record Placed (s : List ℕ) (r : Room) : Type 0 where
   pub free : Stands s (blockAt (versionCount (r .versions))) (zeros (blockSize * (r .settings .capacity - versionCount (r .versions))))
 
 abbrev gap : List ℕ
-gap = zeros (entriesAt - (countAt + 2))
+gap = zeros (entriesAt - spareAt)
 
 abbrev start : Room → List ℕ
-start r = word (r .settings .capacity) ++ word (versionCount (r .versions)) ++ gap
+start r = settingsBytes (r .settings) ++ word (versionCount (r .versions)) ++ gap
 
 abbrev entries : Room → List ℕ
 entries r = row (isEntry (r .versions)) rowSize
@@ -100,7 +100,7 @@ module _ {s : List ℕ} (r : Room) where
       stands-join (start r ++ entries r ++ table r) (zeros (headerSize - commonsEnd))
       (stands-join (start r ++ entries r) (table r)
       (stands-join (start r) (entries r)
-      (stands-join (word (r .settings .capacity)) (word (versionCount (r .versions)) ++ gap) (p .capacity)
+      (stands-join (settingsBytes (r .settings)) (word (versionCount (r .versions)) ++ gap) (p .settings)
       (stands-join (word (versionCount (r .versions))) gap (p .count) (p .gap) refl) refl)
       (p .entries) refl)
       (join-commons commonsAt (p .commons)) (simp rowFrom-length))
@@ -122,10 +122,10 @@ module _ {s : List ℕ} (r : Room) where
         stands-right (start r ++ entries r ++ table r) (zeros (headerSize - commonsEnd)) (stands-header r h)
         (simp (length-append, rowFrom-length, commonTable-length))
 
-    pub stands-gap : Stands s (countAt + 2) (zeros (entriesAt - (countAt + 2)))
+    pub stands-gap : Stands s spareAt (zeros (entriesAt - spareAt))
     unfolding header
     stands-gap =
-        stands-right (word (r .settings .capacity) ++ word (versionCount (r .versions))) gap
+        stands-right (settingsBytes (r .settings) ++ word (versionCount (r .versions))) gap
         (stands-left (start r) (entries r)
         (stands-left (start r ++ entries r) (table r)
         (stands-left (start r ++ entries r ++ table r) (zeros (headerSize - commonsEnd)) (stands-header r h))))
@@ -141,7 +141,7 @@ module _ {s : List ℕ} (r : Room) where
     pub placed : Placed s r
     placed =
         record {
-          capacity = stands-capacity r h;
+          settings = stands-settings r h;
           count = stands-count r h;
           gap = stands-gap;
           entries = stands-entries r h;

@@ -5,7 +5,7 @@ pub mod Reading
 pub mod RoundTrip
 pub mod Lineage
 pub mod Shown
-pub mod Nodes
+pub mod NodeBytes
 pub mod Told
 pub mod Versions
 pub mod Commons

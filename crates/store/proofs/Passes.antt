@@ -26,7 +26,7 @@ use Rattle.room.specs.Room.{Room, headOf, present}
 use Rattle.room.specs.Sound.{maxCapacity, behindHead}
 use Rattle.room.proofs.Sound.{Sound, present-console, facts-sound}
 use Rattle.room.proofs.Lengths.{boardOf-length}
-use Rattle.store.specs.Layout.{headerSize, rowSize, blockSize, storeSize, capacityAt, countAt, entriesAt, commonsEnd, commonAt, blockAt, encode, roomIn, holdsStore}
+use Rattle.store.specs.Layout.{headerSize, rowSize, blockSize, storeSize, capacityAt, countAt, spareAt, entriesAt, commonsEnd, commonAt, blockAt, encode, roomIn, holdsStore}
 use Rattle.store.specs.Check.{rowPart, entriesPart, commonIn, storeRight}
 use Rattle.store.proofs.RoundTrip.{encode-length}
 use Rattle.store.proofs.Shown.{no-entry}
@@ -100,9 +100,9 @@ module _ (s : List ℕ) (b : Bytes s) where
     parts : Placed s r
     parts =
         record {
-          capacity = unfold roomIn in word-stands capacityAt b;
+          settings = unfold roomIn in word-stands capacityAt b;
           count = rw (k .count) at (word-stands {s = s} countAt b);
-          gap = zero-stands (countAt + 2) (entriesAt - (countAt + 2)) (k .gap);
+          gap = zero-stands spareAt (entriesAt - spareAt) (k .gap);
           entries = part-stands rowSize entries (rowFrom-length (isEntry g) 0 rowSize);
           commons = λ c d i j. subst (λ (x : ℕ). Stands s (commonAt c d) (word x)) (field-is (fields c d i j)) (word-stands (commonAt c d) b);
           rest = zero-stands commonsEnd (headerSize - commonsEnd) (k .rest);

@@ -23,7 +23,7 @@ use Rattle.room.specs.Room.{Room, headOf, present, head, common}
 use Rattle.room.specs.Sound.{entryInRange, namesVersion}
 use Rattle.store.specs.Layout.{fieldWhere, blockAt, commonAt, headAt, capacityAt, countAt, commonField, nodeBytes, encode, nodeIn, versionsIn, headFrom, headsIn}
 use Rattle.store.proofs.Diagonal.{meetNumber-below, meetNumber-self}
-use Rattle.store.proofs.Blocks.{stands-common, stands-record, stands-capacity, stands-count}
+use Rattle.store.proofs.Blocks.{stands-common, stands-record, stands-settings, stands-count}
 use Rattle.command.proofs.Limits.{operand-below}
 use Rattle.store.proofs.Ranges.{Ranges}
 
@@ -40,18 +40,18 @@ node-read s v g before (Entry p code strip operand) h l i j =
     let d = operand-below code operand (search (and-l, and-r)) in
     let e = ltb-true (p .0) (versionCount before) i in
     let first : getD s (blockAt v) 0 ≡ code = stands-first h ∙ omega arith in
-    let second : getD s (blockAt v + 1) 0 ≡ strip = h .read 1 (omega arith) ∙ omega arith in
+    let second : getD s (blockAt v + 1) 0 ≡ strip .0 = h .read 1 (omega arith) ∙ omega arith in
     let third = stands-field h 2 operand (omega arith) refl refl (omega arith) in
     let fourth = stands-field h 4 (p .0) (omega arith) refl refl (omega arith) in
     let other : eqb code 9 ≡ false = ne-eqb code 9 (omega arith) in
-    cc
+    rw (first, other, fourth, second, third)
 node-read s v g before (Merge p q) h l i j =
     let a = ltb-true (p .0) (versionCount before) (search and-l) in
     let b = ltb-true (q .0) (versionCount before) (search and-r) in
     let first : getD s (blockAt v) 0 ≡ 9 = stands-first h in
     let third = stands-field h 4 (p .0) (omega arith) refl refl (omega arith) in
     let fourth = stands-field h 6 (q .0) (omega arith) refl refl (omega arith) in
-    cc
+    rw (first, third, fourth)
 
 -- the versions of h read back where their records stand, whatever graph g the bases are taken from
 nodes-read : (s : List ℕ) (g h : Graph)
@@ -93,7 +93,7 @@ field-self r c (some v) e n = ap some (rw e (meetNumber-self (r .versions) v (lt
 
 module _ (s : List ℕ) (r : Room) (h : Stands s 0 (encode r)) (k : Ranges r) where
   pub capacity-read : wordAt s capacityAt ≡ r .settings .capacity
-  capacity-read = stands-word (r .settings .capacity) (stands-capacity r h) (omega arith)
+  capacity-read = stands-word (r .settings .capacity) (stands-settings r h) (omega arith)
 
   pub count-read : wordAt s countAt ≡ versionCount (r .versions)
   count-read = stands-word (versionCount (r .versions)) (stands-count r h) (omega arith)

@@ -35,7 +35,7 @@ room-encode r rest h =
     let front = stands-front (encode r) rest in
     let k = ranges r h in
     λ i. record {
-      capacity = capacity-read s r front k i;
+      settings = record { capacity = capacity-read s r front k i };
       versions = (ap (λ (n : ℕ). versionsIn s (pred n)) (count-read s r front k) ∙ versions-read s r front k) i;
       heads = heads-read s r front k i;
     }

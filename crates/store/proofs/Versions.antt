@@ -23,11 +23,12 @@ use Rattle.graph.proofs.Growth.{merge-base}
 use Rattle.room.specs.Sound.{maxCapacity}
 use Rattle.room.specs.Boards.{boardMade, boardOf}
 use Rattle.store.specs.Layout.{nodeSize, rowSize, blockAt, boardAt, nodeBytes, nodeIn, versionsIn}
-use Rattle.store.specs.Check.{rowPart, boardPart, entriesPart, rootRight, entryRight, mergeRight, versionRight, versionsRight}
+use Rattle.store.specs.Rules.{nodeInRange}
+use Rattle.store.specs.Check.{rowPart, boardPart, entriesPart, rootRight, entryParts, mergeParts, nodeParts, versionRight, versionsRight}
 use Rattle.store.proofs.Lineage.{entry-lineage, merge-lineage}
 use Rattle.store.proofs.Shown.{shown, made}
 use Rattle.store.proofs.Told.{Told, Held, Next, held-next, held-before, held-newest, meet-rows, rows-meet}
-use Rattle.store.proofs.Nodes.{codeIn, stripIn, operandIn, parentIn, giverIn, baseIn, entryIn, mergeIn, zero-entry, entry-zero, zero-merge, merge-zero, merge-rest, merge-base-read}
+use Rattle.store.proofs.NodeBytes.{codeIn, stripIn, operandIn, parentIn, giverIn, baseIn, entryIn, mergeIn, zero-entry, entry-zero, zero-merge, merge-zero, merge-rest, merge-base-read}
 
 -- the number of a meet
 base-is : {g : Graph} {p q l : ℕ} → Meet g p q l → baseOf g p q ≡ l
@@ -53,10 +54,10 @@ module _ (s : List ℕ) (g : Graph) (small : versionCount g < maxCapacity) (h : 
 
   -- the tests of it, where it is an entry and where it is a merge
   abbrev entryTest : Bool
-  entryTest = entryRight s v p (codeIn s v) (stripIn s v) (operandIn s v)
+  entryTest = nodeInRange v (entryIn s v) && nodeParts s v (entryIn s v)
 
   abbrev mergeTest : Bool
-  mergeTest = mergeRight s v p q l
+  mergeTest = nodeInRange v (mergeIn s v) && nodeParts s v (mergeIn s v)
 
   entry-line : p < v → withMember (rowPart s p) v ≡ made g (entryIn s v) .line
   entry-line a = rw (h .told p a .line) (entry-lineage g p v small)
@@ -74,7 +75,7 @@ module _ (s : List ℕ) (g : Graph) (small : versionCount g < maxCapacity) (h : 
       rw (h .told l (ancestor-below g l p (m .first)) .board, h .told p a .board, h .told q b .board, base-is m)
 
   entry-next : Bytes s → entryTest ≡ true → Next s g (entryIn s v)
-  unfolding entryRight
+  unfolding entryParts
   entry-next b t =
       let a = ltb-true p v (search (and-l, and-r) depth 12) in
       record {
@@ -90,19 +91,18 @@ module _ (s : List ℕ) (g : Graph) (small : versionCount g < maxCapacity) (h : 
       }
 
   next-entry : Next s g (entryIn s v) → entryTest ≡ true
-  unfolding entryRight
+  unfolding entryParts
   next-entry k =
       let a = ltb-true p v (k .lower) in
-      and-i _ _ (and-i _ _ (and-i _ _ (and-i _ _ (and-i _ _
-      (k .ranged)
-      (k .lower))
-      (entry-zero s v g (k .told .node)))
+      and-i _ _ (and-i _ _ (k .ranged) (k .lower))
+      (and-i _ _ (and-i _ _ (and-i _ _
+      (entry-zero s v g (k .told .node))
       (same-of _ _ (k .told .line ∙ sym (entry-line a))))
       (same-of _ _ (k .told .board ∙ sym (entry-board a))))
-      (k .told .listed)
+      (k .told .listed))
 
   merge-next : Bytes s → codeIn s v ≡ 9 → mergeTest ≡ true → Next s g (mergeIn s v)
-  unfolding mergeRight
+  unfolding mergeParts
   merge-next b nine t =
       let first = ltb-true p v (search (and-l, and-r) depth 12) in
       let second = ltb-true q v (search (and-l, and-r) depth 12) in
@@ -123,7 +123,7 @@ module _ (s : List ℕ) (g : Graph) (small : versionCount g < maxCapacity) (h : 
       }
 
   next-merge : Next s g (mergeIn s v) → mergeTest ≡ true
-  unfolding mergeRight
+  unfolding mergeParts
   next-merge k =
       let first = ltb-true p v (and-l (ltb p v) (ltb q v) (k .lower)) in
       let second = ltb-true q v (and-r (ltb p v) (ltb q v) (k .lower)) in
@@ -131,24 +131,24 @@ module _ (s : List ℕ) (g : Graph) (small : versionCount g < maxCapacity) (h : 
       let base = merge-base (record { lower = grown .lower; based = grown .based }) in
       let e : l ≡ base .0 = merge-base-read s v g (k .told .node) (omega arith) ∙ base-is (base .1) in
       let m : Meet g p q l = rw e (base .1) in
-      and-i _ _ (and-i _ _ (and-i _ _ (and-i _ _ (and-i _ _ (and-i _ _ (and-i _ _
-      (k .lower)
-      (lt-ltb l v (ancestor-below g l p (m .first))))
-      (merge-zero s v g (k .told .node)))
+      and-i _ _ (k .lower)
+      (and-i _ _ (lt-ltb l v (ancestor-below g l p (m .first)))
+      (and-i _ _ (and-i _ _ (and-i _ _ (and-i _ _
+      (merge-zero s v g (k .told .node))
       (merge-rest s v g (k .told .node)))
-      (and-i _ _ (and-i _ _
+      (and-i _ _ (and-i _ _ (and-i _ _
       (not-i _ (ne-eqb l p (λ d. base .2 (sym e ∙ d))))
       (not-i _ (ne-eqb l q (λ d. base .3 (sym e ∙ d)))))
-      (same-of _ _ (meet-rows (omega arith) h p q l first second m))))
-      (same-of _ _ (k .told .line ∙ sym (merge-line first second))))
+      (same-of _ _ (meet-rows (omega arith) h p q l first second m)))
+      (same-of _ _ (k .told .line ∙ sym (merge-line first second)))))
       (same-of _ _ (k .told .board ∙ sym (merge-board first second m))))
-      (not-i _ (k .told .listed))
+      (not-i _ (k .told .listed))))
 
   version-next : Bytes s → versionRight s v ≡ true → Next s g (nodeIn s v)
   unfolding versionRight nodeIn
   version-next b t = go (eqb (codeIn s v) 9) refl t
     where
-      go : (n : Bool) → eqb (codeIn s v) 9 ≡ n → cond n mergeTest entryTest ≡ true
+      go : (n : Bool) → eqb (codeIn s v) 9 ≡ n → nodeInRange v (cond n (mergeIn s v) (entryIn s v)) && nodeParts s v (cond n (mergeIn s v) (entryIn s v)) ≡ true
           → Next s g (cond n (mergeIn s v) (entryIn s v))
       go true e k = merge-next b (eqb-true (codeIn s v) 9 e) k
       go false e k = entry-next b k
@@ -158,7 +158,7 @@ module _ (s : List ℕ) (g : Graph) (small : versionCount g < maxCapacity) (h : 
   next-version = go (eqb (codeIn s v) 9)
     where
       go : (n : Bool) → Next s g (cond n (mergeIn s v) (entryIn s v))
-          → cond n mergeTest entryTest ≡ true
+          → nodeInRange v (cond n (mergeIn s v) (entryIn s v)) && nodeParts s v (cond n (mergeIn s v) (entryIn s v)) ≡ true
       go true k = next-merge k
       go false k = next-entry k
 

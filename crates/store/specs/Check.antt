@@ -13,7 +13,7 @@ use Rattle.graph.specs.declared.Node.{Node}
 use Rattle.graph.specs.declared.Node.the-variants.{Entry, Merge}
 use Rattle.command.specs.Code.{consoleCount}
 use Rattle.room.specs.Sound.{settingsInRange}
-use Rattle.store.specs.Rules.{entryRanges, bothBelow, isBase}
+use Rattle.store.specs.Rules.{nodeInRange, isBase}
 use Rattle.store.specs.Layout.{headerSize, nodeSize, rowSize, blockSize, storeSize, capacityAt, countAt, spareAt, entriesAt, commonsEnd, commonAt, blockAt, nodeStripAt, nodeGiverAt, nodeBaseAt, rowAt, boardAt, nodeIn, settingsIn}
 
 abbrev pub rowPart : List ℕ → ℕ → List ℕ
@@ -41,10 +41,7 @@ entryParts s v p code strip operand =
     && same (boardPart s v) (enter code strip operand (boardPart s p))
     && member (entriesPart s) v
 
-abbrev pub entryRight : List ℕ → ℕ → ℕ → ℕ → ℕ → ℕ → Bool
-entryRight s v p code strip operand = entryRanges v p code strip operand && entryParts s v p code strip operand
-
--- a merge of q into p with the base l: the base is theirs and its row made of theirs
+-- a merge of q into p with the base l: the base is theirs, and its row made of theirs
 abbrev pub mergeRows : List ℕ → ℕ → ℕ → ℕ → ℕ → Bool
 mergeRows s v p q l =
     isBase l p q (rowPart s l) (rowPart s p) (rowPart s q)
@@ -59,16 +56,13 @@ mergeParts s v p q l =
     && same (boardPart s v) (mergeBoard (boardPart s l) (boardPart s p) (boardPart s q))
     && not (member (entriesPart s) v)
 
-abbrev pub mergeRight : List ℕ → ℕ → ℕ → ℕ → ℕ → Bool
-mergeRight s v p q l = (bothBelow v p q && ltb l v) && mergeParts s v p q l
-
--- version v, as its node says
-abbrev pub nodeRight : List ℕ → ℕ → Node → Bool
-nodeRight s v (Entry p code strip operand) = entryRight s v (p .0) code (strip .0) operand
-nodeRight s v (Merge p q) = mergeRight s v (p .0) (q .0) (wordAt s (nodeBaseAt v))
+-- the parts of version v, as its node says; a base must be below it
+abbrev pub nodeParts : List ℕ → ℕ → Node → Bool
+nodeParts s v (Entry p code strip operand) = entryParts s v (p .0) code (strip .0) operand
+nodeParts s v (Merge p q) = ltb (wordAt s (nodeBaseAt v)) v && mergeParts s v (p .0) (q .0) (wordAt s (nodeBaseAt v))
 
 unfoldable pub versionRight : List ℕ → ℕ → Bool
-versionRight s v = nodeRight s v (nodeIn s v)
+versionRight s v = nodeInRange v (nodeIn s v) && nodeParts s v (nodeIn s v)
 
 -- versions 0 to n
 unfoldable pub versionsRight : List ℕ → ℕ → Bool
@@ -79,14 +73,17 @@ versionsRight s (suc n) = versionsRight s n && versionRight s (suc n)
 abbrev pub commonIn : List ℕ → ℕ → ℕ → ℕ
 commonIn s c d = wordAt s (commonAt c d)
 
--- consoles c and d, of n versions: 0 where one is absent, else 1 more than the version whose row is the intersection of their heads'
+-- m as the field of two consoles whose own fields are u and v, of n versions: 0 where one is absent, else 1 more than the version whose row is
+-- the intersection of their heads'
+abbrev pub meetRight : List ℕ → ℕ → ℕ → ℕ → ℕ → Bool
+meetRight s n m u v =
+    cond (eqb u 0 || eqb v 0)
+    (eqb m 0)
+    (ltb 0 m && leb m n && same (rowPart s (pred m)) (intersection (rowPart s (pred u)) (rowPart s (pred v))))
+
+-- consoles c and d: the field stands at both of its places, and is right
 unfoldable pub pairRight : List ℕ → ℕ → ℕ → ℕ → Bool
-pairRight s n c d =
-    eqb (commonIn s d c) (commonIn s c d)
-    && cond (eqb (commonIn s c c) 0 || eqb (commonIn s d d) 0)
-    (eqb (commonIn s c d) 0)
-    (ltb 0 (commonIn s c d) && leb (commonIn s c d) n
-    && same (rowPart s (pred (commonIn s c d))) (intersection (rowPart s (pred (commonIn s c c))) (rowPart s (pred (commonIn s d d)))))
+pairRight s n c d = eqb (commonIn s d c) (commonIn s c d) && meetRight s n (commonIn s c d) (commonIn s c c) (commonIn s d d)
 
 -- console c: its head is a version, and its pairs with the consoles below it are right
 unfoldable pub consoleRight : List ℕ → ℕ → ℕ → Bool

@@ -1,8 +1,7 @@
 // Whether lent bytes hold a sound store: the tests of the header, of the versions and of the consoles, together.
-use crate::consoles::behind_right;
 use crate::consoles::consoles_right;
+use crate::consoles::heads_reach_all;
 use crate::places::BLOCK;
-use crate::places::CAPACITY;
 use crate::places::COMMONS;
 use crate::places::COMMONS_END;
 use crate::places::COUNT;
@@ -10,27 +9,24 @@ use crate::places::ENTRIES;
 use crate::places::HEADER;
 use crate::places::NODE;
 use crate::places::SPARE;
-use crate::places::block_at;
-use crate::places::is_capacity;
+use crate::places::store_size;
+use crate::settings::read_settings;
+use crate::settings::settings_in_range;
 use crate::version::versions_right;
 use buffer::is_zero;
 use buffer::none_from;
 use buffer::word_at;
 ghost use mathlib.Core.Path.{_≡_};
-ghost use mathlib.Core.Bool.{_&&_};
-ghost use Prim.Native.Nat.{ℕ, _+_, _-_, _*_, _≤_, _<_};
-ghost use lib.Dec.{ltb};
+ghost use Prim.Native.Nat.{ℕ, _≤_, _<_};
 ghost use lib.ListN.{length};
-ghost use Rattle.buffer.specs.Field.{part, same, allZero};
-ghost use Rattle.buffer.specs.Row.{row, noneFrom};
 ghost use Rattle.command.specs.Code.{consoleCount};
-ghost use Rattle.store.specs.Layout.{headerSize, rowSize, blockSize, storeSize, countAt, entriesAt, commonsEnd, blockAt, holdsStore};
-ghost use Rattle.store.specs.Check.{rowPart, entriesPart, commonIn, behindHeads, contentsRight};
+ghost use Rattle.store.specs.Layout.{headerSize, storeSize, blockAt, holdsStore};
+ghost use Rattle.store.specs.Check.{commonIn, spareZero, restZero, headsCover, contentsRight};
 
 // The spare bytes of the header are zero.
 fn spare_right(s: &[u8]) -> bool
     requires { ⌜ headerSize ≤ length (now s) ⌝ }
-    ensures { λ r. ⌜ r ≡ (allZero (part (now (s .entry)) (countAt + 2) (entriesAt - (countAt + 2))) && allZero (part (now (s .entry)) commonsEnd (headerSize - commonsEnd))) ⌝ }
+    ensures { λ r. ⌜ r ≡ spareZero (now (s .entry)) ⌝ }
 {
     is_zero(&s[SPARE..ENTRIES]) & is_zero(&s[COMMONS_END..HEADER])
 }
@@ -38,10 +34,10 @@ fn spare_right(s: &[u8]) -> bool
 // Nothing stands past the last of n versions: no bit of the entry row, and no byte of the blocks that are free.
 fn rest_right(s: &[u8], capacity: usize, n: usize) -> bool
     requires { ⌜ (capacity ≤ 1024) × (n ≤ capacity) × (storeSize capacity ≤ length (now s)) ⌝ }
-    ensures { λ r. ⌜ r ≡ (noneFrom (entriesPart (now (s .entry))) n && allZero (part (now (s .entry)) (blockAt n) (blockSize * (capacity - n)))) ⌝ }
+    ensures { λ r. ⌜ r ≡ restZero (now (s .entry)) capacity n ⌝ }
 {
-    let from = block_at(n);
-    let to = block_at(capacity);
+    let from = store_size(n);
+    let to = store_size(capacity);
     none_from(&s[ENTRIES..COMMONS], n) & is_zero(&s[from..to])
 }
 
@@ -49,9 +45,9 @@ fn rest_right(s: &[u8], capacity: usize, n: usize) -> bool
 fn heads_right(s: &[u8], n: usize) -> bool
     requires { ⌜ blockAt n ≤ length (now s) ⌝ }
     requires { ⌜ ((c : ℕ) → c < consoleCount → commonIn (now s) c c ≤ n) ⌝ }
-    ensures { λ r. ⌜ r ≡ (ltb 0 (commonIn (now (s .entry)) 0 0) && same (behindHeads (now (s .entry)) (rowPart (now (s .entry))) consoleCount) (row (λ v. ltb v n) rowSize)) ⌝ }
+    ensures { λ r. ⌜ r ≡ headsCover (now (s .entry)) n ⌝ }
 {
-    (0 < word_at(s, COMMONS)) & behind_right(s, s, HEADER + NODE, BLOCK, n)
+    (0 < word_at(s, COMMONS)) & heads_reach_all(s, s, HEADER + NODE, BLOCK, n)
 }
 
 // A store of this capacity with n versions.
@@ -87,11 +83,12 @@ pub fn holds(s: &[u8]) -> bool
     if s.len() < HEADER {
         return false;
     }
-    let capacity = word_at(s, CAPACITY);
-    if !is_capacity(capacity) {
+    let settings = read_settings(s);
+    if !settings_in_range(settings) {
         return false;
     }
-    if s.len() < block_at(capacity) {
+    let capacity = settings.capacity;
+    if s.len() < store_size(capacity) {
         return false;
     }
     contents_right(s, capacity, word_at(s, COUNT))

@@ -1,124 +1,131 @@
 // Where the parts of a store stand in its bytes.
+use board::BOARD_SIZE;
+use buffer::part_of;
+use buffer::word_at;
+use command::numbers::CONSOLES;
+use graph::Console;
+use graph::Version;
 ghost use mathlib.Core.Path.{_≡_};
-ghost use Prim.Native.Nat.{suc, _^_, _<_, _≤_};
+ghost use Prim.Native.Nat.{suc, pred, _^_, _<_, _≤_};
 ghost use lib.ListN.{length};
 ghost use Rattle.board.specs.Board.{boardSize};
 ghost use Rattle.command.specs.Code.{consoleCount};
-ghost use Rattle.room.specs.Sound.{isCapacity};
-ghost use Rattle.store.specs.Layout.{headerSize, rowSize, blockAt, rowAt, boardAt, commonAt};
+ghost use Rattle.store.specs.Layout.{headerSize, rowSize, storeSize, blockAt, rowAt, boardAt, commonAt};
 ghost use Rattle.store.specs.Check.{rowPart, boardPart, entriesPart, commonIn};
 
-// The most versions that a store can hold, and the number of consoles.
+// The most versions that a store can hold.
 pub const MAX_CAPACITY: usize = 1024;
 
-pub const CONSOLES: usize = command::numbers::CONSOLES;
-
-// Sizes in bytes.
+// Sizes in bytes. A row has a bit for each version that a store can hold, a block is a node, a row and a board.
 pub const HEADER: usize = 4096;
-
-pub const BLOCK: usize = 544;
 
 pub const NODE: usize = 32;
 
-pub const ROW: usize = 128;
+pub const ROW: usize = MAX_CAPACITY / 8;
 
-pub const BOARD: usize = 384;
+pub const BOARD: usize = BOARD_SIZE;
 
-// Places in the header: the capacity, the number of versions, the spare bytes behind them, the row of entries, the table of commons and its end.
+pub const BLOCK: usize = NODE + ROW + BOARD;
+
+// Places in the header: what the room is set to, the number of versions, the spare bytes behind them, the row of entries, the table of
+// commons and its end.
 pub const CAPACITY: usize = 0;
 
 pub const COUNT: usize = 2;
 
-pub const SPARE: usize = 4;
+pub const SPARE: usize = COUNT + 2;
 
 pub const ENTRIES: usize = 128;
 
-pub const COMMONS: usize = 256;
+pub const COMMONS: usize = ENTRIES + ROW;
 
-pub const COMMONS_END: usize = 768;
+pub const COMMONS_END: usize = COMMONS + 2 * CONSOLES * CONSOLES;
 
-// Places in a node, which has its code at its front, and its spare bytes at the end. The parent of a merge is the receiver's version.
-pub const NODE_STRIP: usize = 1;
+// A field of the table of commons: 0 where a console is absent, else 1 more than the version. Only `field_of` and `version_of` turn one into
+// the other.
+pub struct Field(pub usize);
 
-pub const NODE_OPERAND: usize = 2;
-
-pub const NODE_PARENT: usize = 4;
-
-pub const NODE_GIVER: usize = 6;
-
-pub const NODE_BASE: usize = 8;
-
-pub const NODE_SPARE: usize = 10;
-
-// The code in the node of a merge.
-pub const MERGE_CODE: usize = 0x09;
-
-// Whether a store can have this capacity.
-pub fn is_capacity(n: usize) -> bool
-    ensures { λ r. ⌜ r ≡ isCapacity n ⌝ }
+// The field that stands for a version.
+pub fn field_of(v: Version) -> Field
+    requires { ⌜ v .0 < 2 ^ 32 ⌝ }
+    ensures { λ r. ⌜ r .0 ≡ suc (v .0) ⌝ }
 {
-    (1 <= n) & (n <= MAX_CAPACITY)
+    Field(v.0 + 1)
 }
 
-// The place of the block of version v; the end of a store of capacity v.
-pub fn block_at(v: usize) -> usize
-    requires { ⌜ blockAt v < 2 ^ 64 ⌝ }
-    ensures { λ r. ⌜ r ≡ blockAt v ⌝ }
+// The version that a field stands for; version 0 for none.
+pub fn version_of(field: Field) -> Version
+    ensures { λ r. ⌜ r .0 ≡ pred (field .0) ⌝ }
 {
-    HEADER + BLOCK * v
+    if field.0 == 0 {
+        return Version(0);
+    }
+    Version(field.0 - 1)
+}
+
+// How many bytes a store of a capacity takes.
+pub fn store_size(capacity: usize) -> usize
+    requires { ⌜ storeSize capacity < 2 ^ 64 ⌝ }
+    ensures { λ r. ⌜ r ≡ storeSize capacity ⌝ }
+{
+    HEADER + BLOCK * capacity
+}
+
+// The place of the block of a version.
+pub fn block_at(v: Version) -> usize
+    requires { ⌜ blockAt (v .0) < 2 ^ 64 ⌝ }
+    ensures { λ r. ⌜ r ≡ blockAt (v .0) ⌝ }
+{
+    HEADER + BLOCK * v.0
 }
 
 // The place of the row of a version.
-pub fn row_at(v: usize) -> usize
-    requires { ⌜ rowAt v < 2 ^ 64 ⌝ }
-    ensures { λ r. ⌜ r ≡ rowAt v ⌝ }
+pub fn row_at(v: Version) -> usize
+    requires { ⌜ rowAt (v .0) < 2 ^ 64 ⌝ }
+    ensures { λ r. ⌜ r ≡ rowAt (v .0) ⌝ }
 {
     block_at(v) + NODE
 }
 
 // The place of the board of a version.
-pub fn board_at(v: usize) -> usize
-    requires { ⌜ boardAt v < 2 ^ 64 ⌝ }
-    ensures { λ r. ⌜ r ≡ boardAt v ⌝ }
+pub fn board_at(v: Version) -> usize
+    requires { ⌜ boardAt (v .0) < 2 ^ 64 ⌝ }
+    ensures { λ r. ⌜ r ≡ boardAt (v .0) ⌝ }
 {
     row_at(v) + ROW
 }
 
 // The place of the field of two consoles in the table of commons.
-pub fn common_at(c: usize, d: usize) -> usize
-    requires { ⌜ (c < consoleCount) × (d < consoleCount) ⌝ }
-    ensures { λ r. ⌜ r ≡ commonAt c d ⌝ }
+pub fn common_at(c: Console, d: Console) -> usize
+    requires { ⌜ (c .0 < consoleCount) × (d .0 < consoleCount) ⌝ }
+    ensures { λ r. ⌜ r ≡ commonAt (c .0) (d .0) ⌝ }
 {
-    COMMONS + 2 * (CONSOLES * c + d)
+    COMMONS + 2 * (CONSOLES * c.0 + d.0)
 }
 
-// The field of two consoles in the table of commons.
-pub fn common_in(s: &[u8], c: usize, d: usize) -> usize
+// The field of two consoles in the table of commons; of a console with itself, that of its head.
+pub fn common_in(s: &[u8], c: Console, d: Console) -> Field
     requires { ⌜ headerSize ≤ length (now s) ⌝ }
-    requires { ⌜ (c < consoleCount) × (d < consoleCount) ⌝ }
-    ensures { λ r. ⌜ (r ≡ commonIn (now (s .entry)) c d) × (r < 65536) ⌝ }
+    requires { ⌜ (c .0 < consoleCount) × (d .0 < consoleCount) ⌝ }
+    ensures { λ r. ⌜ (r .0 ≡ commonIn (now (s .entry)) (c .0) (d .0)) × (r .0 < 65536) ⌝ }
 {
-    buffer::word_at(s, common_at(c, d))
+    Field(word_at(s, common_at(c, d)))
 }
 
 // The row of a version whose block lies in the bytes.
-pub fn row_of(s: &[u8], v: usize) -> &[u8]
-    requires { ⌜ blockAt (suc v) ≤ length (now s) ⌝ }
-    ensures { λ r. ⌜ (now r ≡ rowPart (now (s .entry)) v) × (length (now r) ≡ rowSize) ⌝ }
+pub fn row_of(s: &[u8], v: Version) -> &[u8]
+    requires { ⌜ blockAt (suc (v .0)) ≤ length (now s) ⌝ }
+    ensures { λ r. ⌜ (now r ≡ rowPart (now (s .entry)) (v .0)) × (length (now r) ≡ rowSize) ⌝ }
 {
-    let at = row_at(v);
-    let end = at + ROW;
-    &s[at..end]
+    part_of(s, row_at(v), ROW)
 }
 
-// The board of a version.
-pub fn board_of(s: &[u8], v: usize) -> &[u8]
-    requires { ⌜ (v < 1024) × (blockAt (suc v) ≤ length (now s)) ⌝ }
-    ensures { λ r. ⌜ (now r ≡ boardPart (now (s .entry)) v) × (length (now r) ≡ boardSize) ⌝ }
+// The board of a version whose block lies in the bytes.
+pub fn board_of(s: &[u8], v: Version) -> &[u8]
+    requires { ⌜ blockAt (suc (v .0)) ≤ length (now s) ⌝ }
+    ensures { λ r. ⌜ (now r ≡ boardPart (now (s .entry)) (v .0)) × (length (now r) ≡ boardSize) ⌝ }
 {
-    let at = board_at(v);
-    let end = at + BOARD;
-    &s[at..end]
+    part_of(s, board_at(v), BOARD)
 }
 
 // The row of the entry versions.
@@ -126,7 +133,5 @@ pub fn entries_of(s: &[u8]) -> &[u8]
     requires { ⌜ headerSize ≤ length (now s) ⌝ }
     ensures { λ r. ⌜ (now r ≡ entriesPart (now (s .entry))) × (length (now r) ≡ rowSize) ⌝ }
 {
-    let at = ENTRIES;
-    let end = at + ROW;
-    &s[at..end]
+    part_of(s, ENTRIES, ROW)
 }

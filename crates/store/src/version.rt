@@ -1,97 +1,99 @@
 // The test of the versions of a store: each version's block against the blocks of its parents and its base.
+use crate::nodes::NODE_GIVER;
+use crate::nodes::NODE_PARENT;
+use crate::nodes::NODE_SPARE;
+use crate::nodes::NODE_STRIP;
+use crate::nodes::read_base;
+use crate::nodes::read_node;
 use crate::places::BOARD;
-use crate::places::HEADER;
-use crate::places::MERGE_CODE;
 use crate::places::NODE;
-use crate::places::NODE_BASE;
-use crate::places::NODE_GIVER;
-use crate::places::NODE_OPERAND;
-use crate::places::NODE_PARENT;
-use crate::places::NODE_SPARE;
-use crate::places::NODE_STRIP;
 use crate::places::ROW;
 use crate::places::block_at;
+use crate::places::board_at;
 use crate::places::board_of;
 use crate::places::entries_of;
 use crate::places::row_of;
-use crate::rules::both_below;
-use crate::rules::entry_in_range;
 use crate::rules::is_base;
+use crate::rules::node_in_range;
 use board::is_entered;
 use board::is_merged;
 use buffer::has_member;
 use buffer::is_extended;
 use buffer::is_extended_union;
 use buffer::is_zero;
-use buffer::wide;
-use buffer::word_at;
+use buffer::part_of;
+use graph::Node;
 use graph::Strip;
 use graph::Version;
 ghost use mathlib.Core.Path.{_≡_};
-ghost use mathlib.Core.Bool.{not, _&&_};
-ghost use Prim.Native.Nat.{suc, _+_, _-_, _<_, _≤_};
-ghost use lib.ListN.{length, getD};
+ghost use mathlib.Core.Bool.{true};
+ghost use Prim.Native.Nat.{suc, _+_, _<_, _≤_};
+ghost use lib.ListN.{length};
 ghost use Rattle.buffer.specs.Field.{part, same, allZero, zeros};
-ghost use Rattle.buffer.specs.Row.{member, withMember, union};
+ghost use Rattle.buffer.specs.Row.{withMember};
 ghost use Rattle.board.specs.Board.{stripCount, enter, mergeBoard};
-ghost use Rattle.store.specs.Layout.{nodeSize, rowSize, blockAt, nodeStripAt, nodeGiverAt, nodeBaseAt};
-ghost use Rattle.store.specs.Rules.{isBase};
-ghost use Rattle.store.specs.Check.{rowPart, boardPart, entriesPart, rootRight, entryRight, mergeRight, versionRight, versionsRight};
+ghost use Rattle.graph.specs.declared.Node.the-variants.{Merge};
+ghost use Rattle.store.specs.Layout.{rowSize, blockAt};
+ghost use Rattle.store.specs.Rules.{nodeInRange};
+ghost use Rattle.store.specs.Check.{rowPart, boardPart, rootRight, entryParts, mergeRows, mergeParts, nodeParts, versionRight, versionsRight};
 
 // Whether the n bytes from a place on are 0.
 fn zero_part(s: &[u8], at: usize, n: usize) -> bool
     requires { ⌜ at + n ≤ length (now s) ⌝ }
     ensures { λ r. ⌜ r ≡ allZero (part (now (s .entry)) at n) ⌝ }
 {
-    let end = at + n;
-    is_zero(&s[at..end])
+    is_zero(part_of(s, at, n))
 }
 
 // Whether a version's row is its parent's with the version besides.
-fn entry_rows_right(s: &[u8], v: usize, p: usize) -> bool
-    requires { ⌜ (p < v) × (v < 1024) × (blockAt (suc v) ≤ length (now s)) ⌝ }
-    ensures { λ r. ⌜ r ≡ same (rowPart (now (s .entry)) v) (withMember (rowPart (now (s .entry)) p) v) ⌝ }
+fn entry_rows_right(s: &[u8], v: Version, p: Version) -> bool
+    requires { ⌜ (p .0 < v .0) × (v .0 < 1024) × (blockAt (suc (v .0)) ≤ length (now s)) ⌝ }
+    ensures { λ r. ⌜ r ≡ same (rowPart (now (s .entry)) (v .0)) (withMember (rowPart (now (s .entry)) (p .0)) (v .0)) ⌝ }
 {
-    is_extended(row_of(s, v), row_of(s, p), v)
+    is_extended(row_of(s, v), row_of(s, p), v.0)
 }
 
 // Whether a version's board is its parent's after an entry.
 fn entry_board_right(
     s: &[u8],
-    v: usize,
-    p: usize,
+    v: Version,
+    p: Version,
     code: usize,
-    strip: usize,
+    strip: Strip,
     operand: usize,
 ) -> bool
-    requires { ⌜ (p < v) × (v < 1024) × (blockAt (suc v) ≤ length (now s)) × (strip < stripCount) × (code ≡ 0x04 → operand < 16) × (code ≡ 0x05 → operand < 16) ⌝ }
-    ensures { λ r. ⌜ r ≡ same (boardPart (now (s .entry)) v) (enter code strip operand (boardPart (now (s .entry)) p)) ⌝ }
+    requires { ⌜ (p .0 < v .0) × (v .0 < 1024) × (blockAt (suc (v .0)) ≤ length (now s)) × (strip .0 < stripCount) ⌝ }
+    ensures { λ r. ⌜ r ≡ same (boardPart (now (s .entry)) (v .0)) (enter code (strip .0) operand (boardPart (now (s .entry)) (p .0))) ⌝ }
 {
-    is_entered(board_of(s, v), board_of(s, p), code, Strip(strip), operand)
+    is_entered(board_of(s, v), board_of(s, p), code, strip, operand)
+}
+
+// Whether the parts of an entry's block are right, its numbers being in their ranges.
+fn entry_parts(s: &[u8], v: Version, p: Version, code: usize, strip: Strip, operand: usize) -> bool
+    requires { ⌜ (p .0 < v .0) × (v .0 < 1024) × (blockAt (suc (v .0)) ≤ length (now s)) × (strip .0 < stripCount) ⌝ }
+    ensures { λ r. ⌜ r ≡ entryParts (now (s .entry)) (v .0) (p .0) code (strip .0) operand ⌝ }
+{
+    let at = block_at(v) + NODE_GIVER;
+    zero_part(s, at, NODE - NODE_GIVER)
+        & entry_rows_right(s, v, p)
+        & entry_board_right(s, v, p, code, strip, operand)
+        & has_member(entries_of(s), v.0)
 }
 
 // Whether the base is that of the parents, and the version's row the union of theirs with the version besides.
-fn merge_rows_right(s: &[u8], v: usize, p: usize, q: usize, l: usize) -> bool
-    requires { ⌜ (p < v) × (q < v) × (l < v) × (v < 1024) × (blockAt (suc v) ≤ length (now s)) ⌝ }
-    ensures { λ r. ⌜ r ≡ isBase l p q (rowPart (now (s .entry)) l) (rowPart (now (s .entry)) p) (rowPart (now (s .entry)) q) && same (rowPart (now (s .entry)) v) (withMember (union (rowPart (now (s .entry)) p) (rowPart (now (s .entry)) q)) v) ⌝ }
+fn merge_rows_right(s: &[u8], v: Version, p: Version, q: Version, l: Version) -> bool
+    requires { ⌜ (p .0 < v .0) × (q .0 < v .0) × (l .0 < v .0) × (v .0 < 1024) × (blockAt (suc (v .0)) ≤ length (now s)) ⌝ }
+    ensures { λ r. ⌜ r ≡ mergeRows (now (s .entry)) (v .0) (p .0) (q .0) (l .0) ⌝ }
 {
     let mine = row_of(s, p);
     let given = row_of(s, q);
-    is_base(
-        Version(l),
-        Version(p),
-        Version(q),
-        row_of(s, l),
-        mine,
-        given,
-    )
-        & is_extended_union(row_of(s, v), mine, given, v)
+    is_base(l, p, q, row_of(s, l), mine, given) & is_extended_union(row_of(s, v), mine, given, v.0)
 }
 
 // Whether a version's board is the merge of its parents' over the base's.
-fn merge_board_right(s: &[u8], v: usize, p: usize, q: usize, l: usize) -> bool
-    requires { ⌜ (p < v) × (q < v) × (l < v) × (v < 1024) × (blockAt (suc v) ≤ length (now s)) ⌝ }
-    ensures { λ r. ⌜ r ≡ same (boardPart (now (s .entry)) v) (mergeBoard (boardPart (now (s .entry)) l) (boardPart (now (s .entry)) p) (boardPart (now (s .entry)) q)) ⌝ }
+fn merge_board_right(s: &[u8], v: Version, p: Version, q: Version, l: Version) -> bool
+    requires { ⌜ (p .0 < v .0) × (q .0 < v .0) × (l .0 < v .0) × (v .0 < 1024) × (blockAt (suc (v .0)) ≤ length (now s)) ⌝ }
+    ensures { λ r. ⌜ r ≡ same (boardPart (now (s .entry)) (v .0)) (mergeBoard (boardPart (now (s .entry)) (l .0)) (boardPart (now (s .entry)) (p .0)) (boardPart (now (s .entry)) (q .0))) ⌝ }
 {
     is_merged(
         board_of(s, v),
@@ -101,33 +103,10 @@ fn merge_board_right(s: &[u8], v: usize, p: usize, q: usize, l: usize) -> bool
     )
 }
 
-// Whether the parts of an entry's block are right, its numbers being in their ranges.
-fn entry_parts(s: &[u8], v: usize, p: usize, code: usize, strip: usize, operand: usize) -> bool
-    requires { ⌜ (p < v) × (v < 1024) × (blockAt (suc v) ≤ length (now s)) × (strip < stripCount) × (code ≡ 0x04 → operand < 16) × (code ≡ 0x05 → operand < 16) ⌝ }
-    ensures { λ r. ⌜ r ≡ allZero (part (now (s .entry)) (nodeGiverAt v) (nodeSize - 6)) && same (rowPart (now (s .entry)) v) (withMember (rowPart (now (s .entry)) p) v) && same (boardPart (now (s .entry)) v) (enter code strip operand (boardPart (now (s .entry)) p)) && member (entriesPart (now (s .entry))) v ⌝ }
-{
-    let at = block_at(v) + NODE_GIVER;
-    zero_part(s, at, NODE - NODE_GIVER)
-        & entry_rows_right(s, v, p)
-        & entry_board_right(s, v, p, code, strip, operand)
-        & has_member(entries_of(s), v)
-}
-
-// Whether the block of a version is that of an entry.
-fn entry_right(s: &[u8], v: usize, p: usize, code: usize, strip: usize, operand: usize) -> bool
-    requires { ⌜ (v < 1024) × (blockAt (suc v) ≤ length (now s)) ⌝ }
-    ensures { λ r. ⌜ r ≡ entryRight (now (s .entry)) v p code strip operand ⌝ }
-{
-    if entry_in_range(Version(v), Version(p), code, Strip(strip), operand) {
-        return entry_parts(s, v, p, code, strip, operand);
-    }
-    false
-}
-
 // Whether the parts of a merge's block are right, its parents and base being below it.
-fn merge_parts(s: &[u8], v: usize, p: usize, q: usize, l: usize) -> bool
-    requires { ⌜ (p < v) × (q < v) × (l < v) × (v < 1024) × (blockAt (suc v) ≤ length (now s)) ⌝ }
-    ensures { λ r. ⌜ r ≡ allZero (part (now (s .entry)) (nodeStripAt v) 3) && allZero (part (now (s .entry)) (nodeBaseAt v + 2) (nodeSize - 10)) && (isBase l p q (rowPart (now (s .entry)) l) (rowPart (now (s .entry)) p) (rowPart (now (s .entry)) q) && same (rowPart (now (s .entry)) v) (withMember (union (rowPart (now (s .entry)) p) (rowPart (now (s .entry)) q)) v)) && same (boardPart (now (s .entry)) v) (mergeBoard (boardPart (now (s .entry)) l) (boardPart (now (s .entry)) p) (boardPart (now (s .entry)) q)) && not (member (entriesPart (now (s .entry))) v) ⌝ }
+fn merge_parts(s: &[u8], v: Version, p: Version, q: Version, l: Version) -> bool
+    requires { ⌜ (p .0 < v .0) × (q .0 < v .0) × (l .0 < v .0) × (v .0 < 1024) × (blockAt (suc (v .0)) ≤ length (now s)) ⌝ }
+    ensures { λ r. ⌜ r ≡ mergeParts (now (s .entry)) (v .0) (p .0) (q .0) (l .0) ⌝ }
 {
     let at = block_at(v);
     let strip = at + NODE_STRIP;
@@ -136,16 +115,45 @@ fn merge_parts(s: &[u8], v: usize, p: usize, q: usize, l: usize) -> bool
         & zero_part(s, rest, NODE - NODE_SPARE)
         & merge_rows_right(s, v, p, q, l)
         & merge_board_right(s, v, p, q, l)
-        & !has_member(entries_of(s), v)
+        & !has_member(entries_of(s), v.0)
 }
 
-// Whether the block of a version is that of a merge.
-fn merge_right(s: &[u8], v: usize, p: usize, q: usize, l: usize) -> bool
-    requires { ⌜ (v < 1024) × (blockAt (suc v) ≤ length (now s)) ⌝ }
-    ensures { λ r. ⌜ r ≡ mergeRight (now (s .entry)) v p q l ⌝ }
+// Whether the parts of a merge's block are right, its parents being below it.
+fn based_parts(s: &[u8], v: Version, p: Version, q: Version) -> bool
+    requires { ⌜ (p .0 < v .0) × (q .0 < v .0) × (v .0 < 1024) × (blockAt (suc (v .0)) ≤ length (now s)) ⌝ }
+    ensures { λ r. ⌜ r ≡ nodeParts (now (s .entry)) (v .0) (Merge p q) ⌝ }
 {
-    if both_below(Version(v), Version(p), Version(q)) & (l < v) {
+    let l = read_base(s, v);
+    if l.0 < v.0 {
         return merge_parts(s, v, p, q, l);
+    }
+    false
+}
+
+// Whether the parts of a version's block are right, as its node says, whose numbers are in their ranges.
+fn node_parts(s: &[u8], v: Version, node: Node) -> bool
+    requires { ⌜ (nodeInRange (v .0) node ≡ true) × (v .0 < 1024) × (blockAt (suc (v .0)) ≤ length (now s)) ⌝ }
+    ensures { λ r. ⌜ r ≡ nodeParts (now (s .entry)) (v .0) node ⌝ }
+{
+    match node {
+        Node::Entry {
+            parent,
+            code,
+            strip,
+            operand,
+        } => entry_parts(s, v, parent, code, strip, operand),
+        Node::Merge { receiver, giver } => based_parts(s, v, receiver, giver),
+    }
+}
+
+// Whether the block of a version other than 0 is right.
+fn version_right(s: &[u8], v: Version) -> bool
+    requires { ⌜ (v .0 < 1024) × (blockAt (suc (v .0)) ≤ length (now s)) ⌝ }
+    ensures { λ r. ⌜ r ≡ versionRight (now (s .entry)) (v .0) ⌝ }
+{
+    let node = read_node(s, v);
+    if node_in_range(v, node) {
+        return node_parts(s, v, node);
     }
     false
 }
@@ -156,7 +164,7 @@ fn root_row_right(s: &[u8]) -> bool
     ensures { λ r. ⌜ r ≡ same (rowPart (now (s .entry)) 0) (withMember (zeros rowSize) 0) ⌝ }
 {
     let none = [0u8; ROW];
-    is_extended(row_of(s, 0), &none, 0)
+    is_extended(row_of(s, Version(0)), &none, 0)
 }
 
 // Whether the block of version 0 is right.
@@ -164,46 +172,10 @@ fn root_right(s: &[u8]) -> bool
     requires { ⌜ blockAt 1 ≤ length (now s) ⌝ }
     ensures { λ r. ⌜ r ≡ rootRight (now (s .entry)) ⌝ }
 {
-    let board = HEADER + NODE + ROW;
-    zero_part(s, HEADER, NODE)
+    zero_part(s, block_at(Version(0)), NODE)
         & root_row_right(s)
-        & zero_part(s, board, BOARD)
+        & zero_part(s, board_at(Version(0)), BOARD)
         & !has_member(entries_of(s), 0)
-}
-
-// A byte of a slice as a number.
-fn byte_at(s: &[u8], at: usize) -> usize
-    requires { ⌜ at < length (now s) ⌝ }
-    ensures { λ r. ⌜ (r ≡ getD (now (s .entry)) at 0) × (r < 256) ⌝ }
-{
-    wide(s[at])
-}
-
-// Whether the block of a version other than 0 is right.
-fn version_right(s: &[u8], v: usize) -> bool
-    requires { ⌜ (0 < v) × (v < 1024) × (blockAt (suc v) ≤ length (now s)) ⌝ }
-    ensures { λ r. ⌜ r ≡ versionRight (now (s .entry)) v ⌝ }
-{
-    let at = block_at(v);
-    let code = byte_at(s, at);
-    let parent = word_at(s, at + NODE_PARENT);
-    if code == MERGE_CODE {
-        return merge_right(
-            s,
-            v,
-            parent,
-            word_at(s, at + NODE_GIVER),
-            word_at(s, at + NODE_BASE),
-        );
-    }
-    entry_right(
-        s,
-        v,
-        parent,
-        code,
-        byte_at(s, at + NODE_STRIP),
-        word_at(s, at + NODE_OPERAND),
-    )
 }
 
 // Whether the blocks of the versions 0 to n are right.
@@ -217,7 +189,7 @@ pub fn versions_right(s: &[u8], n: usize) -> bool
     let mut k = 0;
     while k < n {
         let next = k + 1;
-        if !version_right(s, next) {
+        if !version_right(s, Version(next)) {
             return false;
         }
         k = next;

@@ -12,19 +12,16 @@ use Rattle.store.proofs.consoles.console_right.Statement.{statement}
 use Rattle.store.proofs.consoles.console_right.Tie as tie
 
 abbrev Inv-loop : tie.InvT-loop
-Inv-loop s n c own d₀ d = (d ≤ c) × (everyBelow d (pairRight s n c) ≡ true)
+Inv-loop s n c own d₀ d = (d ≤ c .0) × (everyBelow d (pairRight s n (c .0)) ≡ true)
 
 abbrev μ-loop : tie.MeasureT-loop
-μ-loop s n c own d₀ d = c - d
-
-common-in-requires : tie.Need-common-in-requires Inv-loop μ-loop
-common-in-requires c κs = omega arith
+μ-loop s n c own d₀ d = c .0 - d
 
 returns : tie.Need-returns Inv-loop μ-loop
 unfolding consoleRight
 returns c =
-    let a = c .before .before .before .args in
-    simp (lt-leb (commonIn (a .s .now) (a .c) (a .c)) (a .n) (omega arith))
+    let a = c .before .before .before .before .args in
+    simp (lt-leb (commonIn (a .s .now) (a .c .0) (a .c .0)) (a .n) (omega arith))
 
 loop-holds : tie.Need-loop-holds Inv-loop μ-loop
 unfolding everyBelow
@@ -32,28 +29,22 @@ loop-holds c = (omega arith, refl)
 
 pair-right-requires : tie.Need-pair-right-requires Inv-loop μ-loop
 pair-right-requires c κs =
-    omega (arith, c .before .before .before .before .before .pre .1 .1 (c .before .loop .d) (omega arith))
+    omega (arith, c .before .before .before .before .before .before .pre .1 .1 (c .before .loop .d) (omega arith))
 
 returns-2 : tie.Need-returns-2 Inv-loop μ-loop
 unfolding consoleRight
 returns-2 c =
     let w = c .before .before .before in
-    let a = w .before .before .before .before .args in
-    let f = pairRight (a .s .now) (a .n) (a .c) in
+    let a = w .before .before .before .before .before .args in
+    let f = pairRight (a .s .now) (a .n) (a .c .0) in
     let e : f (w .loop .d) ≡ false = sym (c .before .pair-right .ensures) ∙ not-true (c .before .pair-right .result) (c .if2 .taken) in
-    rw (le-leb (commonIn (a .s .now) (a .c) (a .c)) (a .n) (omega arith), every-fails f (a .c) (w .loop .d) (omega arith) e)
-
-add-d : tie.Need-add-d Inv-loop μ-loop
-add-d c = omega arith
-
-loop-less : tie.Need-loop-less Inv-loop μ-loop
-loop-less c = omega arith
+    rw (le-leb (commonIn (a .s .now) (a .c .0) (a .c .0)) (a .n) (omega arith), every-fails f (a .c .0) (w .loop .d) (omega arith) e)
 
 loop-again : tie.Need-loop-again Inv-loop μ-loop
 loop-again c =
     let w = c .before .before .before in
-    let a = w .before .before .before .before .args in
-    let f = pairRight (a .s .now) (a .n) (a .c) in
+    let a = w .before .before .before .before .before .args in
+    let f = pairRight (a .s .now) (a .n) (a .c .0) in
     let e : f (w .loop .d) ≡ true = sym (c .before .pair-right .ensures) ∙ not-false (c .before .pair-right .result) (c .if2 .left) in
     (omega arith, every-more f (w .loop .d) (w .loop .inv .1) e)
 
@@ -61,24 +52,14 @@ returns-3 : tie.Need-returns-3 Inv-loop μ-loop
 unfolding consoleRight
 returns-3 c =
     let w = c .before in
-    let a = w .before .before .before .before .args in
-    let f = pairRight (a .s .now) (a .n) (a .c) in
-    let e : w .loop .d ≡ a .c = omega arith in
-    let all : everyBelow (a .c) f ≡ true = rw e at (w .loop .inv .1) in
-    rw (le-leb (commonIn (a .s .now) (a .c) (a .c)) (a .n) (omega arith), all)
+    let a = w .before .before .before .before .before .args in
+    let f = pairRight (a .s .now) (a .n) (a .c .0) in
+    let e : w .loop .d ≡ a .c .0 = omega arith in
+    let all : everyBelow (a .c .0) f ≡ true = rw e at (w .loop .inv .1) in
+    rw (le-leb (commonIn (a .s .now) (a .c .0) (a .c .0)) (a .n) (omega arith), all)
 
 pub console-right-spec : {M : Type 1} → statement M
 console-right-spec =
     tie.close
-    (tie.spec
-    Inv-loop
-    μ-loop
-    common-in-requires
-    returns
-    loop-holds
-    pair-right-requires
-    returns-2
-    add-d
-    loop-less
-    loop-again
-    returns-3)
+    (tie.spec Inv-loop μ-loop (λ c κs. omega arith) returns loop-holds pair-right-requires returns-2 (λ c. omega arith) (λ c. omega arith)
+    loop-again returns-3)

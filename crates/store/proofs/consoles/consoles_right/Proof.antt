@@ -36,12 +36,6 @@ returns c =
     let e : f (w .loop .c) ≡ false = sym (c .before .console-right .ensures) ∙ not-true (c .before .console-right .result) (c .if1 .taken) in
     sym (every-fails f consoleCount (w .loop .c) (omega arith) e)
 
-add-c : tie.Need-add-c Inv-loop μ-loop
-add-c c = omega arith
-
-loop-less : tie.Need-loop-less Inv-loop μ-loop
-loop-less c = omega arith
-
 loop-again : tie.Need-loop-again Inv-loop μ-loop
 loop-again c =
     let w = c .before .before .before in
@@ -59,13 +53,4 @@ returns-2 c =
 pub consoles-right-spec : {M : Type 1} → statement M
 consoles-right-spec =
     tie.close
-    (tie.spec
-    Inv-loop
-    μ-loop
-    loop-holds
-    console-right-requires
-    returns
-    add-c
-    loop-less
-    loop-again
-    returns-2)
+    (tie.spec Inv-loop μ-loop loop-holds console-right-requires returns (λ c. omega arith) (λ c. omega arith) loop-again returns-2)

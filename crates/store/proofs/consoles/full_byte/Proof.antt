@@ -7,23 +7,11 @@ use Rattle.store.proofs.Full.{full-all, full-none, full-some}
 use Rattle.store.proofs.consoles.full_byte.Statement.{statement}
 use Rattle.store.proofs.consoles.full_byte.Tie as tie
 
-mul-v : tie.Need-mul-v
-mul-v c = omega arith
-
-add-if1 : tie.Need-add-if1
-add-if1 c = omega arith
-
 returns : tie.Need-returns
 returns c = let a = c .before .args in sym (full-all (a .n) (8 * a .k) (omega arith))
 
 returns-2 : tie.Need-returns-2
 returns-2 c = let a = c .before .before .args in sym (full-none (a .n) (8 * a .k) (omega arith))
-
-sub-low-bits : tie.Need-sub-low-bits
-sub-low-bits c = omega arith
-
-low-bits-requires : tie.Need-low-bits-requires
-low-bits-requires c κs = omega arith
 
 returns-3 : tie.Need-returns-3
 returns-3 c =
@@ -32,4 +20,5 @@ returns-3 c =
 
 pub full-byte-spec : {M : Type 1} → statement M
 full-byte-spec =
-    tie.close (tie.spec mul-v add-if1 returns returns-2 sub-low-bits low-bits-requires returns-3)
+    tie.close
+    (tie.spec (λ c. omega arith) (λ c. omega arith) returns returns-2 (λ c. omega arith) (λ c κs. omega arith) returns-3)

@@ -11,12 +11,6 @@ use Rattle.store.proofs.consoles.low_bits.Tie as tie
 shifted : (j : ℕ) → j < 8 → 1 * 2 ^ j % 256 ≡ 2 ^ j
 shifted j h = shl-exact {a = 1} 1 j 8 (omega arith) (omega arith) ∙ one-mul (2 ^ j)
 
-cast-result : tie.Need-cast-result
-cast-result c = omega arith
-
-shl-result : tie.Need-shl-result
-shl-result c = omega arith
-
 sub-result : tie.Need-sub-result
 sub-result c = rw (shifted (c .args .j) (c .pre)) (pow-pos (c .args .j))
 
@@ -24,4 +18,5 @@ returns : tie.Need-returns
 returns c = rw (shifted (c .args .j) (c .pre))
 
 pub low-bits-spec : {M : Type 1} → statement M
-low-bits-spec = tie.close (tie.spec cast-result shl-result sub-result returns)
+low-bits-spec =
+    tie.close (tie.spec (λ c. omega arith) (λ c. omega arith) sub-result returns)

@@ -4,18 +4,6 @@ use native.Mathlib.Omega.{arith}
 use Rattle.store.proofs.consoles.rows_meet.Statement.{statement}
 use Rattle.store.proofs.consoles.rows_meet.Tie as tie
 
-row-of-requires : tie.Need-row-of-requires
-row-of-requires c κs = omega arith
-
-row-of-requires-2 : tie.Need-row-of-requires-2
-row-of-requires-2 c κs = omega arith
-
-row-of-requires-3 : tie.Need-row-of-requires-3
-row-of-requires-3 c κs = omega arith
-
-is-intersection-requires : tie.Need-is-intersection-requires
-is-intersection-requires c κs = omega arith
-
 returns : tie.Need-returns
 returns c =
     let d = c .before in
@@ -24,4 +12,4 @@ returns c =
 pub rows-meet-spec : {M : Type 1} → statement M
 rows-meet-spec =
     tie.close
-    (tie.spec row-of-requires row-of-requires-2 row-of-requires-3 is-intersection-requires returns)
+    (tie.spec (λ c κs. omega arith) (λ c κs. omega arith) (λ c κs. omega arith) (λ c κs. omega arith) returns)

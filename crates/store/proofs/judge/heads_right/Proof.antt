@@ -6,20 +6,14 @@ use Rattle.store.proofs.Heads.{behind-blocks}
 use Rattle.store.proofs.judge.heads_right.Statement.{statement}
 use Rattle.store.proofs.judge.heads_right.Tie as tie
 
-word-at-requires : tie.Need-word-at-requires
-word-at-requires c κs = omega arith
-
-add-behind-right : tie.Need-add-behind-right
-add-behind-right c = omega arith
-
-behind-right-requires : tie.Need-behind-right-requires
-behind-right-requires c κs = let named = c .before .before .pre .1 in (omega arith, λ k l p. omega (arith, named k l))
+heads-reach-all-requires : tie.Need-heads-reach-all-requires
+heads-reach-all-requires c κs = let named = c .before .before .pre .1 in (omega arith, λ k l p. omega (arith, named k l))
 
 returns : tie.Need-returns
 returns c =
     let s = c .before .before .before .args .s .now in
-    rw (c .before .word-at .ensures .0, c .behind-right .ensures, behind-blocks s consoleCount)
+    rw (c .before .word-at .ensures .0, c .heads-reach-all .ensures, behind-blocks s consoleCount)
 
 pub heads-right-spec : {M : Type 1} → statement M
 heads-right-spec =
-    tie.close (tie.spec word-at-requires add-behind-right behind-right-requires returns)
+    tie.close (tie.spec (λ c κs. omega arith) (λ c. omega arith) heads-reach-all-requires returns)

@@ -1,66 +1,52 @@
 -- `store::judge::holds` says of any lent bytes whether they hold a sound store.
 -- Assumes nothing.
-use mathlib.Core.Path.{sym, _∙_, ap₂}
-use native.Mathlib.Omega.{arith}
+use mathlib.Core.Path.{sym, _∙_, ap, ap₂}
 use borrow.Author.Tests.{not-true, not-false}
 use Rattle.command.proofs.Limits.{within-true}
+use Rattle.room.specs.declared.Settings.{Settings}
 use Rattle.room.specs.Sound.{maxCapacity}
 use Rattle.store.specs.Check.{contentsRight}
-use Rattle.store.proofs.Judged.{too-short, no-capacity, no-room, contents-decide}
+use Rattle.store.proofs.Judged.{too-short, out-of-range, no-room, contents-decide}
+use native.Mathlib.Omega.{arith}
+use borrow.Author.Needs.{needs}
 use Rattle.store.proofs.judge.holds.Statement.{statement}
 use Rattle.store.proofs.judge.holds.Tie as tie
 
 returns : tie.Need-returns
-returns c = sym (too-short (c .before .before .args .s .now) (omega arith))
-
-word-at-requires : tie.Need-word-at-requires
-word-at-requires c κs = omega arith
-
-is-capacity-requires : tie.Need-is-capacity-requires
-is-capacity-requires c κs = omega arith
+returns c = sym (too-short _ (omega arith))
 
 returns-2 : tie.Need-returns-2
 returns-2 c =
-    let tested = c .before in
-    let read = tested .before in
-    sym (no-capacity (read .before .before .before .args .s .now) (rw (read .word-at .ensures .0) at (sym (tested .is-capacity .ensures) ∙ not-true _ (c .if2 .taken))))
-
-block-at-requires : tie.Need-block-at-requires
-block-at-requires c κs = omega arith
+    let read = c .before .before in
+    sym (out-of-range _ (omega arith) (rw (read .read-settings .ensures .0) at (sym (c .before .settings-in-range .ensures) ∙ not-true _ (c .if2 .taken))))
 
 returns-3 : tie.Need-returns-3
-returns-3 c = sym (no-room (c .before .before .before .before .before .before .before .args .s .now) (omega arith))
-
-word-at-requires-2 : tie.Need-word-at-requires-2
-word-at-requires-2 c κs = omega arith
+returns-3 c =
+    let tested = c .before .before in
+    let read = tested .before .before in
+    let s = read .before .before .before .args .s .now in
+    let settings = read .read-settings .ensures .0 in
+    let capacity = ap (λ (x : Settings). x .capacity) settings in
+    sym (no-room s (omega arith) (rw settings at (sym (tested .before .settings-in-range .ensures) ∙ not-false _ (tested .if2 .left))) (omega arith))
 
 contents-right-requires : tie.Need-contents-right-requires
 contents-right-requires c κs =
-    let passed = c .before .before .before in
-    let tested = passed .before in
-    let size = within-true 1 maxCapacity (tested .before .word-at .result) (sym (tested .is-capacity .ensures) ∙ not-false _ (passed .if2 .left)) in
+    let tested = c .before .before .before in
+    let size = within-true 1 maxCapacity (tested .before .before .read-settings .result .capacity) (sym (tested .before .settings-in-range .ensures) ∙ not-false _ (tested .if2 .left)) in
     omega arith
 
 returns-4 : tie.Need-returns-4
 returns-4 c =
-    let passed = c .before .before .before .before in
-    let tested = passed .before in
-    let capacity = tested .before .word-at .ensures .0 in
-    let known = tested .before .before .before in
+    let tested = c .before .before .before .before in
+    let read = tested .before .before in
+    let known = read .before .before in
     let s = known .before .args .s .now in
-    c .contents-right .ensures ∙ ap₂ (contentsRight s) capacity (c .before .word-at2 .ensures .0)
-    ∙ contents-decide s (λ k. known .shared-slice-known .given k .fits) (omega arith) (rw capacity at (sym (tested .is-capacity .ensures) ∙ not-false _ (passed .if2 .left))) (omega arith)
+    let settings = read .read-settings .ensures .0 in
+    let capacity = ap (λ (x : Settings). x .capacity) settings in
+    c .contents-right .ensures ∙ ap₂ (contentsRight s) capacity (c .before .word-at .ensures .0)
+    ∙ contents-decide s (omega arith) (rw settings at (sym (tested .before .settings-in-range .ensures) ∙ not-false _ (tested .if2 .left)))
+    (λ k. known .shared-slice-known .given k .fits) (omega arith)
 
 pub holds-spec : {M : Type 1} → statement M
 holds-spec =
-    tie.close
-    (tie.spec
-    returns
-    word-at-requires
-    is-capacity-requires
-    returns-2
-    block-at-requires
-    returns-3
-    word-at-requires-2
-    contents-right-requires
-    returns-4)
+    tie.close (tie.spec returns (λ c κs. omega arith) (λ c κs. search needs) returns-2 (λ c κs. omega arith) returns-3 (λ c κs. omega arith) contents-right-requires returns-4)

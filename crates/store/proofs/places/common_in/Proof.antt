@@ -6,16 +6,11 @@ use Rattle.buffer.specs.Field.{wordAt}
 use Rattle.store.proofs.places.common_in.Statement.{statement}
 use Rattle.store.proofs.places.common_in.Tie as tie
 
-common-at-requires : tie.Need-common-at-requires
-common-at-requires c κs = omega arith
-
-word-at-requires : tie.Need-word-at-requires
-word-at-requires c κs = omega arith
-
 returns : tie.Need-returns
 returns c =
     let w = c .word-at .ensures in
     (w .0 ∙ ap (wordAt (c .before .before .before .args .s .now)) (c .before .common-at .ensures), w .1)
 
 pub common-in-spec : {M : Type 1} → statement M
-common-in-spec = tie.close (tie.spec common-at-requires word-at-requires returns)
+common-in-spec =
+    tie.close (tie.spec (λ c κs. omega arith) (λ c κs. omega arith) returns)

@@ -4,11 +4,9 @@ use native.Mathlib.Omega.{arith}
 use Rattle.store.proofs.rules.is_base.Statement.{statement}
 use Rattle.store.proofs.rules.is_base.Tie as tie
 
-is-intersection-requires : tie.Need-is-intersection-requires
-is-intersection-requires c κs = omega arith
-
 returns : tie.Need-returns
 returns c = rw (c .is-intersection .ensures)
 
 pub is-base-spec : {M : Type 1} → statement M
-is-base-spec = tie.close (tie.spec is-intersection-requires returns)
+is-base-spec =
+    tie.close (tie.spec (λ c κs. omega arith) returns)

@@ -13,9 +13,6 @@ Inv-loop s n k₀ k = Passed s n k
 abbrev μ-loop : tie.MeasureT-loop
 μ-loop s n k₀ k = n - k
 
-root-right-requires : tie.Need-root-right-requires Inv-loop μ-loop
-root-right-requires c κs = omega arith
-
 returns : tie.Need-returns Inv-loop μ-loop
 returns c =
     let a = c .before .before .before .args in
@@ -26,17 +23,8 @@ loop-holds c =
     let a = c .before .before .before .args in
     passed-none (a .s .now) (a .n) _ (c .before .root-right .ensures) (unrefused (c .before .root-right .result) (c .if1 .left))
 
-add-next : tie.Need-add-next Inv-loop μ-loop
-add-next c = omega arith
-
-version-right-requires : tie.Need-version-right-requires Inv-loop μ-loop
-version-right-requires c κs = (omega arith, omega arith, omega arith)
-
 returns-2 : tie.Need-returns-2 Inv-loop μ-loop
 returns-2 c = versions-less _ _ _ _ (omega arith) (c .before .version-right .ensures) (not-e (c .before .version-right .result) (c .if2 .taken))
-
-loop-less : tie.Need-loop-less Inv-loop μ-loop
-loop-less c = omega arith
 
 loop-again : tie.Need-loop-again Inv-loop μ-loop
 loop-again c =
@@ -48,15 +36,5 @@ returns-3 c = passed-all (c .before .loop .inv) (omega arith)
 pub versions-right-spec : {M : Type 1} → statement M
 versions-right-spec =
     tie.close
-    (tie.spec
-    Inv-loop
-    μ-loop
-    root-right-requires
-    returns
-    loop-holds
-    add-next
-    version-right-requires
-    returns-2
-    loop-less
-    loop-again
-    returns-3)
+    (tie.spec Inv-loop μ-loop (λ c κs. omega arith) returns loop-holds (λ c. omega arith) (λ c κs. omega arith) returns-2
+    (λ c. omega arith) loop-again returns-3)

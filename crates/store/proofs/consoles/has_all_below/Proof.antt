@@ -1,4 +1,4 @@
--- `store::consoles::is_full` meets its contract. The loop's invariant: the bytes before `k` have been compared with those of the full row.
+-- `store::consoles::has_all_below` meets its contract. The loop's invariant: the bytes before `k` have been compared with those of the full row.
 -- Assumes nothing.
 use Prim.Native.Nat.{_-_}
 use mathlib.Core.Path.{sym, ap, _∙_}
@@ -10,8 +10,8 @@ use Rattle.buffer.specs.Row.{row}
 use Rattle.buffer.proofs.Accumulate.{Compared, compared-none, compared-more, compared-all}
 use Rattle.store.specs.Layout.{rowSize}
 use Rattle.store.proofs.Full.{full-length, full-at}
-use Rattle.store.proofs.consoles.is_full.Statement.{statement}
-use Rattle.store.proofs.consoles.is_full.Tie as tie
+use Rattle.store.proofs.consoles.has_all_below.Statement.{statement}
+use Rattle.store.proofs.consoles.has_all_below.Tie as tie
 
 abbrev Inv-loop : tie.InvT-loop
 Inv-loop acc n wrong₀ k₀ wrong k = Compared acc (row (λ v. ltb v n) rowSize) wrong k
@@ -24,18 +24,6 @@ loop-holds c =
     let a = c .before .args in
     compared-none (a .acc .now) (row (λ v. ltb v (a .n)) rowSize) (c .before .pre ∙ sym (full-length (a .n)))
 
-shared-slice-read-wrong : tie.Need-shared-slice-read-wrong Inv-loop μ-loop
-shared-slice-read-wrong c = omega arith
-
-full-byte-requires : tie.Need-full-byte-requires Inv-loop μ-loop
-full-byte-requires c κs = omega arith
-
-add-k : tie.Need-add-k Inv-loop μ-loop
-add-k c = omega arith
-
-loop-less : tie.Need-loop-less Inv-loop μ-loop
-loop-less c = omega arith
-
 loop-again : tie.Need-loop-again Inv-loop μ-loop
 loop-again c =
     let w = c .before .before .before in
@@ -47,16 +35,7 @@ loop-again c =
 returns : tie.Need-returns Inv-loop μ-loop
 returns c = compared-all (c .before .loop .inv) (omega arith)
 
-pub is-full-spec : {M : Type 1} → statement M
-is-full-spec =
+pub has-all-below-spec : {M : Type 1} → statement M
+has-all-below-spec =
     tie.close
-    (tie.spec
-    Inv-loop
-    μ-loop
-    loop-holds
-    shared-slice-read-wrong
-    full-byte-requires
-    add-k
-    loop-less
-    loop-again
-    returns)
+    (tie.spec Inv-loop μ-loop loop-holds (λ c. omega arith) (λ c κs. omega arith) (λ c. omega arith) (λ c. omega arith) loop-again returns)

@@ -1,0 +1,31 @@
+-- `store::version::node_parts` meets its contract.
+-- Assumes nothing.
+use Rattle.store.proofs.VersionTests.{range-parent, range-strip, range-mine, range-given}
+use native.Mathlib.Omega.{arith}
+use borrow.Author.Needs.{needs}
+use Rattle.store.proofs.version.node_parts.Statement.{statement}
+use Rattle.store.proofs.version.node_parts.Tie as tie
+
+entry-parts-requires : tie.Need-entry-parts-requires
+entry-parts-requires c κs =
+    let start = c .before .before .before .before in
+    let a = start .args in
+    let n = c .before .node .given in
+    let t = rw (n .1) at (start .pre .0) in
+    (range-parent (a .v .0) _ _ _ _ t, omega arith, omega arith, range-strip (a .v .0) _ _ _ _ t)
+
+based-parts-requires : tie.Need-based-parts-requires
+based-parts-requires c κs =
+    let start = c .before .before .before .before in
+    let t = rw (c .before .node2 .given .1) at (start .pre .0) in
+    (range-mine (start .args .v .0) _ _ t, range-given (start .args .v .0) _ _ t, omega arith, omega arith)
+
+returns : tie.Need-returns
+returns c = rw (c .before .before .node .given .1) (c .entry-parts .ensures)
+
+returns-2 : tie.Need-returns-2
+returns-2 c = rw (c .before .before .node2 .given .1) (c .based-parts .ensures)
+
+pub node-parts-spec : {M : Type 1} → statement M
+node-parts-spec =
+    tie.close (tie.spec (λ c. search needs) entry-parts-requires (λ c. search needs) based-parts-requires returns returns-2)
