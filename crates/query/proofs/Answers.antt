@@ -15,7 +15,7 @@ use Rattle.command.specs.Code.{consoleCount}
 use Rattle.room.specs.Room.{present, head, common}
 use Rattle.room.specs.Boards.{boardOf}
 use Rattle.room.proofs.Steps.{common-meet}
-use Rattle.store.specs.Layout.{rowSize, capacityAt, countAt, roomIn, holdsStore}
+use Rattle.store.specs.Layout.{rowSize, capacityAt, countAt, settingsIn, roomIn, holdsStore}
 use Rattle.store.specs.Check.{rowPart, boardPart, commonIn}
 use Rattle.store.proofs.Commons.{head-is, present-is}
 use Rattle.store.proofs.Reading.{count-read}
@@ -23,9 +23,9 @@ use Rattle.store.proofs.Checks.{own-heads}
 use Rattle.store.proofs.Whole.{whole-ranges, whole-front, whole-small, whole-held, whole-fields, whole-low}
 
 module _ (s : List ℕ) (t : holdsStore s ≡ true) where
-  pub capacity-answer : (wordAt s capacityAt ≡ roomIn s .settings .capacity) × (wordAt s capacityAt ≤ 1024)
+  pub settings-answer : (settingsIn s ≡ roomIn s .settings) × (wordAt s capacityAt ≤ 1024)
   unfolding roomIn
-  capacity-answer = (refl, whole-ranges s t .settings .capacity)
+  settings-answer = (refl, whole-ranges s t .capacity)
 
   pub count-answer : (wordAt s countAt ≡ versionCount (roomIn s .versions)) × (wordAt s countAt ≤ 1024)
   count-answer =

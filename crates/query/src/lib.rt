@@ -1,18 +1,21 @@
-// Questions to bytes that hold a sound store: how many versions it holds and may hold, who is present, heads and common versions, ancestors
+// Questions to bytes that hold a sound store: what its room is set to, how many versions it holds, who is present, heads and common versions, ancestors
 // and boards. Each answer is read where it stands.
 use buffer::common_members;
 use buffer::has_member;
 use buffer::word_at;
 use graph::Console;
 use graph::Version;
-use store::places::CAPACITY;
+use room::Settings;
 use store::places::COUNT;
+use store::places::board_part;
 use store::places::common_in;
-use store::places::entries_of;
-use store::places::row_of;
+use store::places::entries_part;
+use store::places::row_part;
+use store::places::version_of;
+use store::settings::read_settings;
 ghost use mathlib.Core.Path.{_≡_};
 ghost use mathlib.Core.Bool.{true};
-ghost use Prim.Native.Nat.{pred, _<_, _≤_};
+ghost use Prim.Native.Nat.{_<_, _≤_};
 ghost use lib.ListN.{length};
 ghost use Rattle.board.specs.Board.{boardSize};
 ghost use Rattle.graph.specs.Graph.{versionCount, ancestor};
@@ -21,12 +24,12 @@ ghost use Rattle.room.specs.Room.{present, head, common, heardCount};
 ghost use Rattle.room.specs.Boards.{boardOf};
 ghost use Rattle.store.specs.Layout.{roomIn, holdsStore};
 
-// The most versions that the store may hold.
-pub fn capacity_of(s: &[u8]) -> usize
+// What the room is set to.
+pub fn settings_of(s: &[u8]) -> Settings
     requires { ⌜ holdsStore (now s) ≡ true ⌝ }
-    ensures { λ r. ⌜ (r ≡ roomIn (now (s .entry)) .settings .capacity) × (r ≤ 1024) ⌝ }
+    ensures { λ r. ⌜ (r ≡ roomIn (now (s .entry)) .settings) × (r .capacity ≤ 1024) ⌝ }
 {
-    word_at(s, CAPACITY)
+    read_settings(s)
 }
 
 // How many versions it holds, version 0 included.
@@ -43,17 +46,7 @@ pub fn is_present(s: &[u8], c: Console) -> bool
     requires { ⌜ c .0 < consoleCount ⌝ }
     ensures { λ r. ⌜ r ≡ present (roomIn (now (s .entry))) (c .0) ⌝ }
 {
-    !(common_in(s, c.0, c.0) == 0)
-}
-
-// The version that a field of the table stands for.
-fn version_in(field: usize) -> Version
-    ensures { λ r. ⌜ r .0 ≡ pred field ⌝ }
-{
-    if field == 0 {
-        return Version(0);
-    }
-    Version(field - 1)
+    !(common_in(s, c, c).0 == 0)
 }
 
 // The head of a console; version 0 for one that is absent.
@@ -62,7 +55,7 @@ pub fn head_of(s: &[u8], c: Console) -> Version
     requires { ⌜ c .0 < consoleCount ⌝ }
     ensures { λ r. ⌜ (r .0 ≡ head (roomIn (now (s .entry))) (c .0)) × (r .0 < versionCount (roomIn (now (s .entry)) .versions)) ⌝ }
 {
-    version_in(common_in(s, c.0, c.0))
+    version_of(common_in(s, c, c))
 }
 
 // The common version of two present consoles.
@@ -72,7 +65,7 @@ pub fn common_of(s: &[u8], c: Console, d: Console) -> Version
     requires { ⌜ (present (roomIn (now s)) (c .0) ≡ true) × (present (roomIn (now s)) (d .0) ≡ true) ⌝ }
     ensures { λ r. ⌜ (r .0 ≡ common (roomIn (now (s .entry))) (c .0) (d .0)) × (r .0 < versionCount (roomIn (now (s .entry)) .versions)) ⌝ }
 {
-    version_in(common_in(s, c.0, d.0))
+    version_of(common_in(s, c, d))
 }
 
 // Whether the first of two versions is an ancestor of the second, itself included.
@@ -81,7 +74,7 @@ pub fn is_ancestor(s: &[u8], u: Version, v: Version) -> bool
     requires { ⌜ (u .0 < versionCount (roomIn (now s) .versions)) × (v .0 < versionCount (roomIn (now s) .versions)) ⌝ }
     ensures { λ r. ⌜ r ≡ ancestor (roomIn (now (s .entry)) .versions) (u .0) (v .0) ⌝ }
 {
-    has_member(row_of(s, v.0), u.0)
+    has_member(row_part(s, v), u.0)
 }
 
 // How many entries a console has heard: the entries among the ancestors of its head.
@@ -91,7 +84,7 @@ pub fn heard_count(s: &[u8], c: Console) -> usize
     ensures { λ r. ⌜ (r ≡ heardCount (roomIn (now (s .entry))) (c .0)) × (r ≤ 1024) ⌝ }
 {
     let v = head_of(s, c);
-    common_members(entries_of(s), row_of(s, v.0))
+    common_members(entries_part(s), row_part(s, v))
 }
 
 // The board of a version.
@@ -100,5 +93,5 @@ pub fn board_of(s: &[u8], v: Version) -> &[u8]
     requires { ⌜ v .0 < versionCount (roomIn (now s) .versions) ⌝ }
     ensures { λ r. ⌜ (now r ≡ boardOf (roomIn (now (s .entry)) .versions) (v .0)) × (length (now r) ≡ boardSize) ⌝ }
 {
-    store::places::board_of(s, v.0)
+    board_part(s, v)
 }

@@ -2,7 +2,7 @@
 use crate::places::Field;
 use crate::places::ROW;
 use crate::places::common_in;
-use crate::places::row_of;
+use crate::places::row_part;
 use crate::places::version_of;
 use buffer::add_union;
 use buffer::is_intersection;
@@ -28,7 +28,7 @@ fn rows_meet(s: &[u8], m: Version, u: Version, v: Version) -> bool
     requires { ⌜ blockAt (suc (v .0)) ≤ length (now s) ⌝ }
     ensures { λ r. ⌜ r ≡ same (rowPart (now (s .entry)) (m .0)) (intersection (rowPart (now (s .entry)) (u .0)) (rowPart (now (s .entry)) (v .0))) ⌝ }
 {
-    is_intersection(row_of(s, m), row_of(s, u), row_of(s, v))
+    is_intersection(row_part(s, m), row_part(s, u), row_part(s, v))
 }
 
 // Whether m is the field of two consoles whose own fields are u and v.

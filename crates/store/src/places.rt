@@ -113,7 +113,7 @@ pub fn common_in(s: &[u8], c: Console, d: Console) -> Field
 }
 
 // The row of a version whose block lies in the bytes.
-pub fn row_of(s: &[u8], v: Version) -> &[u8]
+pub fn row_part(s: &[u8], v: Version) -> &[u8]
     requires { ⌜ blockAt (suc (v .0)) ≤ length (now s) ⌝ }
     ensures { λ r. ⌜ (now r ≡ rowPart (now (s .entry)) (v .0)) × (length (now r) ≡ rowSize) ⌝ }
 {
@@ -121,7 +121,7 @@ pub fn row_of(s: &[u8], v: Version) -> &[u8]
 }
 
 // The board of a version whose block lies in the bytes.
-pub fn board_of(s: &[u8], v: Version) -> &[u8]
+pub fn board_part(s: &[u8], v: Version) -> &[u8]
     requires { ⌜ blockAt (suc (v .0)) ≤ length (now s) ⌝ }
     ensures { λ r. ⌜ (now r ≡ boardPart (now (s .entry)) (v .0)) × (length (now r) ≡ boardSize) ⌝ }
 {
@@ -129,7 +129,7 @@ pub fn board_of(s: &[u8], v: Version) -> &[u8]
 }
 
 // The row of the entry versions.
-pub fn entries_of(s: &[u8]) -> &[u8]
+pub fn entries_part(s: &[u8]) -> &[u8]
     requires { ⌜ headerSize ≤ length (now s) ⌝ }
     ensures { λ r. ⌜ (now r ≡ entriesPart (now (s .entry))) × (length (now r) ≡ rowSize) ⌝ }
 {

@@ -10,9 +10,9 @@ use crate::places::NODE;
 use crate::places::ROW;
 use crate::places::block_at;
 use crate::places::board_at;
-use crate::places::board_of;
-use crate::places::entries_of;
-use crate::places::row_of;
+use crate::places::board_part;
+use crate::places::entries_part;
+use crate::places::row_part;
 use crate::rules::is_base;
 use crate::rules::node_in_range;
 use board::is_entered;
@@ -50,7 +50,7 @@ fn entry_rows_right(s: &[u8], v: Version, p: Version) -> bool
     requires { ⌜ (p .0 < v .0) × (v .0 < 1024) × (blockAt (suc (v .0)) ≤ length (now s)) ⌝ }
     ensures { λ r. ⌜ r ≡ same (rowPart (now (s .entry)) (v .0)) (withMember (rowPart (now (s .entry)) (p .0)) (v .0)) ⌝ }
 {
-    is_extended(row_of(s, v), row_of(s, p), v.0)
+    is_extended(row_part(s, v), row_part(s, p), v.0)
 }
 
 // Whether a version's board is its parent's after an entry.
@@ -65,7 +65,7 @@ fn entry_board_right(
     requires { ⌜ (p .0 < v .0) × (v .0 < 1024) × (blockAt (suc (v .0)) ≤ length (now s)) × (strip .0 < stripCount) ⌝ }
     ensures { λ r. ⌜ r ≡ same (boardPart (now (s .entry)) (v .0)) (enter code (strip .0) operand (boardPart (now (s .entry)) (p .0))) ⌝ }
 {
-    is_entered(board_of(s, v), board_of(s, p), code, strip, operand)
+    is_entered(board_part(s, v), board_part(s, p), code, strip, operand)
 }
 
 // Whether the parts of an entry's block are right, its numbers being in their ranges.
@@ -77,7 +77,7 @@ fn entry_parts(s: &[u8], v: Version, p: Version, code: usize, strip: Strip, oper
     zero_part(s, at, NODE - NODE_GIVER)
         & entry_rows_right(s, v, p)
         & entry_board_right(s, v, p, code, strip, operand)
-        & has_member(entries_of(s), v.0)
+        & has_member(entries_part(s), v.0)
 }
 
 // Whether the base is that of the parents, and the version's row the union of theirs with the version besides.
@@ -85,9 +85,10 @@ fn merge_rows_right(s: &[u8], v: Version, p: Version, q: Version, l: Version) ->
     requires { ⌜ (p .0 < v .0) × (q .0 < v .0) × (l .0 < v .0) × (v .0 < 1024) × (blockAt (suc (v .0)) ≤ length (now s)) ⌝ }
     ensures { λ r. ⌜ r ≡ mergeRows (now (s .entry)) (v .0) (p .0) (q .0) (l .0) ⌝ }
 {
-    let mine = row_of(s, p);
-    let given = row_of(s, q);
-    is_base(l, p, q, row_of(s, l), mine, given) & is_extended_union(row_of(s, v), mine, given, v.0)
+    let mine = row_part(s, p);
+    let given = row_part(s, q);
+    is_base(l, p, q, row_part(s, l), mine, given)
+        & is_extended_union(row_part(s, v), mine, given, v.0)
 }
 
 // Whether a version's board is the merge of its parents' over the base's.
@@ -96,10 +97,10 @@ fn merge_board_right(s: &[u8], v: Version, p: Version, q: Version, l: Version) -
     ensures { λ r. ⌜ r ≡ same (boardPart (now (s .entry)) (v .0)) (mergeBoard (boardPart (now (s .entry)) (l .0)) (boardPart (now (s .entry)) (p .0)) (boardPart (now (s .entry)) (q .0))) ⌝ }
 {
     is_merged(
-        board_of(s, v),
-        board_of(s, l),
-        board_of(s, p),
-        board_of(s, q),
+        board_part(s, v),
+        board_part(s, l),
+        board_part(s, p),
+        board_part(s, q),
     )
 }
 
@@ -115,7 +116,7 @@ fn merge_parts(s: &[u8], v: Version, p: Version, q: Version, l: Version) -> bool
         & zero_part(s, rest, NODE - NODE_SPARE)
         & merge_rows_right(s, v, p, q, l)
         & merge_board_right(s, v, p, q, l)
-        & !has_member(entries_of(s), v.0)
+        & !has_member(entries_part(s), v.0)
 }
 
 // Whether the parts of a merge's block are right, its parents being below it.
@@ -164,7 +165,7 @@ fn root_row_right(s: &[u8]) -> bool
     ensures { λ r. ⌜ r ≡ same (rowPart (now (s .entry)) 0) (withMember (zeros rowSize) 0) ⌝ }
 {
     let none = [0u8; ROW];
-    is_extended(row_of(s, Version(0)), &none, 0)
+    is_extended(row_part(s, Version(0)), &none, 0)
 }
 
 // Whether the block of version 0 is right.
@@ -175,7 +176,7 @@ fn root_right(s: &[u8]) -> bool
     zero_part(s, block_at(Version(0)), NODE)
         & root_row_right(s)
         & zero_part(s, board_at(Version(0)), BOARD)
-        & !has_member(entries_of(s), 0)
+        & !has_member(entries_part(s), 0)
 }
 
 // Whether the blocks of the versions 0 to n are right.

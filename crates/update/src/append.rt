@@ -23,7 +23,7 @@ use store::places::NODE_STRIP;
 use store::places::ROW;
 use store::places::block_at;
 use store::places::board_at;
-use store::places::board_of;
+use store::places::board_part;
 use store::places::row_at;
 ghost use mathlib.Core.Path.{_≡_};
 ghost use Prim.Native.Nat.{suc, _<_, _≤_};
@@ -143,11 +143,11 @@ fn put_merge_board(s: &mut [u8], n: usize, p: usize, q: usize, l: usize)
     ensures { λ _. ⌜ now (s .exit) ≡ withPart (now (s .entry)) (boardAt n) (mergeBoard (boardPart (now (s .entry)) l) (boardPart (now (s .entry)) p) (boardPart (now (s .entry)) q)) ⌝ }
 {
     let mut base = [0u8; BOARD];
-    copy(&mut base, board_of(s, l));
+    copy(&mut base, board_part(s, l));
     let mut mine = [0u8; BOARD];
-    copy(&mut mine, board_of(s, p));
+    copy(&mut mine, board_part(s, p));
     let mut given = [0u8; BOARD];
-    copy(&mut given, board_of(s, q));
+    copy(&mut given, board_part(s, q));
     let at = board_at(n);
     let end = at + BOARD;
     merge_board(&mut s[at..end], &base, &mine, &given);

@@ -10,11 +10,11 @@ use Rattle.query.proofs.heard_count.Tie as tie
 head-of-requires : tie.Need-head-of-requires
 head-of-requires c κs = search needs
 
-entries-of-requires : tie.Need-entries-of-requires
-entries-of-requires c κs = whole-header (c .before .before .args .s .now) (c .before .before .pre .0)
+entries-part-requires : tie.Need-entries-part-requires
+entries-part-requires c κs = whole-header (c .before .before .args .s .now) (c .before .before .pre .0)
 
-row-of-requires : tie.Need-row-of-requires
-row-of-requires c κs =
+row-part-requires : tie.Need-row-part-requires
+row-part-requires c κs =
     let start = c .before .before .before in
     whole-block (start .args .s .now) (start .pre .0) (c .before .head-of .result .0) (c .before .head-of .ensures .1)
 
@@ -26,7 +26,7 @@ returns c =
     let start = c .before .before .before .before .before in
     let h = c .before .before .before .head-of in
     let e = c .common-members .ensures in (
-      rw (c .before .before .entries-of .ensures .0, c .before .row-of .ensures .0) at (e .0)
+      rw (c .before .before .entries-part .ensures .0, c .before .row-part .ensures .0) at (e .0)
           ∙ heard-answer (start .args .s .now) (start .pre .0) (start .args .c .0) (h .result .0) (h .ensures .0) (h .ensures .1),
       e .1,
     )
@@ -34,4 +34,4 @@ returns c =
 pub heard-count-spec : {M : Type 1} → statement M
 heard-count-spec =
     tie.close
-    (tie.spec head-of-requires entries-of-requires row-of-requires common-members-requires returns)
+    (tie.spec head-of-requires entries-part-requires row-part-requires common-members-requires returns)

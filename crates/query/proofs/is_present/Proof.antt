@@ -10,7 +10,9 @@ common-in-requires : tie.Need-common-in-requires
 common-in-requires c κs = (whole-header (c .before .args .s .now) (c .before .pre .0), omega arith)
 
 returns : tie.Need-returns
-returns c = rw (c .common-in .ensures .0) (present-answer (c .before .before .args .s .now) (c .before .before .pre .0) (c .before .before .args .c .0) (c .before .before .pre .1))
+returns c =
+    let start = c .before .before .before in
+    rw (c .before .common-in .ensures .0) (present-answer (start .args .s .now) (start .pre .0) (start .args .c .0) (start .pre .1))
 
 pub is-present-spec : {M : Type 1} → statement M
 is-present-spec = tie.close (tie.spec common-in-requires returns)

@@ -6,7 +6,7 @@ use Rattle.store.proofs.version.entry_board_right.Tie as tie
 
 returns : tie.Need-returns
 returns c =
-    rw (c .before .before .board-of .ensures .0, c .before .board-of2 .ensures .0) at (c .is-entered .ensures)
+    rw (c .before .before .board-part .ensures .0, c .before .board-part2 .ensures .0) at (c .is-entered .ensures)
 
 pub entry-board-right-spec : {M : Type 1} → statement M
 entry-board-right-spec =

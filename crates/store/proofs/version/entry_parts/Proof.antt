@@ -15,7 +15,7 @@ returns c =
     let z = d .before .before in
     ap₂ _&&_
     (ap₂ _&&_ (ap₂ _&&_ (rw (z .before .block-at .ensures) at (z .zero-part .ensures)) (d .before .entry-rows-right .ensures)) (d .entry-board-right .ensures))
-    (rw (c .before .entries-of .ensures .0) at (c .has-member .ensures))
+    (rw (c .before .entries-part .ensures .0) at (c .has-member .ensures))
 
 pub entry-parts-spec : {M : Type 1} → statement M
 entry-parts-spec =

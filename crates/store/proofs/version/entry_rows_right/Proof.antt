@@ -6,7 +6,7 @@ use Rattle.store.proofs.version.entry_rows_right.Tie as tie
 
 returns : tie.Need-returns
 returns c =
-    rw (c .before .before .row-of .ensures .0, c .before .row-of2 .ensures .0) at (c .is-extended .ensures)
+    rw (c .before .before .row-part .ensures .0, c .before .row-part2 .ensures .0) at (c .is-extended .ensures)
 
 pub entry-rows-right-spec : {M : Type 1} → statement M
 entry-rows-right-spec =

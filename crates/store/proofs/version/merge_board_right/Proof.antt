@@ -7,7 +7,7 @@ use Rattle.store.proofs.version.merge_board_right.Tie as tie
 returns : tie.Need-returns
 returns c =
     let b = c .before .before .before .before in
-    rw (b .board-of .ensures .0, c .before .before .before .board-of2 .ensures .0, c .before .before .board-of3 .ensures .0, c .before .board-of4 .ensures .0) at (c .is-merged .ensures)
+    rw (b .board-part .ensures .0, c .before .before .before .board-part2 .ensures .0, c .before .before .board-part3 .ensures .0, c .before .board-part4 .ensures .0) at (c .is-merged .ensures)
 
 pub merge-board-right-spec : {M : Type 1} → statement M
 merge-board-right-spec =

@@ -20,7 +20,7 @@ returns c =
     (ap₂ _&&_
     (ap₂ _&&_ (ap₂ _&&_ (rw (place .block-at .ensures) at (z .before .zero-part .ensures)) (rw rest at (z .zero-part2 .ensures))) (d .before .merge-rows-right .ensures))
     (d .merge-board-right .ensures))
-    (ap not (rw (c .before .entries-of .ensures .0) at (c .has-member .ensures)))
+    (ap not (rw (c .before .entries-part .ensures .0) at (c .has-member .ensures)))
 
 pub merge-parts-spec : {M : Type 1} → statement M
 merge-parts-spec =

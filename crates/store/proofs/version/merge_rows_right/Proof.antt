@@ -9,11 +9,11 @@ use Rattle.store.proofs.version.merge_rows_right.Tie as tie
 returns : tie.Need-returns
 returns c =
     let x = c .before .before in
-    let mine = x .before .before .before .row-of .ensures .0 in
-    let given = x .before .before .row-of2 .ensures .0 in
+    let mine = x .before .before .before .row-part .ensures .0 in
+    let given = x .before .before .row-part2 .ensures .0 in
     ap₂ _&&_
-    (rw (x .before .row-of3 .ensures .0, mine, given) at (x .is-base .ensures))
-    (rw (c .before .row-of4 .ensures .0, mine, given) at (c .is-extended-union .ensures))
+    (rw (x .before .row-part3 .ensures .0, mine, given) at (x .is-base .ensures))
+    (rw (c .before .row-part4 .ensures .0, mine, given) at (c .is-extended-union .ensures))
 
 pub merge-rows-right-spec : {M : Type 1} → statement M
 merge-rows-right-spec =

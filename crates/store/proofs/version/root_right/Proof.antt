@@ -16,7 +16,7 @@ returns c =
     (ap₂ _&&_
     (ap₂ _&&_ (rw (line .before .before .block-at .ensures) at (line .before .zero-part .ensures)) (line .root-row-right .ensures))
     (rw (board .before .board-at .ensures) at (board .zero-part2 .ensures)))
-    (ap not (rw (c .before .entries-of .ensures .0) at (c .has-member .ensures)))
+    (ap not (rw (c .before .entries-part .ensures .0) at (c .has-member .ensures)))
 
 pub root-right-spec : {M : Type 1} → statement M
 root-right-spec =

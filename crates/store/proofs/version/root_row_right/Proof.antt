@@ -6,7 +6,7 @@ use Rattle.store.proofs.version.root_row_right.Tie as tie
 
 returns : tie.Need-returns
 returns c =
-    rw (c .before .before .row-of .ensures .0) at (c .is-extended .ensures)
+    rw (c .before .before .row-part .ensures .0) at (c .is-extended .ensures)
 
 pub root-row-right-spec : {M : Type 1} → statement M
 root-row-right-spec =

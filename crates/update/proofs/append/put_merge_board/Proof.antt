@@ -15,8 +15,8 @@ use Rattle.update.proofs.append.put_merge_board.Tie as tie
 slice-aggregate-copy : tie.Need-slice-aggregate-copy
 slice-aggregate-copy c = omega arith
 
-board-of-requires : tie.Need-board-of-requires
-board-of-requires c κs = omega arith
+board-part-requires : tie.Need-board-part-requires
+board-part-requires c κs = omega arith
 
 copy-requires : tie.Need-copy-requires
 copy-requires c κs = omega arith
@@ -24,8 +24,8 @@ copy-requires c κs = omega arith
 slice-aggregate-copy-2 : tie.Need-slice-aggregate-copy-2
 slice-aggregate-copy-2 c = omega arith
 
-board-of-requires-2 : tie.Need-board-of-requires-2
-board-of-requires-2 c κs = omega arith
+board-part-requires-2 : tie.Need-board-part-requires-2
+board-part-requires-2 c κs = omega arith
 
 copy-requires-2 : tie.Need-copy-requires-2
 copy-requires-2 c κs = omega arith
@@ -33,8 +33,8 @@ copy-requires-2 c κs = omega arith
 slice-aggregate-copy-3 : tie.Need-slice-aggregate-copy-3
 slice-aggregate-copy-3 c = omega arith
 
-board-of-requires-3 : tie.Need-board-of-requires-3
-board-of-requires-3 c κs = omega arith
+board-part-requires-3 : tie.Need-board-part-requires-3
+board-part-requires-3 c κs = omega arith
 
 copy-requires-3 : tie.Need-copy-requires-3
 copy-requires-3 c κs = omega arith
@@ -78,9 +78,9 @@ returns c =
     let start = first .before .before .before .before .before in
     let a = start .args in
     let s = now (a .s) in
-    let base = first .copy .ensures ∙ first .before .board-of .ensures .0 in
-    let mine = second .copy2 .ensures ∙ second .before .board-of2 .ensures .0 in
-    let given = third .copy3 .ensures ∙ third .before .board-of3 .ensures .0 in
+    let base = first .copy .ensures ∙ first .before .board-part .ensures .0 in
+    let mine = second .copy2 .ensures ∙ second .before .board-part2 .ensures .0 in
+    let given = third .copy3 .ensures ∙ third .before .board-part3 .ensures .0 in
     put-lent s _ (mergeBoard (boardPart s (a .l)) (boardPart s (a .p)) (boardPart s (a .q))) _ (boardAt (a .n)) boardSize (place .board-at .ensures)
     (merged (c .before .before .merge-board .ensures) base mine given)
     (mergeBoard-length (boardPart s (a .l)) (boardPart s (a .p)) (boardPart s (a .q)))
@@ -90,13 +90,13 @@ put-merge-board-spec =
     tie.close
     (tie.spec
     slice-aggregate-copy
-    board-of-requires
+    board-part-requires
     copy-requires
     slice-aggregate-copy-2
-    board-of-requires-2
+    board-part-requires-2
     copy-requires-2
     slice-aggregate-copy-3
-    board-of-requires-3
+    board-part-requires-3
     copy-requires-3
     board-at-requires
     add-end

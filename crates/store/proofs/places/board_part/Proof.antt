@@ -1,0 +1,12 @@
+-- `store::places::board_part` meets its contract.
+-- Assumes nothing.
+use native.Mathlib.Omega.{arith}
+use Rattle.store.proofs.places.board_part.Statement.{statement}
+use Rattle.store.proofs.places.board_part.Tie as tie
+
+returns : tie.Need-returns
+returns c = rw (c .before .board-at .ensures) at (c .part-of .ensures)
+
+pub board-part-spec : {M : Type 1} → statement M
+board-part-spec =
+    tie.close (tie.spec (λ c κs. omega arith) (λ c κs. omega arith) returns)
