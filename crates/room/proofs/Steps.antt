@@ -24,8 +24,9 @@ use Rattle.command.specs.declared.Command.{Command}
 use Rattle.command.specs.declared.Command.the-variants.{Fork, Entry, Merge, FastForward}
 use Rattle.command.specs.Code.{consoleCount}
 use Rattle.command.specs.Decoding.{InRange}
-use Rattle.room.specs.Room.{Room, present, head, common, fresh}
-use Rattle.room.specs.Sound.{isCapacity, entryInRange, headsMeet, allBehindHeads, soundRoom}
+use Rattle.room.specs.declared.Settings.{Settings}
+use Rattle.room.specs.Room.{Room, present, head, common, freshRoom}
+use Rattle.room.specs.Sound.{settingsInRange, entryInRange, headsMeet, allBehindHeads, soundRoom}
 use Rattle.room.specs.Step.{behind, apart, splits, someThirdSplits, stepRefusal, grown, step}
 use Rattle.room.proofs.Accepted.{fork-accepted, forward-accepted, entry-accepted, merge-accepted}
 use Rattle.room.proofs.Sound.{Sound, present-console, present-head, meets-of, sound-facts, facts-sound}
@@ -204,6 +205,6 @@ step-sound r (Merge a b) s range h = facts-sound _ (merge-sound r (sound-facts r
 step-sound r (FastForward a b) s range h = facts-sound _ (forward-sound r (sound-facts r s) a b range h)
 
 -- opening gives a sound room
-pub fresh-sound : (capacity : ℕ) → isCapacity capacity ≡ true → soundRoom (fresh capacity) ≡ true
+pub fresh-sound : (settings : Settings) → settingsInRange settings ≡ true → soundRoom (freshRoom settings) ≡ true
 unfolding soundRoom everyVersion headsMeet allBehindHeads everyBelow someBelow ancestor meet isMeet highestBelow
-fresh-sound capacity h = and-i _ _ (and-i (isCapacity capacity) _ h (and-l _ _ h)) refl
+fresh-sound settings h = and-i _ _ (and-i (settingsInRange settings) _ h (and-l _ _ h)) refl

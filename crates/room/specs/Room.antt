@@ -40,10 +40,13 @@ hears r c v = isEntry (r .versions) v && ancestor (r .versions) v (head r c)
 unfoldable pub heardCount : Room → ℕ → ℕ
 heardCount r c = countBelow (versionCount (r .versions)) (hears r c)
 
--- what opening with a capacity sets a room to
-abbrev pub opened : ℕ → Settings
-opened capacity = record { capacity = capacity }
+-- "Opening makes version 0 with console 0 on it.": so set
+abbrev pub freshRoom : Settings → Room
+freshRoom settings = record { settings = settings; versions = []; heads = set (replicate consoleCount none) 0 (some 0) }
 
--- "Opening makes version 0 with console 0 on it."
+-- what opening with a capacity sets a room to
+abbrev pub openSettings : ℕ → Settings
+openSettings capacity = record { capacity = capacity }
+
 abbrev pub fresh : ℕ → Room
-fresh capacity = record { settings = opened capacity; versions = []; heads = set (replicate consoleCount none) 0 (some 0) }
+fresh capacity = freshRoom (openSettings capacity)

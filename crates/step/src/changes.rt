@@ -1,8 +1,8 @@
 // What an accepted command does to a store.
 use command::Command;
 use update::commons::move_console;
-use update::growing::enter;
-use update::growing::merge;
+use update::new_version::enter;
+use update::new_version::merge;
 ghost use mathlib.Core.Path.{_≡_};
 ghost use mathlib.Core.Bool.{true};
 ghost use Rattle.buffer.specs.Field.{overwrite};

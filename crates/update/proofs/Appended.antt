@@ -13,9 +13,11 @@ use Rattle.buffer.proofs.Bytewise.{bytewise-length}
 use Rattle.buffer.proofs.Patches.{with-length, with-part, with-next}
 use Rattle.board.specs.Board.{boardSize, enter, mergeBoard}
 use Rattle.board.proofs.Length.{enter-length, mergeBoard-length}
+use Rattle.graph.specs.declared.Node.{Node}
+use Rattle.graph.specs.declared.Node.the-variants.{Entry, Merge}
 use Rattle.store.specs.Layout.{nodeSize, rowSize, blockSize, entriesAt, blockAt, rowAt, boardAt, entryNodeBytes, mergeNodeBytes}
 use Rattle.store.specs.Check.{rowPart, boardPart, entriesPart}
-use Rattle.update.specs.Append.{entryBlock, mergeBlock, withEntry, withMerge}
+use Rattle.update.specs.Append.{entryBlock, mergeBlock, withEntry, withMerge, nodeWith}
 
 -- the nodes, from their first byte on
 pub entry-node-made : (node z a b c d : List ℕ) (p code strip operand : ℕ) → length node ≡ nodeSize → z ≡ zeros (length node)
@@ -25,6 +27,10 @@ entry-node-made node z a b c d p code strip operand l ez ea eb ec ed = rw (ed, e
 pub merge-node-made : (node z a b c d : List ℕ) (p q l : ℕ) → length node ≡ nodeSize → z ≡ zeros (length node)
     → a ≡ set z 0 (byte 9) → b ≡ putWord a 4 p → c ≡ putWord b 6 q → d ≡ putWord c 8 l → d ≡ mergeNodeBytes p q l
 merge-node-made node z a b c d p q l long ez ea eb ec ed = rw (ed, ec, eb, ea, ez, long)
+
+pub node-long : (node : Node) (l : ℕ) → length (nodeWith node l) ≡ nodeSize
+node-long (Entry p code strip operand) l = refl
+node-long (Merge p q) l = refl
 
 -- rows and boards keep their lengths
 pub member-keeps : (n v : ℕ) (x : List ℕ) → length x ≡ n → length (withMember x v) ≡ n

@@ -32,19 +32,11 @@ use Rattle.store.proofs.Joined.{Placed, placed, join-encode}
 use Rattle.store.proofs.Moved.{commonField-sym, grown-self, grown-other, entry-row, entry-column, merge-row, merge-column}
 use Rattle.store.proofs.Overwritten.{overwritten}
 use Rattle.store.proofs.Reading.{common-read}
-use Rattle.store.proofs.VersionTests.{range-mark, range-unmark}
 use Rattle.store.proofs.Whole.{whole-sound, whole-ranges, whole-front, whole-long, whole-header}
 use Rattle.update.specs.Append.{withEntry, withMerge}
 use Rattle.update.specs.Commons.{joinedCommons, putHead}
 use Rattle.update.proofs.AppendedBlocks.{Standing, Grew, entry-grew, merge-grew}
 use Rattle.update.proofs.JoinedTable.{table-kept, table-length, table-stands}
-
--- an entry in range puts or takes one of the 16 marks
-pub marks-small : (code strip operand : ℕ) → isEntryCode code && isStrip strip && isOperand code operand ≡ true
-    → (code ≡ 4 → operand < 16) × (code ≡ 5 → operand < 16)
-marks-small code strip operand h =
-    let all = and-i (isEntryCode code && isStrip strip && isOperand code operand) (ltb 0 1) h refl in
-    (range-mark 1 0 code strip operand _ refl all, range-unmark 1 0 code strip operand _ refl all)
 
 pub in-range : (code strip operand : ℕ) → isEntryCode code ≡ true → strip < stripCount → isOperand code operand ≡ true
     → isEntryCode code && isStrip strip && isOperand code operand ≡ true
@@ -136,7 +128,7 @@ module _ (s : List ℕ) (t : holdsStore s ≡ true) (left : versionCount (roomIn
         overwritten s u (grown r c m) (facts-sound (grown r c m) sound)
         (join-encode (grown r c m)
         (record {
-          capacity = stands-kept (parts .capacity) (λ i x y. same i (omega arith) (omega arith));
+          settings = stands-kept (parts .settings) (λ i x y. same i (omega arith) (omega arith));
           count = stands-kept (put-stands a countAt (suc n) (omega arith)) (λ i x y. table i (omega arith));
           gap = stands-kept (parts .gap) (λ i x y. same i (omega arith) (omega arith));
           entries = stands-kept (grew .standing .entries) (λ i x y. stays i (omega arith) (omega arith));
@@ -195,7 +187,7 @@ module _ (s : List ℕ) (t : holdsStore s ≡ true) (left : versionCount (roomIn
 
       -- as the code does it, with n the number of versions and h the head
       pub entered-store : (a b u : List ℕ) (n h : ℕ) → n ≡ versionCount (roomIn s .versions) → h ≡ head (roomIn s) c
-          → a ≡ withEntry s n h code strip operand → b ≡ putWord a countAt (n + 1) → u ≡ putHead b c (n + 1)
+          → a ≡ withEntry s n h code strip operand → b ≡ putWord a countAt (n + 1) → u ≡ putHead b c (suc n)
           → u ≡ overwrite (encode (grown (roomIn s) c (entry (head (roomIn s) c) code strip operand))) s
       entered-store a b u n h en eh ea eb eu =
           rw (eu, eb, ea, add-one, en, eh)
@@ -226,7 +218,7 @@ module _ (s : List ℕ) (t : holdsStore s ≡ true) (left : versionCount (roomIn
 
       pub merged-store : (a b e u : List ℕ) (n h k l : ℕ) → n ≡ versionCount (roomIn s .versions) → h ≡ head (roomIn s) c → k ≡ head (roomIn s) d
           → l ≡ common (roomIn s) c d → a ≡ withMerge s n h k l → b ≡ putWord a countAt (n + 1) → e ≡ joinedCommons b c d consoleCount
-          → u ≡ putHead e c (n + 1) → u ≡ overwrite (encode (grown (roomIn s) c (merge (head (roomIn s) c) (head (roomIn s) d)))) s
+          → u ≡ putHead e c (suc n) → u ≡ overwrite (encode (grown (roomIn s) c (merge (head (roomIn s) c) (head (roomIn s) d)))) s
       merged-store a b e u n h k l en eh ek el ea eb ee eu =
           let sound = whole-sound s t in
           let new = suc (versionCount g) in

@@ -49,7 +49,7 @@ module _ (s : List ℕ) (t : holdsStore s ≡ true) (c d : ℕ) (cl : c < consol
       let sound = whole-sound s t in
       let p = placed r (whole-front s t) in
       record {
-        capacity = stands-kept (p .capacity) (λ i _ l. before i (omega arith));
+        settings = stands-kept (p .settings) (λ i _ l. before i (omega arith));
         count = stands-kept (p .count) (λ i _ l. before i (omega arith));
         gap = stands-kept (p .gap) (λ i _ l. before i (omega arith));
         entries = stands-kept (p .entries) (λ i _ l. before i (omega (arith, rowFrom-length (isEntry (r .versions)) 0 rowSize)));

@@ -1,7 +1,7 @@
 -- A buffer cleared and given the fields of a fresh room holds the fresh room's store.
 -- Assumes nothing.
 use mathlib.Core.Path.{_≡_, sym, ap, _∙_, subst}
-use mathlib.Core.Bool.{false, _&&_}
+use mathlib.Core.Bool.{false, _&&_, true}
 use mathlib.Core.List.{List, [], _++_}
 use mathlib.Core.Option.{none}
 use Prim.Native.Nat.{ℕ, zero, suc, _+_, _-_, _*_, _/_, _≤_, _<_}
@@ -16,9 +16,10 @@ use Rattle.buffer.proofs.Writes.{put-length, put-other}
 use Rattle.buffer.proofs.Stands.{Stands}
 use Rattle.graph.specs.Graph.{nodeOf, isSome}
 use Rattle.command.specs.Code.{consoleCount}
-use Rattle.command.proofs.Limits.{within-i}
-use Rattle.room.specs.Room.{Room, present, common, fresh}
-use Rattle.room.specs.Sound.{maxCapacity}
+use Rattle.command.proofs.Limits.{within-i, within-true}
+use Rattle.room.specs.Room.{Room, present, common, openSettings, fresh}
+use Rattle.room.specs.declared.Settings.{Settings}
+use Rattle.room.specs.Sound.{maxCapacity, settingsInRange}
 use Rattle.room.specs.Boards.{boardOf}
 use Rattle.room.proofs.Steps.{fresh-sound}
 use Rattle.store.specs.Layout.{rowSize, storeSize, blockAt, commonAt, commonField, nodeBytes, block, encode}
@@ -100,7 +101,7 @@ module _ {s t : List ℕ} {capacity : ℕ} (room : 1 ≤ capacity) (o : Opened s
   unfolding nodeOf
   placed =
       record {
-        capacity = word-here 0 capacity (o .high) (o .low);
+        settings = word-here 0 capacity (o .high) (o .low);
         count = word-here 2 1 (o .none 2 (omega arith) (omega arith) (omega arith) (omega arith) (omega arith)) (o .one);
         gap = none-stands 4 124 (omega arith) (omega arith) (λ k a b. omega arith);
         entries =
@@ -205,7 +206,11 @@ filled-fresh s capacity room few fits =
     let n = storeSize capacity in
     let long = cleared-length s n fits in
     let o = filled-opened (cleared s n fits) capacity (omega arith) s long (cleared-front s n fits) (cleared-rest s n fits) room in
-    overwritten s _ (fresh capacity) (fresh-sound capacity (within-i 1 maxCapacity capacity room few)) (join-encode (fresh capacity) (placed room o)) fits (o .long) (o .kept)
+    overwritten s _ (fresh capacity) (fresh-sound (openSettings capacity) (within-i 1 maxCapacity capacity room few)) (join-encode (fresh capacity) (placed room o)) fits (o .long) (o .kept)
+
+-- settings in range have a capacity of 1 to 1,024
+pub in-size : (settings : Settings) → settingsInRange settings ≡ true → (1 ≤ settings .capacity) × (settings .capacity ≤ 1024)
+in-size settings h = within-true 1 maxCapacity (settings .capacity) h
 
 -- the same, write by write
 pub opened : (s x a b d : List ℕ) (capacity end : ℕ) → 1 ≤ capacity → capacity ≤ 1024 → storeSize capacity ≤ length s

@@ -4,6 +4,8 @@ use mathlib.Core.List.{List, _++_}
 use Rattle.buffer.specs.Field.{withPart}
 use Rattle.buffer.specs.Row.{withMember, union}
 use Rattle.board.specs.Board.{enter, mergeBoard}
+use Rattle.graph.specs.declared.Node.{Node}
+use Rattle.graph.specs.declared.Node.the-variants.{Entry, Merge}
 use Rattle.store.specs.Layout.{entriesAt, blockAt, entryNodeBytes, mergeNodeBytes}
 use Rattle.store.specs.Check.{rowPart, boardPart, entriesPart}
 
@@ -26,3 +28,13 @@ withEntry s n p code strip operand =
 -- the store with the merge n of q into p written
 unfoldable pub withMerge : List ℕ → ℕ → ℕ → ℕ → ℕ → List ℕ
 withMerge s n p q l = withPart s (blockAt n) (mergeBlock s n p q l)
+
+-- the store with version n written, whatever made it; of a merge, l is the base
+abbrev pub appended : List ℕ → ℕ → Node → ℕ → List ℕ
+appended s n (Entry p code strip operand) l = withEntry s n (p .0) code (strip .0) operand
+appended s n (Merge p q) l = withMerge s n (p .0) (q .0) l
+
+-- the bytes of its node
+abbrev pub nodeWith : Node → ℕ → List ℕ
+nodeWith (Entry p code strip operand) l = entryNodeBytes (p .0) code (strip .0) operand
+nodeWith (Merge p q) l = mergeNodeBytes (p .0) (q .0) l

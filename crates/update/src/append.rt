@@ -9,31 +9,34 @@ use buffer::copy_within;
 use buffer::put_extended;
 use buffer::put_extended_union;
 use buffer::put_word;
+use graph::Node;
 use graph::Strip;
 use graph::Version;
+use store::nodes::MERGE_NODE;
+use store::nodes::NODE_BASE;
+use store::nodes::NODE_GIVER;
+use store::nodes::NODE_OPERAND;
+use store::nodes::NODE_PARENT;
+use store::nodes::NODE_STRIP;
 use store::places::BOARD;
 use store::places::ENTRIES;
-use store::places::MERGE_CODE;
 use store::places::NODE;
-use store::places::NODE_BASE;
-use store::places::NODE_GIVER;
-use store::places::NODE_OPERAND;
-use store::places::NODE_PARENT;
-use store::places::NODE_STRIP;
 use store::places::ROW;
 use store::places::block_at;
 use store::places::board_at;
 use store::places::board_part;
 use store::places::row_at;
 ghost use mathlib.Core.Path.{_≡_};
+ghost use mathlib.Core.Bool.{true};
 ghost use Prim.Native.Nat.{suc, _<_, _≤_};
 ghost use lib.ListN.{length, set};
 ghost use Rattle.buffer.specs.Field.{byte, withPart};
 ghost use Rattle.buffer.specs.Row.{withMember, union};
 ghost use Rattle.board.specs.Board.{stripCount, enter, mergeBoard};
 ghost use Rattle.store.specs.Layout.{headerSize, nodeSize, entriesAt, blockAt, rowAt, boardAt, entryNodeBytes, mergeNodeBytes};
+ghost use Rattle.store.specs.Rules.{nodeInRange};
 ghost use Rattle.store.specs.Check.{rowPart, boardPart, entriesPart};
-ghost use Rattle.update.specs.Append.{withEntry, withMerge};
+ghost use Rattle.update.specs.Append.{withEntry, withMerge, appended, nodeWith};
 
 // Writes the lowest 8 bits of a number at a place.
 fn put_byte(s: &mut [u8], at: usize, x: usize)
@@ -56,91 +59,103 @@ fn write_entry(node: &mut [u8], p: Version, code: usize, strip: Strip, operand: 
 }
 
 // Writes the node of a merge, all of its bytes.
-fn write_merge(node: &mut [u8], p: usize, q: usize, l: usize)
+fn write_merge(node: &mut [u8], p: Version, q: Version, l: Version)
     requires { ⌜ length (now node) ≡ nodeSize ⌝ }
-    ensures { λ _. ⌜ now (node .exit) ≡ mergeNodeBytes p q l ⌝ }
+    ensures { λ _. ⌜ now (node .exit) ≡ mergeNodeBytes (p .0) (q .0) (l .0) ⌝ }
 {
     clear(node);
-    put_byte(node, 0, MERGE_CODE);
-    put_word(node, NODE_PARENT, p);
-    put_word(node, NODE_GIVER, q);
-    put_word(node, NODE_BASE, l);
+    put_byte(node, 0, MERGE_NODE);
+    put_word(node, NODE_PARENT, p.0);
+    put_word(node, NODE_GIVER, q.0);
+    put_word(node, NODE_BASE, l.0);
 }
 
-// Puts the node of an entry into the block of version n.
-fn put_entry_node(s: &mut [u8], n: Version, p: Version, code: usize, strip: Strip, operand: usize)
-    requires { ⌜ (n .0 < 1024) × (blockAt (suc (n .0)) ≤ length (now s)) ⌝ }
-    ensures { λ _. ⌜ now (s .exit) ≡ withPart (now (s .entry)) (blockAt (n .0)) (entryNodeBytes (p .0) code (strip .0) operand) ⌝ }
+// Writes the node of a version, all of its bytes; of a merge with its base.
+fn write_node(bytes: &mut [u8], node: Node, base: Version)
+    requires { ⌜ length (now bytes) ≡ nodeSize ⌝ }
+    ensures { λ _. ⌜ now (bytes .exit) ≡ nodeWith node (base .0) ⌝ }
 {
-    let at = block_at(n.0);
-    let end = at + NODE;
-    write_entry(&mut s[at..end], p, code, strip, operand);
+    match node {
+        Node::Entry {
+            parent,
+            code,
+            strip,
+            operand,
+        } => write_entry(bytes, parent, code, strip, operand),
+        Node::Merge { receiver, giver } => write_merge(bytes, receiver, giver, base),
+    }
 }
 
-// Puts the node of a merge into the block of version n.
-fn put_merge_node(s: &mut [u8], n: usize, p: usize, q: usize, l: usize)
-    requires { ⌜ (n < 1024) × (blockAt (suc n) ≤ length (now s)) ⌝ }
-    ensures { λ _. ⌜ now (s .exit) ≡ withPart (now (s .entry)) (blockAt n) (mergeNodeBytes p q l) ⌝ }
+// Puts the node of version n into its block.
+fn put_node(s: &mut [u8], n: Version, node: Node, base: Version)
+    requires { ⌜ (n .0 < 1024) × (blockAt (suc (n .0)) ≤ length (now s)) ⌝ }
+    ensures { λ _. ⌜ now (s .exit) ≡ withPart (now (s .entry)) (blockAt (n .0)) (nodeWith node (base .0)) ⌝ }
 {
     let at = block_at(n);
     let end = at + NODE;
-    write_merge(&mut s[at..end], p, q, l);
+    write_node(&mut s[at..end], node, base);
 }
 
 // Puts the row of an entry: its parent's, with the version besides.
-fn put_entry_row(s: &mut [u8], n: usize, p: usize)
-    requires { ⌜ (p < n) × (n < 1024) × (blockAt (suc n) ≤ length (now s)) ⌝ }
-    ensures { λ _. ⌜ now (s .exit) ≡ withPart (now (s .entry)) (rowAt n) (withMember (rowPart (now (s .entry)) p) n) ⌝ }
+fn put_entry_row(s: &mut [u8], n: Version, p: Version)
+    requires { ⌜ (p .0 < n .0) × (n .0 < 1024) × (blockAt (suc (n .0)) ≤ length (now s)) ⌝ }
+    ensures { λ _. ⌜ now (s .exit) ≡ withPart (now (s .entry)) (rowAt (n .0)) (withMember (rowPart (now (s .entry)) (p .0)) (n .0)) ⌝ }
 {
-    put_extended(s, row_at(p), row_at(n), n);
+    put_extended(s, row_at(p), row_at(n), n.0);
 }
 
 // Puts the board of an entry: its parent's, with the entry made on it.
 fn put_entry_board(s: &mut [u8], n: Version, p: Version, code: usize, strip: Strip, operand: usize)
     requires { ⌜ (p .0 < n .0) × (n .0 < 1024) × (blockAt (suc (n .0)) ≤ length (now s)) ⌝ }
-    requires { ⌜ (strip .0 < stripCount) × (code ≡ 0x04 → operand < 16) × (code ≡ 0x05 → operand < 16) ⌝ }
+    requires { ⌜ (strip .0 < stripCount) ⌝ }
     ensures { λ _. ⌜ now (s .exit) ≡ withPart (now (s .entry)) (boardAt (n .0)) (enter code (strip .0) operand (boardPart (now (s .entry)) (p .0))) ⌝ }
 {
-    let at = board_at(n.0);
+    let at = board_at(n);
     let end = at + BOARD;
-    copy_within(s, board_at(p.0), at, BOARD);
+    copy_within(s, board_at(p), at, BOARD);
     enter_board(&mut s[at..end], code, strip, operand);
 }
 
 // Puts version n among the entries.
-fn list_entry(s: &mut [u8], n: usize)
-    requires { ⌜ (n < 1024) × (headerSize ≤ length (now s)) ⌝ }
-    ensures { λ _. ⌜ now (s .exit) ≡ withPart (now (s .entry)) entriesAt (withMember (entriesPart (now (s .entry))) n) ⌝ }
+fn list_entry(s: &mut [u8], n: Version)
+    requires { ⌜ (n .0 < 1024) × (headerSize ≤ length (now s)) ⌝ }
+    ensures { λ _. ⌜ now (s .exit) ≡ withPart (now (s .entry)) entriesAt (withMember (entriesPart (now (s .entry))) (n .0)) ⌝ }
 {
     let at = ENTRIES;
     let end = at + ROW;
-    add_member(&mut s[at..end], n);
+    add_member(&mut s[at..end], n.0);
 }
 
 // Writes version n, an entry on version p.
-pub fn append_entry(s: &mut [u8], n: Version, p: Version, code: usize, strip: Strip, operand: usize)
+fn append_entry(s: &mut [u8], n: Version, p: Version, code: usize, strip: Strip, operand: usize)
     requires { ⌜ (p .0 < n .0) × (n .0 < 1024) × (blockAt (suc (n .0)) ≤ length (now s)) ⌝ }
-    requires { ⌜ (strip .0 < stripCount) × (code ≡ 0x04 → operand < 16) × (code ≡ 0x05 → operand < 16) ⌝ }
+    requires { ⌜ (strip .0 < stripCount) ⌝ }
     ensures { λ _. ⌜ now (s .exit) ≡ withEntry (now (s .entry)) (n .0) (p .0) code (strip .0) operand ⌝ }
 {
-    put_entry_node(s, n, p, code, strip, operand);
-    put_entry_row(s, n.0, p.0);
+    let node = Node::Entry {
+        parent: p,
+        code,
+        strip,
+        operand,
+    };
+    put_node(s, n, node, n);
+    put_entry_row(s, n, p);
     put_entry_board(s, n, p, code, strip, operand);
-    list_entry(s, n.0);
+    list_entry(s, n);
 }
 
 // Puts the row of a merge: its parents', with the version besides.
-fn put_merge_row(s: &mut [u8], n: usize, p: usize, q: usize)
-    requires { ⌜ (p < n) × (q < n) × (n < 1024) × (blockAt (suc n) ≤ length (now s)) ⌝ }
-    ensures { λ _. ⌜ now (s .exit) ≡ withPart (now (s .entry)) (rowAt n) (withMember (union (rowPart (now (s .entry)) p) (rowPart (now (s .entry)) q)) n) ⌝ }
+fn put_merge_row(s: &mut [u8], n: Version, p: Version, q: Version)
+    requires { ⌜ (p .0 < n .0) × (q .0 < n .0) × (n .0 < 1024) × (blockAt (suc (n .0)) ≤ length (now s)) ⌝ }
+    ensures { λ _. ⌜ now (s .exit) ≡ withPart (now (s .entry)) (rowAt (n .0)) (withMember (union (rowPart (now (s .entry)) (p .0)) (rowPart (now (s .entry)) (q .0))) (n .0)) ⌝ }
 {
-    put_extended_union(s, row_at(p), row_at(q), row_at(n), n);
+    put_extended_union(s, row_at(p), row_at(q), row_at(n), n.0);
 }
 
 // Puts the board of a merge of q into p over the base l. Two parts of one slice cannot be lent at once, so the three boards are copied first.
-fn put_merge_board(s: &mut [u8], n: usize, p: usize, q: usize, l: usize)
-    requires { ⌜ (p < n) × (q < n) × (l < n) × (n < 1024) × (blockAt (suc n) ≤ length (now s)) ⌝ }
-    ensures { λ _. ⌜ now (s .exit) ≡ withPart (now (s .entry)) (boardAt n) (mergeBoard (boardPart (now (s .entry)) l) (boardPart (now (s .entry)) p) (boardPart (now (s .entry)) q)) ⌝ }
+fn put_merge_board(s: &mut [u8], n: Version, p: Version, q: Version, l: Version)
+    requires { ⌜ (p .0 < n .0) × (q .0 < n .0) × (l .0 < n .0) × (n .0 < 1024) × (blockAt (suc (n .0)) ≤ length (now s)) ⌝ }
+    ensures { λ _. ⌜ now (s .exit) ≡ withPart (now (s .entry)) (boardAt (n .0)) (mergeBoard (boardPart (now (s .entry)) (l .0)) (boardPart (now (s .entry)) (p .0)) (boardPart (now (s .entry)) (q .0))) ⌝ }
 {
     let mut base = [0u8; BOARD];
     copy(&mut base, board_part(s, l));
@@ -154,11 +169,32 @@ fn put_merge_board(s: &mut [u8], n: usize, p: usize, q: usize, l: usize)
 }
 
 // Writes version n, a merge of version q into version p with the base l.
-pub fn append_merge(s: &mut [u8], n: Version, p: Version, q: Version, l: Version)
+fn append_merge(s: &mut [u8], n: Version, p: Version, q: Version, l: Version)
     requires { ⌜ (p .0 < n .0) × (q .0 < n .0) × (l .0 < n .0) × (n .0 < 1024) × (blockAt (suc (n .0)) ≤ length (now s)) ⌝ }
     ensures { λ _. ⌜ now (s .exit) ≡ withMerge (now (s .entry)) (n .0) (p .0) (q .0) (l .0) ⌝ }
 {
-    put_merge_node(s, n.0, p.0, q.0, l.0);
-    put_merge_row(s, n.0, p.0, q.0);
-    put_merge_board(s, n.0, p.0, q.0, l.0);
+    let node = Node::Merge {
+        receiver: p,
+        giver: q,
+    };
+    put_node(s, n, node, l);
+    put_merge_row(s, n, p, q);
+    put_merge_board(s, n, p, q, l);
+}
+
+// Writes version n, whatever made it; of a merge, with its base.
+pub fn append_version(s: &mut [u8], n: Version, node: Node, base: Version)
+    requires { ⌜ (n .0 < 1024) × (blockAt (suc (n .0)) ≤ length (now s)) ⌝ }
+    requires { ⌜ (nodeInRange (n .0) node ≡ true) × (base .0 < n .0) ⌝ }
+    ensures { λ _. ⌜ now (s .exit) ≡ appended (now (s .entry)) (n .0) node (base .0) ⌝ }
+{
+    match node {
+        Node::Entry {
+            parent,
+            code,
+            strip,
+            operand,
+        } => append_entry(s, n, parent, code, strip, operand),
+        Node::Merge { receiver, giver } => append_merge(s, n, receiver, giver, base),
+    }
 }

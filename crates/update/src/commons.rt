@@ -1,7 +1,8 @@
 // The table of common versions changed in place when a console moves.
 use buffer::put_word;
+use command::numbers::CONSOLES;
 use graph::Console;
-use store::places::CONSOLES;
+use store::places::Field;
 use store::places::common_at;
 use store::places::common_in;
 ghost use mathlib.Core.Path.{_≡_};
@@ -17,36 +18,35 @@ ghost use Rattle.store.specs.Layout.{headerSize, commonAt, encode, roomIn, hold
 ghost use Rattle.update.specs.Commons.{putCommon, joinedCommon, joinedCommons};
 
 // The higher of two fields.
-fn higher(x: usize, y: usize) -> usize
-    ensures { λ r. ⌜ r ≡ max x y ⌝ }
+fn higher(x: Field, y: Field) -> Field
+    ensures { λ r. ⌜ r .0 ≡ max (x .0) (y .0) ⌝ }
 {
-    if x < y {
+    if x.0 < y.0 {
         return y;
     }
     x
 }
 
 // Writes the field of two consoles at both of its places.
-pub fn put_common(s: &mut [u8], c: Console, k: Console, field: usize)
+pub fn put_common(s: &mut [u8], c: Console, k: Console, field: Field)
     requires { ⌜ headerSize ≤ length (now s) ⌝ }
     requires { ⌜ (c .0 < consoleCount) × (k .0 < consoleCount) ⌝ }
-    ensures { λ _. ⌜ now (s .exit) ≡ putCommon (now (s .entry)) (c .0) (k .0) field ⌝ }
+    ensures { λ _. ⌜ now (s .exit) ≡ putCommon (now (s .entry)) (c .0) (k .0) (field .0) ⌝ }
 {
-    put_word(s, common_at(c.0, k.0), field);
-    put_word(s, common_at(k.0, c.0), field);
+    put_word(s, common_at(c, k), field.0);
+    put_word(s, common_at(k, c), field.0);
 }
 
 // Gives console c what d has in common with k, where that is later than what c has.
-fn join_common(s: &mut [u8], c: usize, d: usize, k: usize)
+fn join_common(s: &mut [u8], c: Console, d: Console, k: Console)
     requires { ⌜ headerSize ≤ length (now s) ⌝ }
-    requires { ⌜ (c < consoleCount) × (d < consoleCount) × (k < consoleCount) ⌝ }
-    ensures { λ _. ⌜ now (s .exit) ≡ joinedCommon (now (s .entry)) c d k ⌝ }
+    requires { ⌜ (c .0 < consoleCount) × (d .0 < consoleCount) × (k .0 < consoleCount) ⌝ }
+    ensures { λ _. ⌜ now (s .exit) ≡ joinedCommon (now (s .entry)) (c .0) (d .0) (k .0) ⌝ }
 {
-    if k == c {
+    if k.0 == c.0 {
         return;
     }
-    let field = higher(common_in(s, c, k), common_in(s, d, k));
-    put_common(s, Console(c), Console(k), field);
+    put_common(s, c, k, higher(common_in(s, c, k), common_in(s, d, k)));
 }
 
 // Gives console c, at each other console, the later of its own common version and that of d.
@@ -55,21 +55,18 @@ pub fn join_commons(s: &mut [u8], c: Console, d: Console)
     requires { ⌜ (c .0 < consoleCount) × (d .0 < consoleCount) ⌝ }
     ensures { λ _. ⌜ now (s .exit) ≡ joinedCommons (now (s .entry)) (c .0) (d .0) consoleCount ⌝ }
 {
-    let receiver = c.0;
-    let giver = d.0;
     for k in 0..CONSOLES {
-        join_common(s, receiver, giver, k);
+        join_common(s, c, d, Console(k));
     }
 }
 
-// Writes the field of a console with itself, which is 1 more than its head.
-pub fn put_head(s: &mut [u8], c: Console, field: usize)
+// Writes the field of a console with itself, which stands for its head.
+pub fn put_head(s: &mut [u8], c: Console, field: Field)
     requires { ⌜ headerSize ≤ length (now s) ⌝ }
     requires { ⌜ c .0 < consoleCount ⌝ }
-    ensures { λ _. ⌜ now (s .exit) ≡ putWord (now (s .entry)) (commonAt (c .0) (c .0)) field ⌝ }
+    ensures { λ _. ⌜ now (s .exit) ≡ putWord (now (s .entry)) (commonAt (c .0) (c .0)) (field .0) ⌝ }
 {
-    let at = c.0;
-    put_word(s, common_at(at, at), field);
+    put_word(s, common_at(c, c), field.0);
 }
 
 // Gives console c the head of console d: a fork or a fast-forward.
@@ -80,7 +77,7 @@ pub fn move_console(s: &mut [u8], c: Console, d: Console)
     requires { ⌜ (present (roomIn (now s)) (c .0) ≡ true → ancestor (roomIn (now s) .versions) (head (roomIn (now s)) (c .0)) (head (roomIn (now s)) (d .0)) ≡ true) ⌝ }
     ensures { λ _. ⌜ now (s .exit) ≡ overwrite (encode (moved (roomIn (now (s .entry))) (c .0) (headOf (roomIn (now (s .entry))) (d .0)))) (now (s .entry)) ⌝ }
 {
-    let field = common_in(s, d.0, d.0);
+    let field = common_in(s, d, d);
     join_commons(s, c, d);
     put_head(s, c, field);
 }

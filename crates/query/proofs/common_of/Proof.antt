@@ -9,9 +9,6 @@ use Rattle.query.proofs.common_of.Tie as tie
 common-in-requires : tie.Need-common-in-requires
 common-in-requires c κs = (whole-header (c .before .args .s .now) (c .before .pre .0), c .before .pre .1 .0)
 
-version-of-requires : tie.Need-version-of-requires
-version-of-requires c κs = search needs
-
 returns : tie.Need-returns
 returns c =
     let a = c .before .before .before .args in
@@ -19,4 +16,5 @@ returns c =
     rw (c .version-of .ensures, c .before .common-in .ensures .0) (common-answer (a .s .now) (p .0) (a .c .0) (a .d .0) (p .1 .0 .0) (p .1 .0 .1) (p .1 .1 .0) (p .1 .1 .1))
 
 pub common-of-spec : {M : Type 1} → statement M
-common-of-spec = tie.close (tie.spec common-in-requires version-of-requires returns)
+common-of-spec =
+    tie.close (tie.spec common-in-requires (λ c κs. search needs) returns)

@@ -10,13 +10,11 @@ use Rattle.query.proofs.head_of.Tie as tie
 common-in-requires : tie.Need-common-in-requires
 common-in-requires c κs = (whole-header (c .before .args .s .now) (c .before .pre .0), omega arith)
 
-version-of-requires : tie.Need-version-of-requires
-version-of-requires c κs = search needs
-
 returns : tie.Need-returns
 returns c =
     let a = c .before .before .before .args in
     rw (c .version-of .ensures, c .before .common-in .ensures .0) (head-answer (a .s .now) (c .before .before .before .pre .0) (a .c .0) (c .before .before .before .pre .1))
 
 pub head-of-spec : {M : Type 1} → statement M
-head-of-spec = tie.close (tie.spec common-in-requires version-of-requires returns)
+head-of-spec =
+    tie.close (tie.spec common-in-requires (λ c κs. search needs) returns)

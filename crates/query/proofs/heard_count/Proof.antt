@@ -7,9 +7,6 @@ use Rattle.query.proofs.Heard.{heard-answer}
 use Rattle.query.proofs.heard_count.Statement.{statement}
 use Rattle.query.proofs.heard_count.Tie as tie
 
-head-of-requires : tie.Need-head-of-requires
-head-of-requires c κs = search needs
-
 entries-part-requires : tie.Need-entries-part-requires
 entries-part-requires c κs = whole-header (c .before .before .args .s .now) (c .before .before .pre .0)
 
@@ -17,9 +14,6 @@ row-part-requires : tie.Need-row-part-requires
 row-part-requires c κs =
     let start = c .before .before .before in
     whole-block (start .args .s .now) (start .pre .0) (c .before .head-of .result .0) (c .before .head-of .ensures .1)
-
-common-members-requires : tie.Need-common-members-requires
-common-members-requires c κs = search needs
 
 returns : tie.Need-returns
 returns c =
@@ -34,4 +28,4 @@ returns c =
 pub heard-count-spec : {M : Type 1} → statement M
 heard-count-spec =
     tie.close
-    (tie.spec head-of-requires entries-part-requires row-part-requires common-members-requires returns)
+    (tie.spec (λ c κs. search needs) entries-part-requires row-part-requires (λ c κs. search needs) returns)

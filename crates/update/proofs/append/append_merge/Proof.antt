@@ -6,18 +6,6 @@ use Rattle.update.proofs.Appended.{merge-appended}
 use Rattle.update.proofs.append.append_merge.Statement.{statement}
 use Rattle.update.proofs.append.append_merge.Tie as tie
 
-put-merge-node-requires : tie.Need-put-merge-node-requires
-put-merge-node-requires c κs = omega arith
-
-put-merge-row-requires : tie.Need-put-merge-row-requires
-put-merge-row-requires c κs = omega arith
-
-put-merge-board-requires : tie.Need-put-merge-board-requires
-put-merge-board-requires c κs = omega arith
-
-same-length : tie.Need-same-length
-same-length c = omega arith
-
 returns : tie.Need-returns
 returns c =
     let board = c .before .before in
@@ -26,14 +14,9 @@ returns c =
     let start = node .before .before .before in
     let a = start .args in
     merge-appended (now (a .s)) (a .n .0) (omega arith) (a .p .0) (a .q .0) (a .l .0) (omega arith) (omega arith) (omega arith) _ _ _
-    (node .put-merge-node .ensures) (row .put-merge-row .ensures) (board .put-merge-board .ensures)
+    (node .put-node .ensures) (row .put-merge-row .ensures) (board .put-merge-board .ensures)
 
 pub append-merge-spec : {M : Type 1} → statement M
 append-merge-spec =
     tie.close
-    (tie.spec
-    put-merge-node-requires
-    put-merge-row-requires
-    put-merge-board-requires
-    same-length
-    returns)
+    (tie.spec (λ c κs. omega arith) (λ c κs. omega arith) (λ c κs. omega arith) (λ c. omega arith) returns)

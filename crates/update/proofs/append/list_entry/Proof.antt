@@ -12,39 +12,14 @@ use Rattle.update.proofs.Appended.{member-keeps}
 use Rattle.update.proofs.append.list_entry.Statement.{statement}
 use Rattle.update.proofs.append.list_entry.Tie as tie
 
-add-end : tie.Need-add-end
-add-end c = omega arith
-
-sub-add-member : tie.Need-sub-add-member
-sub-add-member c = omega arith
-
-part-add-member-start : tie.Need-part-add-member-start
-part-add-member-start c = omega arith
-
-part-add-member-end : tie.Need-part-add-member-end
-part-add-member-end c = omega arith
-
-add-member-requires : tie.Need-add-member-requires
-add-member-requires c κs = omega arith
-
-same-length : tie.Need-same-length
-same-length c = omega arith
-
 returns : tie.Need-returns
 returns c =
     let start = c .before .before .before .before .before in
     let s = now (start .args .s) in
-    put-lent s _ (withMember (entriesPart s) (start .args .n)) entriesAt entriesAt rowSize refl (c .before .before .add-member .ensures)
-    (member-keeps rowSize (start .args .n) (entriesPart s) (part-length s entriesAt rowSize (omega arith)))
+    put-lent s _ (withMember (entriesPart s) (start .args .n .0)) entriesAt entriesAt rowSize refl (c .before .before .add-member .ensures)
+    (member-keeps rowSize (start .args .n .0) (entriesPart s) (part-length s entriesAt rowSize (omega arith)))
 
 pub list-entry-spec : {M : Type 1} → statement M
 list-entry-spec =
     tie.close
-    (tie.spec
-    add-end
-    sub-add-member
-    part-add-member-start
-    part-add-member-end
-    add-member-requires
-    same-length
-    returns)
+    (tie.spec (λ c. omega arith) (λ c. omega arith) (λ c. omega arith) (λ c. omega arith) (λ c κs. omega arith) (λ c. omega arith) returns)

@@ -6,24 +6,6 @@ use Rattle.update.proofs.Appended.{entry-node-made}
 use Rattle.update.proofs.append.write_entry.Statement.{statement}
 use Rattle.update.proofs.append.write_entry.Tie as tie
 
-clear-requires : tie.Need-clear-requires
-clear-requires c κs = omega arith
-
-put-byte-requires : tie.Need-put-byte-requires
-put-byte-requires c κs = omega arith
-
-put-byte-requires-2 : tie.Need-put-byte-requires-2
-put-byte-requires-2 c κs = omega arith
-
-put-word-requires : tie.Need-put-word-requires
-put-word-requires c κs = omega arith
-
-put-word-requires-2 : tie.Need-put-word-requires-2
-put-word-requires-2 c κs = omega arith
-
-same-length : tie.Need-same-length
-same-length c = omega arith
-
 returns : tie.Need-returns
 returns c =
     let fourth = c .before .before in
@@ -39,11 +21,5 @@ returns c =
 pub write-entry-spec : {M : Type 1} → statement M
 write-entry-spec =
     tie.close
-    (tie.spec
-    clear-requires
-    put-byte-requires
-    put-byte-requires-2
-    put-word-requires
-    put-word-requires-2
-    same-length
-    returns)
+    (tie.spec (λ c κs. omega arith) (λ c κs. omega arith) (λ c κs. omega arith) (λ c κs. omega arith) (λ c κs. omega arith)
+    (λ c. omega arith) returns)

@@ -7,38 +7,16 @@ use Rattle.update.proofs.commons.join_common.Statement.{statement}
 use Rattle.update.proofs.commons.join_common.Tie as tie
 
 returns : tie.Need-returns
-returns c = let a = c .before .before .args in sym (same-console (a .s .now) (a .c) (a .d) (a .k) (omega arith))
-
-common-in-requires : tie.Need-common-in-requires
-common-in-requires c κs = omega arith
-
-common-in-requires-2 : tie.Need-common-in-requires-2
-common-in-requires-2 c κs = omega arith
-
-higher-requires : tie.Need-higher-requires
-higher-requires c κs = omega arith
-
-put-common-requires : tie.Need-put-common-requires
-put-common-requires c κs = omega arith
-
-same-length : tie.Need-same-length
-same-length c = omega arith
+returns c = let a = c .before .before .before .before .args in sym (same-console (a .s .now) (a .c .0) (a .d .0) (a .k .0) (omega arith))
 
 returns-2 : tie.Need-returns-2
 returns-2 c =
-    let w = c .before .before .before .before in
-    let a = w .before .before .before .before .before .before .before .args in
+    let w = c .before .before .before in
+    let a = w .before .before .before .before .before .before .before .before .before .before .args in
     rw (c .before .before .put-common .ensures, w .higher .ensures, w .before .common-in2 .ensures .0, w .before .before .before .common-in .ensures .0)
-    (sym (other-console (a .s .now) (a .c) (a .d) (a .k) (omega arith)))
+    (sym (other-console (a .s .now) (a .c .0) (a .d .0) (a .k .0) (omega arith)))
 
 pub join-common-spec : {M : Type 1} → statement M
 join-common-spec =
     tie.close
-    (tie.spec
-    returns
-    common-in-requires
-    common-in-requires-2
-    higher-requires
-    put-common-requires
-    same-length
-    returns-2)
+    (tie.spec returns (λ c κs. omega arith) (λ c κs. omega arith) (λ c κs. omega arith) (λ c κs. omega arith) (λ c. omega arith) returns-2)

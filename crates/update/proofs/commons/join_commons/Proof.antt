@@ -11,22 +11,13 @@ use Rattle.update.proofs.commons.join_commons.Statement.{statement}
 use Rattle.update.proofs.commons.join_commons.Tie as tie
 
 abbrev Inv-loop : tie.InvT-loop
-Inv-loop s₀ receiver giver k₀ s k = (k ≤ consoleCount) × (length s ≡ length s₀) × (s ≡ joinedCommons s₀ receiver giver k)
+Inv-loop s₀ c d k₀ s k = (k ≤ consoleCount) × (length s ≡ length s₀) × (s ≡ joinedCommons s₀ (c .0) (d .0) k)
 
 abbrev μ-loop : tie.MeasureT-loop
-μ-loop s₀ receiver giver k₀ s k = consoleCount - k
+μ-loop s₀ c d k₀ s k = consoleCount - k
 
 loop-holds : tie.Need-loop-holds Inv-loop μ-loop
 loop-holds c = let a = c .before .args in (omega arith, refl, sym (joined-none (a .s .now) (a .c .0) (a .d .0)))
-
-join-common-requires : tie.Need-join-common-requires Inv-loop μ-loop
-join-common-requires c κs = omega arith
-
-add-k : tie.Need-add-k Inv-loop μ-loop
-add-k c = omega arith
-
-loop-less : tie.Need-loop-less Inv-loop μ-loop
-loop-less c = omega arith
 
 loop-again : tie.Need-loop-again Inv-loop μ-loop
 loop-again c =
@@ -35,9 +26,6 @@ loop-again c =
     let e : c .before .before .join-common .last .0 ≡ joinedCommons (a .s .now) (a .c .0) (a .d .0) (w .loop .k + 1) =
     joined-again (a .s .now) (a .c .0) (a .d .0) (w .loop .k) (w .loop .s) _ (w .loop .inv .2) (c .before .before .join-common .ensures) in
     (omega arith, ap length e ∙ joined-length (a .s .now) (a .c .0) (a .d .0) (w .loop .k + 1), e)
-
-same-length : tie.Need-same-length Inv-loop μ-loop
-same-length c = omega arith
 
 returns : tie.Need-returns Inv-loop μ-loop
 returns c =
@@ -49,13 +37,4 @@ returns c =
 pub join-commons-spec : {M : Type 1} → statement M
 join-commons-spec =
     tie.close
-    (tie.spec
-    Inv-loop
-    μ-loop
-    loop-holds
-    join-common-requires
-    add-k
-    loop-less
-    loop-again
-    same-length
-    returns)
+    (tie.spec Inv-loop μ-loop loop-holds (λ c κs. omega arith) (λ c. omega arith) (λ c. omega arith) loop-again (λ c. omega arith) returns)

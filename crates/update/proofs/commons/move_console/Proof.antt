@@ -21,9 +21,6 @@ put-head-requires c κs =
     let start = c .before .before .before .before .before .before .before .before in
     omega (arith, whole-header (start .args .s .now) (start .pre .0))
 
-same-length : tie.Need-same-length
-same-length c = omega arith
-
 returns : tie.Need-returns
 returns c =
     let joined = c .before .before .before .before .before .before in
@@ -37,4 +34,4 @@ returns c =
 pub move-console-spec : {M : Type 1} → statement M
 move-console-spec =
     tie.close
-    (tie.spec common-in-requires join-commons-requires put-head-requires same-length returns)
+    (tie.spec common-in-requires join-commons-requires put-head-requires (λ c. omega arith) returns)

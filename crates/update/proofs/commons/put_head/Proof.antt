@@ -4,17 +4,9 @@ use native.Mathlib.Omega.{arith}
 use Rattle.update.proofs.commons.put_head.Statement.{statement}
 use Rattle.update.proofs.commons.put_head.Tie as tie
 
-common-at-requires : tie.Need-common-at-requires
-common-at-requires c κs = omega arith
-
-put-word-requires : tie.Need-put-word-requires
-put-word-requires c κs = omega arith
-
-same-length : tie.Need-same-length
-same-length c = omega arith
-
 returns : tie.Need-returns
 returns c = rw (c .before .before .put-word .ensures, c .before .before .before .common-at .ensures)
 
 pub put-head-spec : {M : Type 1} → statement M
-put-head-spec = tie.close (tie.spec common-at-requires put-word-requires same-length returns)
+put-head-spec =
+    tie.close (tie.spec (λ c κs. omega arith) (λ c κs. omega arith) (λ c. omega arith) returns)

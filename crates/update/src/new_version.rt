@@ -1,16 +1,17 @@
 // The commands that make a version: an entry on a console's head, and a merge of one console into another.
-use crate::append::append_entry;
-use crate::append::append_merge;
+use crate::append::append_version;
 use crate::commons::join_commons;
 use crate::commons::put_head;
 use buffer::put_word;
 use graph::Console;
+use graph::Node;
 use graph::Strip;
 use graph::Version;
 use query::common_of;
 use query::head_of;
 use query::version_count;
 use store::places::COUNT;
+use store::places::field_of;
 ghost use mathlib.Core.Path.{_≡_};
 ghost use mathlib.Core.Bool.{true, false};
 ghost use Prim.Native.Nat.{_<_};
@@ -31,12 +32,16 @@ pub fn enter(s: &mut [u8], c: Console, code: usize, strip: Strip, operand: usize
     requires { ⌜ versionCount (roomIn (now s) .versions) < roomIn (now s) .settings .capacity ⌝ }
     ensures { λ _. ⌜ now (s .exit) ≡ overwrite (encode (grown (roomIn (now (s .entry))) (c .0) (entry (head (roomIn (now (s .entry))) (c .0)) code (strip .0) operand))) (now (s .entry)) ⌝ }
 {
-    let n = version_count(s);
-    let p = head_of(s, c);
-    append_entry(s, Version(n), p, code, strip, operand);
-    let count = n + 1;
-    put_word(s, COUNT, count);
-    put_head(s, c, count);
+    let n = Version(version_count(s));
+    let node = Node::Entry {
+        parent: head_of(s, c),
+        code,
+        strip,
+        operand,
+    };
+    append_version(s, n, node, Version(0));
+    put_word(s, COUNT, n.0 + 1);
+    put_head(s, c, field_of(n));
 }
 
 // Merges console d into console c.
@@ -49,13 +54,13 @@ pub fn merge(s: &mut [u8], c: Console, d: Console)
     requires { ⌜ versionCount (roomIn (now s) .versions) < roomIn (now s) .settings .capacity ⌝ }
     ensures { λ _. ⌜ now (s .exit) ≡ overwrite (encode (grown (roomIn (now (s .entry))) (c .0) (merge (head (roomIn (now (s .entry))) (c .0)) (head (roomIn (now (s .entry))) (d .0))))) (now (s .entry)) ⌝ }
 {
-    let n = version_count(s);
-    let p = head_of(s, c);
-    let q = head_of(s, d);
-    let l = common_of(s, c, d);
-    append_merge(s, Version(n), p, q, l);
-    let count = n + 1;
-    put_word(s, COUNT, count);
+    let n = Version(version_count(s));
+    let node = Node::Merge {
+        receiver: head_of(s, c),
+        giver: head_of(s, d),
+    };
+    append_version(s, n, node, common_of(s, c, d));
+    put_word(s, COUNT, n.0 + 1);
     join_commons(s, c, d);
-    put_head(s, c, count);
+    put_head(s, c, field_of(n));
 }
