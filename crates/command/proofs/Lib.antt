@@ -1,6 +1,7 @@
 pub mod Limits
-pub mod Ranges
 pub mod Carried
+pub mod CodeKinds
 pub mod Shapes
 pub mod Decodes
+pub mod Ranges
 pub mod Encoded

@@ -1,16 +1,15 @@
--- How large an entry's code, strip and operand can be, and which codes name two consoles.
+-- Ranges of numbers, what holds of each number of a range, and how large an entry's code, strip and operand can be.
 -- Assumes nothing.
-use Prim.Native.Nat.{ℕ, _≤_, _<_}
-use mathlib.Core.Path.{_≡_}
+use Prim.Native.Nat.{ℕ, zero, suc, _+_, _≤_, _<_}
+use mathlib.Core.Path.{_≡_, refl, subst}
 use mathlib.Core.Bool.{Bool, true, false, cond, _&&_}
 use native.Mathlib.Omega.{arith}
-use native.Mathlib.Decide.{decLe}
+use native.Mathlib.Decide.{ℕ-discrete}
 use lib.Dec.{eqb, leb, ltb}
-use borrow.Author.Tests.{eqb-true, leb-true, ltb-true, eq-eqb, ne-eqb, le-leb}
-use Rattle.laws.proofs.Logic.{clash, and-l, and-r, and-i, or-l, or-r, or-none, refuted}
+use borrow.Author.Tests.{eqb-true, leb-true, ltb-true, le-leb}
+use Rattle.laws.proofs.Logic.{and-l, and-r, and-i, refuted}
 use Rattle.board.specs.Board.{stripCount}
-use Rattle.command.specs.Code.{markCount, within, isEntryCode, namesTwo, isStrip, isOperand}
-use Rattle.command.specs.Decode.{isCommandCode}
+use Rattle.command.specs.Code.{markCount, within, isEntryCode, isStrip, isOperand}
 
 pub within-true : (low high x : ℕ) → within low high x ≡ true → (low ≤ x) × (x ≤ high)
 within-true low high x h = (leb-true low x (and-l _ _ h), leb-true x high (and-r (leb low x) _ h))
@@ -21,23 +20,29 @@ within-i low high x p q = and-i _ _ (le-leb low x p) (le-leb x high q)
 pub within-false : (low high x : ℕ) → (low ≤ x → x ≤ high → ⊥) → within low high x ≡ false
 within-false low high x h = refuted _ (λ t. h (within-true low high x t .0) (within-true low high x t .1))
 
--- a command makes an entry or names two consoles
-pub entry-or-two : (code : ℕ) → isCommandCode code ≡ true → isEntryCode code ≡ false → namesTwo code ≡ true
-entry-or-two code h e =
-    let range = within-true 1 10 code h in
-    elim (decLe code 1) [
-      | yes p ↦ or-l _ _ (eq-eqb code 1 (omega arith))
-      | no p ↦
-          elim (decLe code 8) [
-            | yes q ↦ clash (within-i 2 8 code (omega arith) q) e
-            | no q ↦ or-r (eqb code 1) _ (within-i 9 10 code (omega arith) (range .1))
-          ]
+-- a choice has what each of its two sides has
+pub either {ℓ} : {A : Type ℓ} (P : A → Type 0) (b : Bool) {x y : A} → (b ≡ true → P x) → P y → P (cond b x y)
+either P true h k = h refl
+either P false h k = k
+
+-- what holds of each of n numbers from low on
+abbrev pub Each : (ℕ → Type 0) → ℕ → ℕ → Type 0
+Each P low zero = Unit {0}
+Each P low (suc n) = P low × Each P (suc low) n
+
+pub each : (P : ℕ → Type 0) (low n x : ℕ) → Each P low n → low ≤ x → x < low + n → P x
+each P low zero x h p q = absurd (omega arith)
+each P low (suc n) x h p q =
+    elim (ℕ-discrete low x) [
+      | yes e ↦ subst P e (h .0)
+      | no ne ↦ each P (suc low) n x (h .1) (omega arith) (omega arith)
     ]
 
-pub entry-not-two : (code : ℕ) → isEntryCode code ≡ true → namesTwo code ≡ false
-entry-not-two code e =
+-- what holds of the codes 02 to 08 holds of every code that makes an entry
+pub each-entry : (P : ℕ → Type 0) → P 2 → P 3 → P 4 → P 5 → P 6 → P 7 → P 8 → (code : ℕ) → isEntryCode code ≡ true → P code
+each-entry P h₂ h₃ h₄ h₅ h₆ h₇ h₈ code e =
     let range = within-true 2 8 code e in
-    or-none _ _ (ne-eqb code 1 (omega arith)) (within-false 9 10 code (λ p q. omega arith))
+    each P 2 7 code (h₂, (h₃, (h₄, (h₅, (h₆, (h₇, (h₈, tt))))))) (range .0) (omega arith)
 
 -- whichever range an operand must be in, it is at most 600
 pub operand-below : (code x : ℕ) → isOperand code x ≡ true → x ≤ 600

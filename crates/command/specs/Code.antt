@@ -1,12 +1,14 @@
 -- "One code byte, then operands; the code alone decides the length." Codes of commands and of tape records, the widths of what follows
 -- each, and which numbers may stand there.
 use Prim.Native.Nat.{ℕ, _+_}
-use mathlib.Core.Bool.{Bool, cond, _&&_, _||_}
+use mathlib.Core.Bool.{Bool, cond, _&&_}
 use mathlib.Core.List.{List}
 use lib.Dec.{eqb, leb, ltb}
 use lib.ListN.{getD}
 use Rattle.buffer.specs.Field.{wordAt}
 use Rattle.board.specs.Board.{stripCount}
+use Rattle.command.specs.declared.Kind.{Kind}
+use Rattle.command.specs.declared.Kind.the-variants as kind-is
 use Rattle.command.specs.declared.Shape.{Shape}
 use Rattle.command.specs.declared.Shape.the-variants.{Known, Unknown}
 use Rattle.command.specs.declared.Operands.{Operands}
@@ -48,6 +50,26 @@ headRecord = 0x23
 abbrev pub endRecord : ℕ
 endRecord = 0x24
 
+-- "Codes 02 to 08 make an entry version": also on tapes and in stores
+abbrev pub isEntryCode : ℕ → Bool
+isEntryCode code = within 0x02 0x08 code
+
+-- the kind of a code; which codes are commands is what has a kind here, and no range
+unfoldable pub kindOf : ℕ → Kind
+kindOf code =
+    cond (eqb code forkCommand) kind-is.Fork
+    (cond (isEntryCode code) kind-is.Entry
+    (cond (eqb code mergeCommand) kind-is.Merge
+    (cond (eqb code fastForwardCommand) kind-is.FastForward kind-is.Unknown)))
+
+-- the paper's number for a kind: 0, or "1 empty command, or code outside 01 to 0A."
+abbrev pub kindRefusal : Kind → ℕ
+kindRefusal kind-is.Fork = 0
+kindRefusal kind-is.Entry = 0
+kindRefusal kind-is.Merge = 0
+kindRefusal kind-is.FastForward = 0
+kindRefusal kind-is.Unknown = 1
+
 -- "01 fork", "02 level", .. "0A fast-forward"; the tape's records are 20 to 24
 unfoldable pub shapeOf : ℕ → Shape
 shapeOf code =
@@ -62,7 +84,12 @@ shapeOf code =
     (cond (eqb code headRecord) (Known 1 2 0 0)
     (cond (eqb code endRecord) (Known 0 0 0 0) Unknown)))))))))
 
--- how many bytes a code and what follows it take; an unknown code is refused, with 1 as a command and 7 on a tape
+-- the paper's number for a shape: 0, or for an unknown code the refusal of who asks: 1 of a command, 7 of a tape
+abbrev pub shapeRefusal : ℕ → Shape → ℕ
+shapeRefusal number (Known a b c d) = 0
+shapeRefusal number Unknown = number
+
+-- how many bytes a code and what follows it take
 unfoldable pub lengthOf : Shape → ℕ
 lengthOf (Known a b c d) = 1 + a + b + c + d
 lengthOf Unknown = 0
@@ -81,14 +108,6 @@ operandsOf (Known a b c d) s =
       fourth = numberAt s (1 + a + b + c) d;
     }
 operandsOf Unknown s = record { first = 0; second = 0; third = 0; fourth = 0 }
-
--- "Codes 02 to 08 make an entry version"
-abbrev pub isEntryCode : ℕ → Bool
-isEntryCode code = within 0x02 0x08 code
-
--- "01 fork | new console, old console", "09 merge, 0A fast-forward | receiver, giver": a command of this code names two consoles
-abbrev pub namesTwo : ℕ → Bool
-namesTwo code = eqb code forkCommand || within mergeCommand fastForwardCommand code
 
 abbrev pub isConsole : ℕ → Bool
 isConsole c = ltb c consoleCount

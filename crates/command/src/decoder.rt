@@ -1,6 +1,7 @@
 // The decoder: what follows a code, and the command that a byte string decodes to.
 use crate::Command;
 use crate::Decoded;
+use crate::Kind;
 use crate::Operands;
 use crate::Shape;
 use crate::codes::END_RECORD;
@@ -11,53 +12,72 @@ use crate::codes::HEAD_RECORD;
 use crate::codes::MERGE_COMMAND;
 use crate::codes::MERGE_RECORD;
 use crate::codes::START_RECORD;
-use crate::numbers::is_command_code;
 use crate::numbers::is_console;
-use crate::numbers::is_entry_code;
 use crate::numbers::is_operand;
 use crate::numbers::is_strip;
-use crate::numbers::names_two;
 use buffer::wide;
 use buffer::word_at;
 use graph::Console;
 use graph::Strip;
+use refusal::first_of;
+use refusal::when;
 ghost use mathlib.Core.Path.{_≡_};
-ghost use mathlib.Core.Bool.{not, _&&_, _||_};
+ghost use mathlib.Core.Bool.{true};
 ghost use Prim.Native.Nat.{_+_, _≤_};
-ghost use lib.Dec.{eqb};
 ghost use lib.ListN.{length};
 ghost use Rattle.refusal.specs.Refusal.{firstRefusal};
-ghost use Rattle.command.specs.Code.{shapeOf, lengthOf, numberAt, operandsOf, isEntryCode, namesTwo, isConsole, isStrip, isOperand};
+ghost use Rattle.command.specs.Code.{kindOf, kindRefusal, shapeOf, shapeRefusal, lengthOf, numberAt, operandsOf};
 ghost use Rattle.command.specs.Decoding.{narrow};
-ghost use Rattle.command.specs.Decode.{numberTests, commandOf, decode, refusalOf, decodedBytes};
+ghost use Rattle.command.specs.Decode.{isCommandCode, twoConsoleTests, entryNumberTests, numberTests, commandOf, decode, refusalOf, decodedBytes};
 
-// A shape, by its widths in their order.
-fn widths(first: usize, second: usize, third: usize, fourth: usize) -> Shape
-    ensures { λ r. ⌜ r ≡ Shape.Known first second third fourth ⌝ }
+// The kind of the command that a code says.
+fn kind_of(code: usize) -> Kind
+    ensures { λ r. ⌜ r ≡ kindOf code ⌝ }
 {
-    Shape::Known {
-        first,
-        second,
-        third,
-        fourth,
+    match code {
+        FORK_COMMAND => Kind::Fork,
+        0x02..=0x08 => Kind::Entry,
+        MERGE_COMMAND => Kind::Merge,
+        FAST_FORWARD_COMMAND => Kind::FastForward,
+        _ => Kind::Unknown,
     }
 }
 
-// The widths of what follows a code, of commands and of tape records.
+// The refusal of a kind, or 0.
+fn kind_refusal(kind: Kind) -> u32
+    ensures { λ r. ⌜ r ≡ kindRefusal kind ⌝ }
+{
+    match kind {
+        Kind::Fork => 0,
+        Kind::Entry => 0,
+        Kind::Merge => 0,
+        Kind::FastForward => 0,
+        Kind::Unknown => 1,
+    }
+}
+
+// Whether a code is a command's.
+pub fn is_command_code(code: usize) -> bool
+    ensures { λ r. ⌜ r ≡ isCommandCode code ⌝ }
+{
+    kind_refusal(kind_of(code)) == 0
+}
+
+// The widths of what follows a code, of commands and of tape records. Every code of a command has them.
 pub fn widths_of(code: usize) -> Shape
-    ensures { λ r. ⌜ r ≡ shapeOf code ⌝ }
+    ensures { λ r. ⌜ (r ≡ shapeOf code) × (isCommandCode code ≡ true → shapeRefusal 1 r ≡ 0) ⌝ }
 {
     match code {
-        FORK_COMMAND => widths(1, 1, 0, 0),
-        0x02..=0x03 => widths(1, 1, 2, 0),
-        0x04..=0x05 => widths(1, 1, 1, 0),
-        0x06..=0x08 => widths(1, 1, 0, 0),
-        MERGE_COMMAND..=FAST_FORWARD_COMMAND => widths(1, 1, 0, 0),
-        START_RECORD => widths(2, 0, 0, 0),
-        ENTRY_RECORD => widths(2, 1, 1, 2),
-        MERGE_RECORD => widths(2, 2, 0, 0),
-        HEAD_RECORD => widths(1, 2, 0, 0),
-        END_RECORD => widths(0, 0, 0, 0),
+        FORK_COMMAND => Shape::Known(1, 1, 0, 0),
+        0x02..=0x03 => Shape::Known(1, 1, 2, 0),
+        0x04..=0x05 => Shape::Known(1, 1, 1, 0),
+        0x06..=0x08 => Shape::Known(1, 1, 0, 0),
+        MERGE_COMMAND..=FAST_FORWARD_COMMAND => Shape::Known(1, 1, 0, 0),
+        START_RECORD => Shape::Known(2, 0, 0, 0),
+        ENTRY_RECORD => Shape::Known(2, 1, 1, 2),
+        MERGE_RECORD => Shape::Known(2, 2, 0, 0),
+        HEAD_RECORD => Shape::Known(1, 2, 0, 0),
+        END_RECORD => Shape::Known(0, 0, 0, 0),
         _ => Shape::Unknown,
     }
 }
@@ -68,12 +88,7 @@ pub fn length_of(shape: Shape) -> usize
     ensures { λ r. ⌜ r ≡ lengthOf shape ⌝ }
 {
     match shape {
-        Shape::Known {
-            first,
-            second,
-            third,
-            fourth,
-        } => 1 + first + second + third + fourth,
+        Shape::Known(first, second, third, fourth) => 1 + first + second + third + fourth,
         Shape::Unknown => 0,
     }
 }
@@ -83,13 +98,11 @@ fn number_at(s: &[u8], at: usize, width: usize) -> usize
     requires { ⌜ (width ≤ 2) × (at + width ≤ length (now s)) ⌝ }
     ensures { λ r. ⌜ r ≡ numberAt (now (s .entry)) at width ⌝ }
 {
-    if width == 2 {
-        return word_at(s, at);
+    match width {
+        2 => word_at(s, at),
+        1 => wide(s[at]),
+        _ => 0,
     }
-    if width == 1 {
-        return wide(s[at]);
-    }
-    0
 }
 
 // What follows the code at the front of these bytes.
@@ -98,12 +111,7 @@ pub fn operands_of(shape: Shape, s: &[u8]) -> Operands
     ensures { λ r. ⌜ r ≡ operandsOf shape (now (s .entry)) ⌝ }
 {
     match shape {
-        Shape::Known {
-            first,
-            second,
-            third,
-            fourth,
-        } => {
+        Shape::Known(first, second, third, fourth) => {
             let second_at = 1 + first;
             let third_at = second_at + second;
             let fourth_at = third_at + third;
@@ -123,81 +131,69 @@ pub fn operands_of(shape: Shape, s: &[u8]) -> Operands
     }
 }
 
-// Whether a console that a command names is above 15.
-fn names_no_console(code: usize, o: Operands) -> bool
-    ensures { λ r. ⌜ r ≡ (not (isConsole (o .first)) || (namesTwo code && not (isConsole (o .second)))) ⌝ }
+// The lowest of the refusals 3 and 6 of a command over two consoles, or 0.
+fn two_consoles_refused(o: Operands) -> u32
+    ensures { λ r. ⌜ r ≡ firstRefusal (twoConsoleTests o) ⌝ }
 {
-    !is_console(o.first) | (names_two(code) & !is_console(o.second))
+    let console_out_of_range = when(3, !is_console(o.first) | !is_console(o.second));
+    let same_console_twice = when(6, o.first == o.second);
+    first_of(console_out_of_range, same_console_twice)
 }
 
-// Whether an entry names a strip above 31.
-fn names_no_strip(code: usize, o: Operands) -> bool
-    ensures { λ r. ⌜ r ≡ isEntryCode code && not (isStrip (o .second)) ⌝ }
+// The lowest of the refusals 3 to 5 of an entry, or 0.
+fn entry_numbers_refused(code: usize, o: Operands) -> u32
+    ensures { λ r. ⌜ r ≡ firstRefusal (entryNumberTests code o) ⌝ }
 {
-    is_entry_code(code) & !is_strip(o.second)
+    let console_out_of_range = when(3, !is_console(o.first));
+    let strip_out_of_range = when(4, !is_strip(o.second));
+    let operand_out_of_range = when(5, !is_operand(code, o.third));
+    first_of(
+        console_out_of_range,
+        first_of(strip_out_of_range, operand_out_of_range),
+    )
 }
 
-// Whether an entry carries a number out of its range.
-fn carries_too_much(code: usize, o: Operands) -> bool
-    ensures { λ r. ⌜ r ≡ isEntryCode code && not (isOperand code (o .third)) ⌝ }
+// The lowest of the refusals 3 to 6 of a command's numbers, or 0.
+fn numbers_refused(kind: Kind, code: usize, o: Operands) -> u32
+    ensures { λ r. ⌜ r ≡ firstRefusal (numberTests kind code o) ⌝ }
 {
-    is_entry_code(code) & !is_operand(code, o.third)
+    match kind {
+        Kind::Fork => two_consoles_refused(o),
+        Kind::Entry => entry_numbers_refused(code, o),
+        Kind::Merge => two_consoles_refused(o),
+        Kind::FastForward => two_consoles_refused(o),
+        Kind::Unknown => 0,
+    }
 }
 
-// Whether a command over two consoles names one twice.
-fn names_one_twice(code: usize, o: Operands) -> bool
-    ensures { λ r. ⌜ r ≡ namesTwo code && eqb (o .first) (o .second) ⌝ }
+// The command of a code and its operands, by its kind, which is known.
+fn command_from(kind: Kind, code: usize, o: Operands) -> Command
+    ensures { λ r. ⌜ r ≡ commandOf kind code o ⌝ }
 {
-    names_two(code) & (o.first == o.second)
-}
-
-// The command of a code and its operands.
-fn command_from(code: usize, o: Operands) -> Command
-    ensures { λ r. ⌜ r ≡ commandOf code o ⌝ }
-{
-    if is_entry_code(code) {
-        return Command::Entry {
+    match kind {
+        Kind::Fork => Command::Fork {
+            new: Console(o.first),
+            old: Console(o.second),
+        },
+        Kind::Entry => Command::Entry {
             console: Console(o.first),
             code,
             strip: Strip(o.second),
             operand: o.third,
-        };
-    }
-    if code == 1 {
-        return Command::Fork {
-            new: Console(o.first),
-            old: Console(o.second),
-        };
-    }
-    if code == 9 {
-        return Command::Merge {
+        },
+        Kind::Merge => Command::Merge {
             receiver: Console(o.first),
             giver: Console(o.second),
-        };
+        },
+        Kind::FastForward => Command::FastForward {
+            receiver: Console(o.first),
+            giver: Console(o.second),
+        },
+        Kind::Unknown => Command::FastForward {
+            receiver: Console(o.first),
+            giver: Console(o.second),
+        },
     }
-    Command::FastForward {
-        receiver: Console(o.first),
-        giver: Console(o.second),
-    }
-}
-
-// The lowest of the refusals 3 to 6 of a command's numbers, or 0 where none applies.
-fn numbers_refused(code: usize, o: Operands) -> u32
-    ensures { λ r. ⌜ r ≡ firstRefusal (numberTests code o) ⌝ }
-{
-    if names_no_console(code, o) {
-        return 3;
-    }
-    if names_no_strip(code, o) {
-        return 4;
-    }
-    if carries_too_much(code, o) {
-        return 5;
-    }
-    if names_one_twice(code, o) {
-        return 6;
-    }
-    0
 }
 
 // The command that a byte string decodes to, or its lowest refusal.
@@ -208,19 +204,21 @@ pub fn decode_command(s: &[u8]) -> Decoded
         return Decoded::Refused(1);
     }
     let code = wide(s[0]);
-    if !is_command_code(code) {
-        return Decoded::Refused(1);
+    let kind = kind_of(code);
+    let unknown = kind_refusal(kind);
+    if unknown != 0 {
+        return Decoded::Refused(unknown);
     }
     let shape = widths_of(code);
     if s.len() != length_of(shape) {
         return Decoded::Refused(2);
     }
     let o = operands_of(shape, s);
-    let refusal = numbers_refused(code, o);
+    let refusal = numbers_refused(kind, code, o);
     if refusal != 0 {
         return Decoded::Refused(refusal);
     }
-    Decoded::Whole(command_from(code, o))
+    Decoded::Whole(command_from(kind, code, o))
 }
 
 // The number of what was decoded: its refusal, or 0 for a whole command.

@@ -6,14 +6,18 @@ pub mod codes;
 pub mod decoder;
 pub mod numbers;
 
-// The widths in bytes of what follows a code; 0 where there is no such operand.
+// The kind of a command, by its code; Unknown is no command's.
+pub enum Kind {
+    Fork,
+    Entry,
+    Merge,
+    FastForward,
+    Unknown,
+}
+
+// The widths in bytes of what follows a code, in their order; 0 where there is no such operand.
 pub enum Shape {
-    Known {
-        first: usize,
-        second: usize,
-        third: usize,
-        fourth: usize,
-    },
+    Known(usize, usize, usize, usize),
     Unknown,
 }
 

@@ -1,8 +1,7 @@
 -- `command::decoder::decode_command` meets its contract.
 -- Assumes nothing.
-use mathlib.Core.Path.{sym, ap, _∙_}
+use mathlib.Core.Path.{ap, _∙_}
 use native.Mathlib.Omega.{arith}
-use borrow.Author.Tests.{not-true, not-false}
 use Rattle.command.specs.declared.Decoded.the-variants.{Whole}
 use Rattle.command.proofs.Shapes.{narrow-shape}
 use Rattle.command.proofs.Decodes.{refused-empty, refused-code, refused-length, refused-numbers, decoded}
@@ -16,76 +15,56 @@ returns c = decoded-bytes _ _ (λ k. c .before .shared-slice-known .given k .fit
 shared-slice-read-wide : tie.Need-shared-slice-read-wide
 shared-slice-read-wide c = omega arith
 
-wide-requires : tie.Need-wide-requires
-wide-requires c κs = tt
-
-is-command-code-requires : tie.Need-is-command-code-requires
-is-command-code-requires c κs = tt
-
 returns-2 : tie.Need-returns-2
 returns-2 c =
-    let w = c .before .before in
+    let n = c .before in
+    let w = n .before .before in
     decoded-bytes _ _ (λ k. w .before .shared-slice-known2 .given k .fits)
-    (refused-code _ _ (w .wide .ensures .0) (sym (c .before .is-command-code .ensures) ∙ not-true _ (c .if2 .taken)))
-
-widths-of-requires : tie.Need-widths-of-requires
-widths-of-requires c κs = tt
+    (refused-code _ _ (w .wide .ensures .0) _ (n .before .kind-of .ensures) _ (n .kind-refusal .ensures) (c .if2 .taken))
 
 length-of-requires : tie.Need-length-of-requires
-length-of-requires c κs = rw (c .widths-of .ensures) (narrow-shape _)
+length-of-requires c κs = rw (c .widths-of .ensures .0) (narrow-shape _)
 
 returns-3 : tie.Need-returns-3
 returns-3 c =
     let l = c .before in
     let e = l .before .before in
-    let w = e .before .before in
+    let n = e .before in
+    let w = n .before .before in
     decoded-bytes _ _ (λ k. w .before .shared-slice-known2 .given k .fits)
-    (refused-length _ _ (w .wide .ensures .0) (sym (e .before .is-command-code .ensures) ∙ not-false _ (e .if2 .left)) _ (l .before .widths-of .ensures) _ (l .length-of .ensures) (c .if3 .taken))
+    (refused-length _ _ (w .wide .ensures .0) _ (n .before .kind-of .ensures) _ (n .kind-refusal .ensures) (e .if2 .left)
+    _ (l .before .widths-of .ensures .0) _ (l .length-of .ensures) (c .if3 .taken))
 
 operands-of-requires : tie.Need-operands-of-requires
-operands-of-requires c κs = (rw (c .before .before .widths-of .ensures) (narrow-shape _), omega arith)
-
-numbers-refused-requires : tie.Need-numbers-refused-requires
-numbers-refused-requires c κs = tt
+operands-of-requires c κs = (rw (c .before .before .widths-of .ensures .0) (narrow-shape _), omega arith)
 
 returns-4 : tie.Need-returns-4
 returns-4 c =
     let r = c .before in
     let l = r .before .before .before in
     let e = l .before .before in
-    let w = e .before .before in
+    let n = e .before in
+    let w = n .before .before in
     decoded-bytes _ _ (λ k. w .before .shared-slice-known2 .given k .fits)
-    (refused-numbers _ _ (w .wide .ensures .0) (sym (e .before .is-command-code .ensures) ∙ not-false _ (e .if2 .left)) _ (l .before .widths-of .ensures) _ (l .length-of .ensures)
-    (r .before .before .if3 .left) _ (r .before .operands-of .ensures) _ (r .numbers-refused .ensures) (c .if4 .taken))
-
-command-from-requires : tie.Need-command-from-requires
-command-from-requires c κs = tt
+    (refused-numbers _ _ (w .wide .ensures .0) _ (n .before .kind-of .ensures) _ (n .kind-refusal .ensures) (e .if2 .left)
+    _ (l .before .widths-of .ensures .0) _ (l .length-of .ensures) (r .before .before .if3 .left) _ (r .before .operands-of .ensures)
+    _ (r .numbers-refused .ensures) (c .if4 .taken))
 
 returns-5 : tie.Need-returns-5
 returns-5 c =
     let r = c .before .before in
     let l = r .before .before .before in
     let e = l .before .before in
-    let w = e .before .before in
+    let n = e .before in
+    let w = n .before .before in
     decoded-bytes _ _ (λ k. w .before .shared-slice-known2 .given k .fits)
     (ap Whole (c .command-from .ensures)
-    ∙ decoded _ _ (w .wide .ensures .0) (sym (e .before .is-command-code .ensures) ∙ not-false _ (e .if2 .left)) _ (l .before .widths-of .ensures) _ (l .length-of .ensures)
-    (r .before .before .if3 .left) _ (r .before .operands-of .ensures) _ (r .numbers-refused .ensures) (c .before .if4 .left))
+    ∙ decoded _ _ (w .wide .ensures .0) _ (n .before .kind-of .ensures) _ (n .kind-refusal .ensures) (e .if2 .left)
+    _ (l .before .widths-of .ensures .0) _ (l .length-of .ensures) (r .before .before .if3 .left) _ (r .before .operands-of .ensures)
+    _ (r .numbers-refused .ensures) (c .before .if4 .left))
 
 pub decode-command-spec : {M : Type 1} → statement M
 decode-command-spec =
     tie.close
-    (tie.spec
-    returns
-    shared-slice-read-wide
-    wide-requires
-    is-command-code-requires
-    returns-2
-    widths-of-requires
-    length-of-requires
-    returns-3
-    operands-of-requires
-    numbers-refused-requires
-    returns-4
-    command-from-requires
-    returns-5)
+    (tie.spec returns shared-slice-read-wide (λ c κs. tt) (λ c κs. tt) (λ c κs. tt) returns-2 (λ c κs. tt) length-of-requires returns-3
+    operands-of-requires (λ c κs. tt) returns-4 (λ c κs. tt) returns-5)

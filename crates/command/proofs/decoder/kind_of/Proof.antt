@@ -1,0 +1,36 @@
+-- `command::decoder::kind_of` meets its contract.
+-- Assumes nothing.
+use mathlib.Core.Path.{_≡_}
+use native.Mathlib.Omega.{arith}
+use Rattle.command.specs.Code.{kindOf}
+use Rattle.command.proofs.Limits.{within-i}
+use Rattle.command.proofs.CodeKinds.{kind-entry, kind-none}
+use Rattle.command.proofs.decoder.kind_of.Statement.{statement}
+use Rattle.command.proofs.decoder.kind_of.Tie as tie
+
+returns : tie.Need-returns
+unfolding kindOf
+returns c = rw (c .match .keys1)
+
+returns-2 : tie.Need-returns-2
+unfolding kindOf
+returns-2 c = rw (c .match .keys2)
+
+returns-3 : tie.Need-returns-3
+unfolding kindOf
+returns-3 c = rw (c .match .keys3)
+
+returns-4 : tie.Need-returns-4
+returns-4 c =
+    let code = c .before .before .before .args .code in
+    kind-entry code (within-i 2 8 code (omega arith) (omega arith))
+
+returns-5 : tie.Need-returns-5
+unfolding kindOf
+returns-5 c = let zero : c .before .before .args .code ≡ 0 = omega arith in rw zero
+
+returns-6 : tie.Need-returns-6
+returns-6 c = kind-none _ (omega arith)
+
+pub kind-of-spec : {M : Type 1} → statement M
+kind-of-spec = tie.close (tie.spec returns returns-2 returns-3 returns-4 returns-5 returns-6)
