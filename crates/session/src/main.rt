@@ -2,9 +2,9 @@
 // and the head of the console that its first operand names. What is printed is tested, not proved.
 use buffer::wide;
 use buffer::word_at;
+use command::decoder::is_command_code;
 use command::decoder::length_of;
 use command::decoder::widths_of;
-use command::numbers::is_command_code;
 use io::print_decimal;
 use io::read_full;
 use io::write_all;

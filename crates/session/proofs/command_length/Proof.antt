@@ -15,13 +15,13 @@ widths-of-requires : tie.Need-widths-of-requires
 widths-of-requires c κs = search needs
 
 length-of-requires : tie.Need-length-of-requires
-length-of-requires c κs = rw (c .widths-of .ensures) (narrow-shape (c .before .before .before .args .code))
+length-of-requires c κs = rw (c .widths-of .ensures .0) (narrow-shape (c .before .before .before .args .code))
 
 returns : tie.Need-returns
 returns c =
     let then = c .before .before in
     length-known (then .before .before .args .code) (sym (then .before .is-command-code .ensures) ∙ then .if1 .taken)
-    (c .length-of .ensures ∙ ap lengthOf (c .before .widths-of .ensures))
+    (c .length-of .ensures ∙ ap lengthOf (c .before .widths-of .ensures .0))
 
 returns-2 : tie.Need-returns-2
 returns-2 c = length-unknown (c .before .before .args .code) (sym (c .before .is-command-code .ensures) ∙ c .if1 .left)
