@@ -182,7 +182,7 @@ impl Kept {
     }
 
     /// The common version leads to both heads, and every version common to both leads to it. Two consoles that have heard the same
-    /// entries show the same board; whether these are such.
+    /// entries are on the same version and show the same board; whether these are such.
     fn check_pair(&self, one: (u32, usize), other: (u32, usize)) -> bool {
         let (store, book) = (&self.store, &self.book);
         let reply = store.common(one.0, other.0);
@@ -192,6 +192,7 @@ impl Kept {
         assert_eq!(book.leading_to(reply.count as usize), to_both);
         let is_same = one.0 != other.0 && book.held_by(one.1) == book.held_by(other.1);
         if is_same {
+            assert_eq!(store.common(one.0, one.0), store.common(other.0, other.0));
             assert_eq!(store.board(one.0), store.board(other.0));
         }
         is_same
