@@ -3,36 +3,37 @@
 
 use crate::calls::Reply;
 
+// As include/room.h declares them; public for the tests of NULL, which no slice can be.
 #[link(name = "unit", kind = "static")]
 extern "C" {
-    fn room_open(capacity: u32, store: *mut u8, store_length: usize) -> Reply;
-    fn room_command(
+    pub fn room_open(capacity: u32, store: *mut u8, store_length: usize) -> Reply;
+    pub fn room_command(
         store: *mut u8,
         store_length: usize,
         command: *const u8,
         command_length: usize,
     ) -> Reply;
-    fn room_pause(
+    pub fn room_pause(
         store: *const u8,
         store_length: usize,
         tape: *mut u8,
         tape_length: usize,
     ) -> Reply;
-    fn room_resume(
+    pub fn room_resume(
         tape: *const u8,
         tape_length: usize,
         store: *mut u8,
         store_length: usize,
     ) -> Reply;
-    fn room_board(
+    pub fn room_board(
         store: *const u8,
         store_length: usize,
         console: u32,
         board: *mut u8,
         board_length: usize,
     ) -> Reply;
-    fn room_heard(store: *const u8, store_length: usize, console: u32) -> Reply;
-    fn room_common(store: *const u8, store_length: usize, first: u32, second: u32) -> Reply;
+    pub fn room_heard(store: *const u8, store_length: usize, console: u32) -> Reply;
+    pub fn room_common(store: *const u8, store_length: usize, first: u32, second: u32) -> Reply;
 }
 
 // Each call below is sound for every argument: the unit reads and writes within the lengths given and keeps no pointer.

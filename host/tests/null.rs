@@ -1,0 +1,136 @@
+// A lent buffer of length 0 may be NULL, says include/room.h: each buffer of each of the unit's calls as NULL, alone and with the
+// call's other buffer. The answers are worked out by hand from the paper; of several refusals that apply, the lowest is given.
+
+use room_host::calls::Reply;
+use room_host::unit::{
+    self, room_board, room_command, room_common, room_heard, room_open, room_pause, room_resume,
+};
+use std::ptr::{null, null_mut};
+
+const FILLER: u8 = 0xA5;
+const STORE_BYTES: usize = 4096 + 544;
+const CALL_COUNTED: [u8; 3] = [0x06, 0, 0];
+/// Capacity 1, and console 0 on version 0.
+const TAPE: [u8; 8] = [0x20, 0, 1, 0x23, 0, 0, 0, 0x24];
+
+fn refused(answer: u32) -> Reply {
+    Reply { answer, count: 0 }
+}
+
+/// A sound store of capacity 1 with console 0 alone.
+fn opened() -> [u8; STORE_BYTES] {
+    let mut store = [FILLER; STORE_BYTES];
+    assert_eq!(unit::open(1, &mut store).answer, 0);
+    store
+}
+
+#[test]
+fn open_into_null() {
+    for (capacity, due) in [(0, 8), (1, 19), (1024, 19), (1025, 8)] {
+        let reply = unsafe { room_open(capacity, null_mut(), 0) };
+        assert_eq!(reply, refused(due));
+    }
+}
+
+#[test]
+fn command_on_a_null_store() {
+    let commands: [(&[u8], u32); 4] = [
+        (&CALL_COUNTED, 11),
+        (&[0x0B, 0, 0], 1),
+        (&[0x06, 0], 2),
+        (&[0x06, 16, 0], 3),
+    ];
+    for (command, due) in commands {
+        let reply = unsafe { room_command(null_mut(), 0, command.as_ptr(), command.len()) };
+        assert_eq!(reply, refused(due));
+    }
+}
+
+#[test]
+fn null_command() {
+    let mut store = opened();
+    let reply = unsafe { room_command(store.as_mut_ptr(), store.len(), null(), 0) };
+    assert_eq!(reply, refused(1));
+    assert_eq!(store, opened());
+    let reply = unsafe { room_command(null_mut(), 0, null(), 0) };
+    assert_eq!(reply, refused(1));
+}
+
+#[test]
+fn pause_of_a_null_store() {
+    let mut tape = [FILLER; TAPE.len()];
+    let reply = unsafe { room_pause(null(), 0, tape.as_mut_ptr(), tape.len()) };
+    assert_eq!(reply, refused(11));
+    assert_eq!(tape, [FILLER; TAPE.len()]);
+    let reply = unsafe { room_pause(null(), 0, null_mut(), 0) };
+    assert_eq!(reply, refused(11));
+}
+
+#[test]
+fn pause_into_null() {
+    let store = opened();
+    let reply = unsafe { room_pause(store.as_ptr(), store.len(), null_mut(), 0) };
+    assert_eq!(reply, refused(19));
+    assert_eq!(store, opened());
+}
+
+#[test]
+fn resume_of_a_null_tape() {
+    let mut store = [FILLER; STORE_BYTES];
+    let reply = unsafe { room_resume(null(), 0, store.as_mut_ptr(), store.len()) };
+    assert_eq!(reply, refused(7));
+    assert_eq!(store, [FILLER; STORE_BYTES]);
+    let reply = unsafe { room_resume(null(), 0, null_mut(), 0) };
+    assert_eq!(reply, refused(7));
+}
+
+#[test]
+fn resume_into_null() {
+    let without_end = &TAPE[..7];
+    let capacity_0 = [0x20, 0, 0, 0x23, 0, 0, 0, 0x24];
+    let console_1_first = [0x20, 0, 1, 0x23, 1, 0, 0, 0x24];
+    // Version 1 leads to no head.
+    let lost = [0x20, 0, 2, 0x21, 0, 0, 0x06, 0, 0, 0, 0x23, 0, 0, 0, 0x24];
+    let tapes: [(&[u8], u32); 5] = [
+        (&TAPE, 19),
+        (without_end, 7),
+        (&capacity_0, 8),
+        (&console_1_first, 9),
+        (&lost, 10),
+    ];
+    for (tape, due) in tapes {
+        let reply = unsafe { room_resume(tape.as_ptr(), tape.len(), null_mut(), 0) };
+        assert_eq!(reply, refused(due));
+    }
+}
+
+#[test]
+fn board_of_a_null_store() {
+    for (console, due) in [(0, 11), (15, 11), (16, 3)] {
+        let mut board = [FILLER; 384];
+        let reply = unsafe { room_board(null(), 0, console, board.as_mut_ptr(), board.len()) };
+        assert_eq!(reply, refused(due));
+        assert_eq!(board, [FILLER; 384]);
+        let reply = unsafe { room_board(null(), 0, console, null_mut(), 0) };
+        assert_eq!(reply, refused(due));
+    }
+}
+
+#[test]
+fn board_into_null() {
+    let store = opened();
+    for (console, due) in [(0, 19), (15, 12), (16, 3)] {
+        let reply = unsafe { room_board(store.as_ptr(), store.len(), console, null_mut(), 0) };
+        assert_eq!(reply, refused(due));
+    }
+    assert_eq!(store, opened());
+}
+
+#[test]
+fn questions_to_a_null_store() {
+    for (console, due) in [(0, 11), (15, 11), (16, 3)] {
+        assert_eq!(unsafe { room_heard(null(), 0, console) }, refused(due));
+        assert_eq!(unsafe { room_common(null(), 0, console, 0) }, refused(due));
+        assert_eq!(unsafe { room_common(null(), 0, 0, console) }, refused(due));
+    }
+}
