@@ -856,7 +856,7 @@ fn compare_capacities(comparison: &mut Comparison, rng: &mut Rng) -> Outcome<()>
     Ok(())
 }
 
-/// The questions to these bytes, for every console and every two.
+/// The questions to these bytes, with each of the edge numbers as a console, and with every two of them.
 fn compare_consoles(comparison: &mut Comparison, rng: &mut Rng, store: &[u8]) -> Outcome<()> {
     let pair = &mut Pair::of_store(store);
     for first in EDGE_NUMBERS {

@@ -11,6 +11,7 @@ const EFFORT: Effort = Effort {
     steps_at_1024: 2500,
 };
 const SESSIONS: usize = 400;
+const COMPARED: [&str; 3] = ["unit", "fast", "session"];
 
 fn compare_calls(tested: Calls, seed: u64) -> Outcome<()> {
     let start = Instant::now();
@@ -36,6 +37,10 @@ fn compare_session(seed: u64) -> Outcome<()> {
 }
 
 fn run(wanted: Option<&str>, seed: u64) -> Outcome<()> {
+    // A misspelt name must not pass for a comparison without a difference.
+    if let Some(unknown) = wanted.filter(|wanted| !COMPARED.contains(wanted)) {
+        return Err(format!("{unknown} is none of {COMPARED:?}"));
+    }
     let is_wanted = |name: &str| wanted.is_none_or(|wanted| wanted == name);
     for tested in [UNIT, FAST] {
         if is_wanted(tested.name) {
