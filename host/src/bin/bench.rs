@@ -1,6 +1,7 @@
-// The benchmark: after the seed each line is `ratio WHAT AGAINST VALUE`, the time of one thing divided by the time of another, both measured in this run.
-// A time is the shortest of many runs, taken by turns so that both see the same machine. Buffers are warm: nothing is cleared between runs.
-// A line `limit WHAT AGAINST VALUE` behind a ratio says what it may be at most.
+// The benchmark: after the seed each line is `ratio WHAT AGAINST VALUE`, the time of one thing divided by the time of another, both
+// measured in this run. A time is the shortest of many runs, taken by turns so that both see the same machine. Buffers are warm: nothing
+// is cleared between runs. A line `limit WHAT AGAINST VALUE` behind a ratio says what it may be at most, with EXCEEDED where it is more.
+// Where a ratio is more than one and a half times its limit, the last line names it and the program ends with 1; less may be noise.
 
 use room_host::compare::{Call, Calls, FAST, UNIT};
 use room_host::layout::{self, BOARD_BYTES};
@@ -10,6 +11,7 @@ use room_host::{gen, unit};
 use std::array;
 use std::hint::black_box;
 use std::iter::repeat_with;
+use std::process::ExitCode;
 use std::time::Instant;
 
 const SEED: u64 = 20_261_115;
@@ -21,8 +23,66 @@ const CAPACITIES: [usize; 3] = [64, 256, 1024];
 const TAPE_VERSIONS: [usize; 3] = [64, 256, 1023];
 const KINDS: [&str; 2] = ["entries", "merges"];
 
+// ---------------------------------------------------------------- ratios and their limits
+
+const MEMCMP: &str = "memcmp_of_the_store";
+const SOUNDNESS: &str = "soundness";
+
+/// What each of these may be at most, against what: the limits of docs/PERFORMANCE.md.
+const LIMITS: [(&str, &str, f64); 8] = [
+    ("soundness_entries_1024", MEMCMP, 4.5),
+    ("soundness_merges_1024", MEMCMP, 13.0),
+    ("entry", SOUNDNESS, 1.3),
+    ("merge", SOUNDNESS, 1.3),
+    ("pause_entries_1023", SOUNDNESS, 1.3),
+    ("pause_merges_1023", SOUNDNESS, 1.3),
+    ("resume_entries_1023", SOUNDNESS, 3.0),
+    ("resume_merges_1023", SOUNDNESS, 3.0),
+];
+
+/// A ratio fails at more than so many times its limit.
+const FAILS_AT: f64 = 1.5;
+
+fn limit_of(what: &str, against: &str) -> Option<f64> {
+    let named = |limit: &&(&str, &str, f64)| (limit.0, limit.1) == (what, against);
+    LIMITS.iter().find(named).map(|&(_, _, limit)| limit)
+}
+
 fn print_ratio(what: &str, against: &str, value: f64) {
     println!("ratio {what} {against} {value:.2}");
+}
+
+/// What the ratios came to: how many had a limit, and those that fail.
+#[derive(Default)]
+struct Verdict {
+    limited: usize,
+    failed: Vec<String>,
+}
+
+impl Verdict {
+    /// Prints a ratio, and its limit where it has one.
+    fn judge(&mut self, what: &str, against: &str, value: f64) {
+        print_ratio(what, against, value);
+        let Some(limit) = limit_of(what, against) else {
+            return;
+        };
+        let mark = if value > limit { " EXCEEDED" } else { "" };
+        println!("limit {what} {against} {limit:.2}{mark}");
+        self.limited += 1;
+        if value > FAILS_AT * limit {
+            self.failed
+                .push(format!("{what} {against} {value:.2} (limit {limit:.2})"));
+        }
+    }
+
+    fn print_last_line(&self) -> ExitCode {
+        assert_eq!(self.limited, LIMITS.len(), "each limit is that of a ratio");
+        if self.failed.is_empty() {
+            return ExitCode::SUCCESS;
+        }
+        println!("failed: {}", self.failed.join(", "));
+        ExitCode::FAILURE
+    }
 }
 
 fn full_room(kind: &str, capacity: usize) -> Room {
@@ -35,13 +95,12 @@ fn full_room(kind: &str, capacity: usize) -> Room {
 
 // ---------------------------------------------------------------- one call measured
 
-/// A call that is accepted, with its store and input, and the most that its time may be of a soundness test's.
+/// A call that is accepted, with its store and input.
 struct Work {
     what: String,
     call: Call,
     room: Room,
     input: Vec<u8>,
-    limit: Option<f64>,
 }
 
 /// The shortest times in seconds: a comparison of the whole store with a copy, the unit's soundness test alone, and the call
@@ -122,14 +181,13 @@ fn make(work: &Work, calls: &Calls, store: &mut [u8], output: &mut [u8]) {
     assert_eq!(reply.answer, 0, "{} by {}", work.what, calls.name);
 }
 
-/// Measures a piece of work, prints its ratios, and gives the unit's time.
-fn bench(work: &Work) -> f64 {
+/// Measures a piece of work, prints its ratios, that against the soundness test only where it has a limit, and gives the unit's time.
+fn bench(verdict: &mut Verdict, work: &Work) -> f64 {
     let times = times_of(work);
-    print_ratio(&work.what, "memcmp_of_the_store", times.unit / times.memcmp);
-    print_ratio(&work.what, "fast", times.unit / times.fast);
-    if let Some(limit) = work.limit {
-        print_ratio(&work.what, "soundness", times.unit / times.soundness);
-        println!("limit {} soundness {limit:.2}", work.what);
+    verdict.judge(&work.what, MEMCMP, times.unit / times.memcmp);
+    verdict.judge(&work.what, "fast", times.unit / times.fast);
+    if limit_of(&work.what, SOUNDNESS).is_some() {
+        verdict.judge(&work.what, SOUNDNESS, times.unit / times.soundness);
     }
     times.unit
 }
@@ -149,7 +207,7 @@ fn print_growth(what: &str, per: &str, sizes: [usize; 3], amounts: [usize; 3], t
 // ---------------------------------------------------------------- the works
 
 /// The soundness test, by the question that costs little else.
-fn bench_soundness() {
+fn bench_soundness(verdict: &mut Verdict) {
     for kind in KINDS {
         let works = CAPACITIES.map(|capacity| Work {
             what: format!("soundness_{kind}_{capacity}"),
@@ -159,9 +217,8 @@ fn bench_soundness() {
             },
             room: full_room(kind, capacity),
             input: Vec::new(),
-            limit: None,
         });
-        let times = works.each_ref().map(bench);
+        let times = works.each_ref().map(|work| bench(verdict, work));
         let what = format!("soundness_{kind}");
         let lengths = CAPACITIES.map(layout::store_bytes);
         print_growth(&what, "byte", CAPACITIES, lengths, times);
@@ -169,14 +226,14 @@ fn bench_soundness() {
 }
 
 /// Resume of tapes of several lengths, and pause of the rooms they give.
-fn bench_tapes() {
+fn bench_tapes(verdict: &mut Verdict) {
     for kind in KINDS {
-        bench_tapes_of("pause", Call::Pause, 1.3, kind);
-        bench_tapes_of("resume", Call::Resume, 3.0, kind);
+        bench_tapes_of(verdict, "pause", Call::Pause, kind);
+        bench_tapes_of(verdict, "resume", Call::Resume, kind);
     }
 }
 
-fn bench_tapes_of(name: &str, call: Call, limit: f64, kind: &str) {
+fn bench_tapes_of(verdict: &mut Verdict, name: &str, call: Call, kind: &str) {
     let what = format!("{name}_{kind}");
     let works = TAPE_VERSIONS.map(|versions| {
         let room = full_room(kind, versions + 1);
@@ -185,36 +242,31 @@ fn bench_tapes_of(name: &str, call: Call, limit: f64, kind: &str) {
             call,
             input: tape_of(&room),
             room,
-            limit: Some(limit).filter(|_| versions == 1023),
         }
     });
-    let times = works.each_ref().map(bench);
+    let times = works.each_ref().map(|work| bench(verdict, work));
     print_growth(&what, "version", TAPE_VERSIONS, TAPE_VERSIONS, times);
 }
 
 /// The calls on a store of capacity 1,024 that holds 1,000 versions.
-fn bench_calls() {
+fn bench_calls(verdict: &mut Verdict) {
     let (room, commands) = busy_room();
-    let question = |what: &str, call: Call| Work {
-        what: what.to_string(),
-        call,
-        room: room.clone(),
-        input: Vec::new(),
-        limit: None,
-    };
-    bench(&question("open", Call::Open { capacity: 1024 }));
-    bench(&question("board", Call::Board { console: 0 }));
-    bench(&question("heard", Call::Heard { console: 0 }));
-    let (first, second) = (0, 1);
-    bench(&question("common", Call::Common { first, second }));
-    for (what, input) in commands {
-        bench(&Work {
+    let mut bench_call = |what: &str, call: Call, input: Vec<u8>| {
+        let work = Work {
             what: what.to_string(),
-            call: Call::Command,
+            call,
             room: room.clone(),
             input,
-            limit: Some(1.3).filter(|_| what == "entry" || what == "merge"),
-        });
+        };
+        bench(verdict, &work);
+    };
+    bench_call("open", Call::Open { capacity: 1024 }, Vec::new());
+    bench_call("board", Call::Board { console: 0 }, Vec::new());
+    bench_call("heard", Call::Heard { console: 0 }, Vec::new());
+    let (first, second) = (0, 1);
+    bench_call("common", Call::Common { first, second }, Vec::new());
+    for (what, input) in commands {
+        bench_call(what, Call::Command, input);
     }
 }
 
@@ -263,9 +315,11 @@ fn leaving_console(room: &mut Room) -> u8 {
     merge[2]
 }
 
-fn main() {
+fn main() -> ExitCode {
+    let mut verdict = Verdict::default();
     println!("seed {SEED}");
-    bench_soundness();
-    bench_calls();
-    bench_tapes();
+    bench_soundness(&mut verdict);
+    bench_calls(&mut verdict);
+    bench_tapes(&mut verdict);
+    verdict.print_last_line()
 }
