@@ -8,8 +8,8 @@ use native.Mathlib.Decide.{ℕ-discrete}
 use lib.Dec.{eqb, leb, ltb}
 use borrow.Author.Tests.{eqb-true, leb-true, ltb-true, le-leb}
 use Rattle.laws.proofs.Logic.{and-l, and-r, and-i, refuted}
-use Rattle.board.specs.Board.{stripCount}
-use Rattle.command.specs.Code.{markCount, within, isEntryCode, isStrip, isOperand}
+use Rattle.board.specs.Board.{stripCount, markCount}
+use Rattle.command.specs.Code.{within, isEntryCode, isStrip, isOperand}
 
 pub within-true : (low high x : ℕ) → within low high x ≡ true → (low ≤ x) × (x ≤ high)
 within-true low high x h = (leb-true low x (and-l _ _ h), leb-true x high (and-r (leb low x) _ h))

@@ -6,7 +6,7 @@ use mathlib.Core.List.{List}
 use lib.Dec.{eqb, leb, ltb}
 use lib.ListN.{getD}
 use Rattle.buffer.specs.Field.{wordAt}
-use Rattle.board.specs.Board.{stripCount}
+use Rattle.board.specs.Board.{stripCount, markCount}
 use Rattle.command.specs.declared.Kind.{Kind}
 use Rattle.command.specs.declared.Kind.the-variants as kind-is
 use Rattle.command.specs.declared.Shape.{Shape}
@@ -16,10 +16,6 @@ use Rattle.command.specs.declared.Operands.{Operands}
 -- "up to 16 consoles"
 abbrev pub consoleCount : ℕ
 consoleCount = 16
-
--- "mark k is the bit worth 2 to the k, k from 0 to 15"
-abbrev pub markCount : ℕ
-markCount = 16
 
 abbrev pub within : ℕ → ℕ → ℕ → Bool
 within low high x = leb low x && leb x high

@@ -3,7 +3,7 @@ ghost use mathlib.Core.Path.{_≡_};
 ghost use Rattle.command.specs.Code.{isEntryCode, isConsole, isStrip, isOperand};
 
 // The number of consoles.
-const CONSOLES: usize = 16;
+pub const CONSOLES: usize = 16;
 
 // The number of strips.
 const STRIPS: usize = 32;
