@@ -1,4 +1,4 @@
--- A tape's content is accepted exactly where its capacity, its numbers and its room pass.
+-- A tape's content is accepted exactly where what the room is set to, its numbers and its room pass.
 -- Assumes nothing.
 use mathlib.Core.Path.{_≡_}
 use mathlib.Core.Bool.{true}
@@ -7,11 +7,11 @@ use native.Mathlib.Omega.{arith}
 use borrow.Author.Tests.{not-false}
 use Rattle.refusal.specs.Refusal.{firstRefusal}
 use Rattle.refusal.proofs.Refusals.{none-given}
-use Rattle.room.specs.Sound.{isCapacity, soundRoom}
+use Rattle.room.specs.Sound.{settingsInRange, soundRoom}
 use Rattle.tape.specs.Tape.{Content, roomOf, inRange, contentRefusal}
 
 pub record Accepted (c : Content) : Type 0 where
-  pub size : isCapacity (c .capacity) ≡ true
+  pub size : settingsInRange (c .settings) ≡ true
   pub range : inRange c ≡ true
   pub room : soundRoom (roomOf c) ≡ true
 

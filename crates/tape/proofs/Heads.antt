@@ -3,7 +3,7 @@
 use Prim.Native.Nat.{ℕ, zero, suc, _+_, _≤_, _<_}
 use mathlib.Core.Path.{_≡_, refl, sym, _∙_}
 use mathlib.Core.Bool.{true}
-use mathlib.Core.List.{List, [], _∷_, _++_, append-assoc, append-nil}
+use mathlib.Core.List.{List, [], _∷_, _++_, append-assoc}
 use mathlib.Core.Option.{Option, none, some}
 use native.Mathlib.Omega.{arith}
 use native.Mathlib.Nat.{add-zero, zero-add, not-suc-le-zero}
@@ -101,7 +101,7 @@ last-record : (b c v : ℕ) (heads : List (Option ℕ)) → c < length heads →
     → headRecords b (set heads c (some v)) ≡ headRecords b heads ++ recordBytes (Head (record { 0 = b + c }) (record { 0 = v }))
 unfolding headRecords
 last-record b c v [] l empty = absurd (not-suc-le-zero l)
-last-record b zero v (none ∷ later) l empty = rw (no-records (suc b) later (λ k. empty (suc k) (omega arith)), add-zero, append-nil)
+last-record b zero v (none ∷ later) l empty = rw (no-records (suc b) later (λ k. empty (suc k) (omega arith)), add-zero)
 last-record b zero v (some w ∷ later) l empty = cc (empty 0 (omega arith))
 last-record b (suc c) v (none ∷ later) l empty =
     let step : suc b + c ≡ b + suc c = omega arith in

@@ -5,6 +5,9 @@ pub mod Reading
 pub mod Written
 pub mod RoundTrip
 pub mod Places
-pub mod Located
+pub mod Sorts
+pub mod Grown
 pub mod PlaceCell
+pub mod Walk
 pub mod Scans
+pub mod Located

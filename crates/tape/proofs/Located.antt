@@ -5,31 +5,29 @@ use mathlib.Core.Path.{_≡_, refl, sym, _∙_, ap}
 use mathlib.Core.List.{List, [], _∷_, _++_, append-assoc, append-nil}
 use mathlib.Core.Option.{some}
 use native.Mathlib.Omega.{arith}
-use native.Mathlib.Nat.{not-suc-le-zero}
+use native.Mathlib.Nat.{add-zero, not-suc-le-zero}
 use lib.ListN.{length, getD, take, drop, length-append, length-drop}
 use lib.Seq.{drop-at}
 use borrow.Author.Tests.{le-ltb}
 use Rattle.laws.proofs.Logic.{cond-false}
 use Rattle.laws.proofs.Lists.{all-first, none-first, one-more}
 use Rattle.graph.specs.declared.Node.{Node}
-use Rattle.graph.specs.Graph.{Graph, merge, versionCount, nodeOf}
-use Rattle.graph.proofs.Ancestor.{nodeOf-new, nodeOf-old}
+use Rattle.graph.specs.Graph.{Graph, merge}
+use Rattle.command.specs.Code.{startRecord, headRecord, shapeOf, lengthOf}
 use Rattle.tape.specs.declared.Record.{Record}
-use Rattle.tape.specs.declared.Record.the-variants.{Start, End}
+use Rattle.tape.specs.declared.Record.the-variants.{Start, Version, End}
 use Rattle.tape.specs.Record.{recordIn, recordBytes}
-use Rattle.tape.specs.Tape.{Content, contentOf, versionRecord, versionRecords}
-use Rattle.tape.specs.Reader.{placeAfter, firstVersions, nextNode, firstHeads, nextHead, versionPlace, headPlace}
+use Rattle.tape.specs.Tape.{Content, contentOf, versionRecords}
+use Rattle.tape.specs.Reader.{placeAfter, nodeOn, headOn, firstVersions, nextNode, firstHeads, nextHead, versionPlace, headPlace}
 use Rattle.tape.proofs.Records.{Bytes, Fits, record-read, record-length}
 use Rattle.tape.proofs.Heads.{headBytes}
-use Rattle.tape.proofs.Written.{headRecord, AllFit, tape-written, tape-fits}
+use Rattle.tape.proofs.Written.{recordOfHead, AllFit, tape-written, tape-fits}
 
 -- a record stands whole at a place, and the next one begins at a further place
-pub record RecordAt (tape : List ℕ) (at : ℕ) (x : Record) (next : ℕ) : Type 0 where
-  pub read : recordIn (drop at tape) ≡ x
-  pub past : placeAfter tape at ≡ next
-  pub inside : at ≤ length tape
-  pub within : next ≤ length tape
-  pub fits : Fits x
+record RecordAt (tape : List ℕ) (at : ℕ) (x : Record) (next : ℕ) : Type 0 where
+  read : recordIn (drop at tape) ≡ x
+  past : placeAfter tape at ≡ next
+  inside : at ≤ length tape
 
 -- the bytes of a record, between others
 record-between : (before rest : List ℕ) (x : Record) (at next : ℕ) → Fits x → length before ≡ at → at + length (recordBytes x) ≡ next
@@ -44,8 +42,6 @@ record-between before rest x at next fits here far =
       read = rw behind (record-read x rest fits);
       past = rw (behind, size) (cond-false _ _ _ whole ∙ far);
       inside = omega arith;
-      within = omega arith;
-      fits = fits;
     }
 
 -- Records that stand one after the other: those of the versions, and those of the heads.
@@ -76,82 +72,63 @@ module _ {A : Type 0} (recordOf : A → Record) (bytesOf : List A → List ℕ) 
       (record-between (front ++ first) (bytesOf (take m xs) ++ rest) (recordOf x) _ _ (fit-at xs m d fit (omega arith)) (length-append front first)
       (rw (length-append first (recordBytes (recordOf x))) (omega arith)))
 
-nothing-there {ℓ} : {A : Type ℓ} {n : Node} {before : Graph} → [] ≡ n ∷ before → A
-nothing-there e = let clash : _≡_ {A = ℕ} 0 1 = cc in absurd (omega arith)
-
--- the version that stands before so many in a graph is the one of that number
-node-before : (g : Graph) (m : ℕ) (n : Node) (before : Graph) → drop m g ≡ n ∷ before → nodeOf g (versionCount before) ≡ some n
-node-before [] zero n before e = nothing-there e
-node-before [] (suc m) n before e = nothing-there e
-node-before (x ∷ g) zero n before e = let tail : g ≡ before = cc in let head : x ≡ n = cc in rw (← tail, ← head) (nodeOf-new x g)
-node-before (x ∷ g) (suc m) n before e =
-    let older : versionCount before < versionCount g = omega (arith, ap length e, length-drop m g) in
-    nodeOf-old x g (versionCount before) older ∙ node-before g m n before e
-
-head-bytes-length : (heads : List (ℕ × ℕ)) → length (headBytes heads) ≡ 4 * length heads
-unfolding recordBytes
+head-bytes-length : (heads : List (ℕ × ℕ)) → length (headBytes heads) ≡ lengthOf (shapeOf headRecord) * length heads
+unfolding shapeOf lengthOf
 head-bytes-length [] = refl
 head-bytes-length (h ∷ before) = simp length-append (omega (arith, head-bytes-length before))
 
--- the record of version 1 stands after the three bytes of the start
-first-place : (g : Graph) → versionPlace g 0 ≡ 3
+-- the record of version 1 stands behind the start
+pub first-place : (g : Graph) → versionPlace g 0 ≡ lengthOf (shapeOf startRecord)
 unfolding versionRecords
-first-place g = rw (none-first g)
+first-place g = rw (none-first g, add-zero)
 
 -- what stands at the place of version suc k
 pub record VersionAt (tape : List ℕ) (g : Graph) (k : ℕ) (n : Node) : Type 0 where
   pub first : firstVersions (suc k) g ≡ n ∷ firstVersions k g
   pub count : length (firstVersions k g) ≡ k
-  pub node : nodeOf g (suc k) ≡ some n
-  pub record-at : RecordAt tape (versionPlace g k) (versionRecord n) (versionPlace g (suc k))
+  pub read : nodeOn (recordIn (drop (versionPlace g k) tape)) ≡ n
+  pub past : placeAfter tape (versionPlace g k) ≡ versionPlace g (suc k)
+  pub inside : versionPlace g k ≤ length tape
 
 -- what stands at the place of head number j
 pub record HeadAt (tape : List ℕ) (t : Content) (j : ℕ) (h : ℕ × ℕ) : Type 0 where
   pub first : firstHeads (suc j) (t .heads) ≡ h ∷ firstHeads j (t .heads)
-  pub record-at : RecordAt tape (headPlace t j) (headRecord h) (headPlace t (suc j))
+  pub read : headOn (recordIn (drop (headPlace t j) tape)) ≡ h
+  pub past : placeAfter tape (headPlace t j) ≡ headPlace t (suc j)
+  pub inside : headPlace t j ≤ length tape
 
 module _ (tape : List ℕ) (t : Content) (bytes : Bytes tape) (says : contentOf tape ≡ some t) where
-  in-versions : tape ≡ recordBytes (Start (t .settings .capacity)) ++ (versionRecords (t .versions) ++ (headBytes (t .heads) ++ recordBytes End))
+  in-versions : tape ≡ recordBytes (Start (t .settings)) ++ (versionRecords (t .versions) ++ (headBytes (t .heads) ++ recordBytes End))
   in-versions = tape-written tape t bytes says ∙ simp append-assoc
 
-  in-heads : tape ≡ (recordBytes (Start (t .settings .capacity)) ++ versionRecords (t .versions)) ++ (headBytes (t .heads) ++ recordBytes End)
-  in-heads = tape-written tape t bytes says ∙ simp append-assoc
-
-  -- past the start record stands the record of version 1, or the first head where there is no version after 0
-  pub start-past : placeAfter tape 0 ≡ versionPlace (t .versions) 0
-  unfolding recordBytes
-  start-past =
-      rw in-versions
-      (record-between [] (versionRecords (t .versions) ++ (headBytes (t .heads) ++ recordBytes End)) (Start (t .settings .capacity)) 0 (versionPlace (t .versions) 0) (tape-fits tape t bytes says .capacity) refl
-      (sym (first-place (t .versions))) .past)
-
   pub version-at : (k : ℕ) → k < length (t .versions) → VersionAt tape (t .versions) k (nextNode (t .versions) k)
-  unfolding versionRecords recordBytes
+  unfolding versionRecords shapeOf lengthOf
   version-at k l =
       let g = t .versions in
-      let first = one-more g k (merge 0 0) l in
-      let count : length (firstVersions k g) ≡ k = omega (arith, length-drop (length g - k) g) in
-      let node = node-before g (length g - suc k) (nextNode g k) (firstVersions k g) first in
+      let there = rw (← in-versions) at (in-sequence Version versionRecords refl (λ x before. refl) (recordBytes (Start (t .settings))) (headBytes (t .heads) ++ recordBytes End) g (merge 0 0) k (tape-fits tape t bytes says .versions) l) in
       record {
-        first = first;
-        count = count;
-        node = rw count at node;
-        record-at =
-            rw in-versions
-            (in-sequence versionRecord versionRecords refl (λ x before. refl) (recordBytes (Start (t .settings .capacity))) _ g (merge 0 0) k (tape-fits tape t bytes says .versions) l);
+        first = one-more g k (merge 0 0) l;
+        count = omega (arith, length-drop (length g - k) g);
+        read = ap nodeOn (there .read);
+        past = there .past;
+        inside = there .inside;
       }
 
   pub head-at : (j : ℕ) → j < length (t .heads) → HeadAt tape t j (nextHead (t .heads) j)
-  unfolding recordBytes
+  unfolding shapeOf lengthOf
   head-at j l =
       let g = t .versions in
       let heads = t .heads in
-      let front : List ℕ = recordBytes (Start (t .settings .capacity)) ++ versionRecords g in
+      let front : List ℕ = recordBytes (Start (t .settings)) ++ versionRecords g in
+      let in-heads : tape ≡ front ++ (headBytes heads ++ recordBytes End) = in-versions ∙ simp append-assoc in
       let far : (k : ℕ) → k ≤ length heads → length front + length (headBytes (firstHeads k heads)) ≡ headPlace t k =
       λ k le. rw (head-bytes-length, all-first g) (omega (arith, length-drop (length heads - k) heads))
       in
-      let there = in-sequence headRecord headBytes refl (λ x before. refl) front (recordBytes End) heads (0, 0) j (tape-fits tape t bytes says .heads) l in
+      let between = in-sequence recordOfHead headBytes refl (λ x before. refl) front (recordBytes End) heads (0, 0) j (tape-fits tape t bytes says .heads) l in
+      let there = rw (← in-heads, far j (omega arith), far (suc j) (omega arith)) at between in
       record {
         first = one-more heads j (0, 0) l;
-        record-at = rw in-heads (rw (far j (omega arith), far (suc j) (omega arith)) at there);
+        read = ap headOn (there .read);
+        past = there .past;
+        inside = there .inside;
       }

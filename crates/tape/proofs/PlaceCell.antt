@@ -17,9 +17,9 @@ use denote.Memory.{partOf, partAt, cellAt}
 use denote.Steps.{owned}
 use denote.Struct.Laws as LL
 use denote.Struct.Steps.{spelt}
-use Rattle.tape.specs.declared.reader.Place.{Place}
-use Rattle.tape.proofs.reader.Place as T
-use Rattle.tape.proofs.reader.Place.Laws as T′
+use Rattle.tape.specs.declared.place.Place.{Place}
+use Rattle.tape.proofs.place.Place as T
+use Rattle.tape.proofs.place.Place.Laws as T′
 
 -- the place of a number, and its machine value
 abbrev pub place-of : ℕ → Place

@@ -40,21 +40,24 @@ module _ (t : List ℕ) (code : ℕ) (e : code ≡ getD t 0 0) (shape : Shape) (
       rw (le-ltb (length t) (recordLength t) (omega (arith, length-found)))
       (let same : recordFrom code o ≡ recordFrom (getD t 0 0) (operandsOf (shapeOf (getD t 0 0)) t) = cc in made ∙ same)
 
--- what the reader answers of a place: the place past it alone, and with the record
-abbrev pub Next : List ℕ → ℕ → ℕ → Type 0
-Next t at next = (next ≡ placeAfter t at) × (next ≤ length t)
+-- what the reader answers of a place: the record that stands there, the place past it, and both
+abbrev pub Found : List ℕ → ℕ → Record → Type 0
+Found t at x = x ≡ recordIn (drop at t)
 
-abbrev pub RecordAndNext : List ℕ → ℕ → Record → ℕ → Type 0
-RecordAndNext t at x next = (x ≡ recordIn (drop at t)) × (next ≡ placeAfter t at) × (next ≤ length t)
+abbrev pub Past : List ℕ → ℕ → ℕ → Type 0
+Past t at next = (next ≡ placeAfter t at) × (next ≤ length t)
+
+abbrev pub FoundAndPast : List ℕ → ℕ → Record → ℕ → Type 0
+FoundAndPast t at x next = (x ≡ recordIn (drop at t)) × (next ≡ placeAfter t at) × (next ≤ length t)
 
 module _ (t : List ℕ) (at : ℕ) (fits : at ≤ length t) (n : ℕ) (long : n ≡ recordLength (take (length t - at) (drop at t))) where
   same-length : n ≡ recordLength (drop at t)
   same-length = rw (rest-all t at) at long
 
-  pub place-stays : length t - at < n → Next t at at
+  pub place-stays : length t - at < n → Past t at at
   place-stays h = (rw (lt-ltb (length (drop at t)) (recordLength (drop at t)) (omega (arith, same-length, length-drop at t))), fits)
 
-  pub place-moves : n ≤ length t - at → Next t at (at + n)
+  pub place-moves : n ≤ length t - at → Past t at (at + n)
   place-moves h = (
     rw (le-ltb (length (drop at t)) (recordLength (drop at t)) (omega (arith, same-length, length-drop at t))) (ap (λ (k : ℕ). at + k) same-length),
     omega arith,

@@ -13,28 +13,29 @@ use borrow.Author.Tests.{ltb-true}
 use Rattle.laws.proofs.Logic.{clash, and-l, and-r}
 use Rattle.graph.specs.declared.Node.{Node}
 use Rattle.graph.specs.declared.Node.the-variants.{Entry, Merge}
-use Rattle.graph.specs.Graph.{Graph, entry, merge, versionCount, isSome, everyVersion, parentsLower}
+use Rattle.graph.specs.Graph.{Graph, versionCount, isSome, everyVersion, parentsLower}
 use Rattle.command.specs.Code.{consoleCount, shapeOf, lengthOf}
 use Rattle.command.proofs.Limits.{entry-below}
+use Rattle.room.specs.declared.Settings.{Settings}
 use Rattle.room.specs.Sound.{entryInRange}
 use Rattle.tape.specs.declared.Record.{Record}
-use Rattle.tape.specs.declared.Record.the-variants.{Head, End}
-use Rattle.tape.specs.Record.{recordIn, recordLength, recordFrom, recordBytes}
-use Rattle.tape.specs.Tape.{Content, Stage, inVersions, inHeads, Next, goOn, finish, refuse, afterRecord, readOn, withHead, versionRecord, versionRecords, headRecords}
-use Rattle.tape.proofs.Records.{Fits, record-read, record-rest}
+use Rattle.tape.specs.declared.Record.the-variants.{Version, Head, End}
+use Rattle.tape.specs.Record.{recordIn, recordLength, recordFrom, versionBytes, recordBytes}
+use Rattle.tape.specs.Tape.{Content, Stage, inVersions, inHeads, Follow, goOn, finish, refuse, afterRecord, readOn, withHead, versionRecords, headRecords}
+use Rattle.tape.proofs.Records.{NodeFits, Fits, record-read, record-rest}
 use Rattle.tape.proofs.Heads.{headsFrom, Named, named-tail}
 
 -- a content with other heads
 abbrev pub withHeads : Content → List (ℕ × ℕ) → Content
-withHeads t heads = record { capacity = t .settings .capacity; versions = t .versions; heads = heads }
+withHeads t heads = record { settings = t .settings; versions = t .versions; heads = heads }
 
 -- one step of reading, over what the record at the front says of it
-abbrev pub go : ℕ → Content → List ℕ → Next → Option Content
+abbrev pub go : ℕ → Content → List ℕ → Follow → Option Content
 go k t rest (goOn next more) = readOn k next more (drop (recordLength rest) rest)
 go k t rest finish = cond (eqb (length rest) (recordLength rest)) (some t) none
 go k t rest refuse = none
 
-pub read-step : (k : ℕ) (stage : Stage) (t : Content) (rest : List ℕ) (n : Next) → afterRecord stage t (recordIn rest) ≡ n
+pub read-step : (k : ℕ) (stage : Stage) (t : Content) (rest : List ℕ) (n : Follow) → afterRecord stage t (recordIn rest) ≡ n
     → readOn (suc k) stage t rest ≡ go k t rest n
 unfolding readOn
 read-step k stage t rest (goOn next more) e = cc
@@ -47,43 +48,36 @@ read-one : (k : ℕ) (stage next : Stage) (t more : Content) (x : Record) (rest 
 read-one k stage next t more x rest fits e =
     read-step k stage t (recordBytes x ++ rest) (goOn next more) (rw (record-read x rest fits) e) ∙ rw (record-rest x rest fits)
 
-node-fits : (g : Graph) (n : Node) → parentsLower g n ≡ true → entryInRange g n ≡ true → length g < 65535 → Fits (versionRecord n)
+node-fits : (g : Graph) (n : Node) → parentsLower g n ≡ true → entryInRange g n ≡ true → length g < 65535 → NodeFits n
 node-fits g (Entry p code strip operand) lower range l =
     let below = entry-below code (strip .0) operand range in omega (arith, ltb-true (p .0) (versionCount g) lower)
 node-fits g (Merge p q) lower range l =
     omega (arith, ltb-true (p .0) (versionCount g) (and-l _ _ lower), ltb-true (q .0) (versionCount g) (and-r (ltb (p .0) (versionCount g)) _ lower))
 
-reads-version : (capacity : ℕ) (g : Graph) (n : Node)
-    → afterRecord inVersions (record { capacity = capacity; versions = g; heads = [] }) (versionRecord n)
-    ≡ goOn inVersions (record { capacity = capacity; versions = n ∷ g; heads = [] })
-unfolding afterRecord
-reads-version capacity g (Entry p code strip operand) = refl
-reads-version capacity g (Merge p q) = refl
-
 -- each version takes a byte at least
 pub versions-long : (g : Graph) → length g ≤ length (versionRecords g)
-unfolding versionRecords recordBytes
+unfolding versionRecords
 versions-long [] = omega arith
 versions-long (Entry p code strip operand ∷ g) = simp length-append (omega (arith, versions-long g))
 versions-long (Merge p q ∷ g) = simp length-append (omega (arith, versions-long g))
 
-pub read-versions : (g : Graph) (k capacity : ℕ) (rest : List ℕ) → everyVersion parentsLower g ≡ true
+pub read-versions : (g : Graph) (k : ℕ) (settings : Settings) (rest : List ℕ) → everyVersion parentsLower g ≡ true
     → everyVersion entryInRange g ≡ true → length g < 65536
-    → readOn (length g + k) inVersions (record { capacity = capacity; versions = []; heads = [] }) (versionRecords g ++ rest)
-    ≡ readOn k inVersions (record { capacity = capacity; versions = g; heads = [] }) rest
-unfolding versionRecords everyVersion
-read-versions [] k capacity rest lower range l = rw zero-add
-read-versions (n ∷ g) k capacity rest lower range l =
+    → readOn (length g + k) inVersions (record { settings = settings; versions = []; heads = [] }) (versionRecords g ++ rest)
+    ≡ readOn k inVersions (record { settings = settings; versions = g; heads = [] }) rest
+unfolding versionRecords afterRecord everyVersion
+read-versions [] k settings rest lower range l = rw zero-add
+read-versions (n ∷ g) k settings rest lower range l =
     let fits = node-fits g n (and-l _ _ lower) (and-l _ _ range) (omega arith) in
     let fuel : suc (length g) + k ≡ length g + suc k = omega arith in
     let lower-before = and-r (parentsLower g n) _ lower in
     let range-before = and-r (entryInRange g n) _ range in
     rw (fuel, append-assoc)
-    (read-versions g (suc k) capacity (recordBytes (versionRecord n) ++ rest) lower-before range-before (omega arith)
-    ∙ read-one k inVersions inVersions _ _ (versionRecord n) rest fits (reads-version capacity g n))
+    (read-versions g (suc k) settings (versionBytes n ++ rest) lower-before range-before (omega arith)
+    ∙ read-one k inVersions inVersions _ _ (Version n) rest fits refl)
 
 read-end : (k : ℕ) (t : Content) → readOn (suc k) inHeads t (recordBytes End) ≡ some t
-unfolding readOn recordIn recordFrom recordBytes shapeOf lengthOf afterRecord
+unfolding readOn recordIn recordFrom shapeOf lengthOf afterRecord
 read-end k t = refl
 
 -- a head record is read wherever heads may stand
@@ -91,14 +85,14 @@ read-head : (k c v : ℕ) (stage : Stage) (t : Content) (rest : List ℕ) → c 
     → readOn (suc k) stage t (recordBytes (Head (record { 0 = c }) (record { 0 = v })) ++ rest)
     ≡ readOn k inHeads (withHead t c v) rest
 unfolding afterRecord
-read-head k c v inVersions t rest hc hv = read-one k inVersions inHeads t (withHead t c v) _ rest (hc, hv) refl
-read-head k c v inHeads t rest hc hv = read-one k inHeads inHeads t (withHead t c v) _ rest (hc, hv) refl
+read-head k c v inVersions t rest hc hv = read-one k inVersions inHeads t (withHead t c v) (Head (record { 0 = c }) (record { 0 = v })) rest (hc, hv) refl
+read-head k c v inHeads t rest hc hv = read-one k inHeads inHeads t (withHead t c v) (Head (record { 0 = c }) (record { 0 = v })) rest (hc, hv) refl
 
 -- the heads from console c on are read up to the end
 read-heads : (k c : ℕ) (later : List (Option ℕ)) (t : Content) → length (headRecords c later) < k → Named (t .versions) later
     → length (t .versions) < 65535 → c + length later ≤ consoleCount
     → readOn k inHeads t (headRecords c later ++ recordBytes End) ≡ some (withHeads t (headsFrom c later (t .heads)))
-unfolding headRecords recordBytes
+unfolding headRecords
 read-heads zero c later t fuel named l fit = absurd (not-suc-le-zero fuel)
 read-heads (suc k) c [] t fuel named l fit = read-end k t
 read-heads (suc k) c (none ∷ later) t fuel named l fit =
@@ -112,7 +106,7 @@ read-heads (suc k) c (some v ∷ later) t fuel named l fit =
 pub read-all-heads : (k : ℕ) (heads : List (Option ℕ)) (t : Content) → length (headRecords 0 heads) < k
     → isSome (getD heads 0 none) ≡ true → Named (t .versions) heads → length (t .versions) < 65535 → length heads ≤ consoleCount
     → readOn k inVersions t (headRecords 0 heads ++ recordBytes End) ≡ some (withHeads t (headsFrom 0 heads (t .heads)))
-unfolding headRecords recordBytes
+unfolding headRecords
 read-all-heads zero heads t fuel first named l fit = absurd (not-suc-le-zero fuel)
 read-all-heads (suc k) [] t fuel first named l fit = clash first refl
 read-all-heads (suc k) (none ∷ later) t fuel first named l fit = clash first refl

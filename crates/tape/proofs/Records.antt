@@ -1,7 +1,7 @@
 -- A record whose numbers fit its fields is read back from its bytes, and bytes that read as a record are that record's bytes.
 -- Assumes nothing.
 use Prim.Native.Nat.{ℕ, zero, suc, _+_, _*_, _/_, _≤_, _<_}
-use mathlib.Core.Path.{_≡_, refl, sym, ap, _∙_, subst}
+use mathlib.Core.Path.{_≡_, refl, sym, ap, _∙_}
 use mathlib.Core.Logic.{inl, inr, _≢_}
 use mathlib.Core.Bool.{false, cond}
 use mathlib.Core.List.{List, [], _∷_, _++_}
@@ -9,26 +9,31 @@ use native.Mathlib.Omega.{arith}
 use native.Mathlib.Decide.{ℕ-discrete}
 use native.Mathlib.Nat.{add-zero}
 use lib.Dec.{ltb}
-use lib.ListN.{length, getD, take, drop, length-append}
-use lib.Seq.{drop-cons, drop-append-seam, take-append-seam}
+use lib.ListN.{length, getD, drop, length-append}
+use lib.Seq.{drop-cons, drop-append-seam}
 use borrow.Author.Tests.{ltb-false, le-ltb, ne-eqb}
 use Rattle.laws.proofs.Logic.{decide, cond-true, cond-false}
 use Rattle.buffer.specs.Field.{byte, wordAt}
+use Rattle.graph.specs.declared.Node.{Node}
+use Rattle.graph.specs.declared.Node.the-variants.{Entry, Merge}
 use Rattle.command.specs.declared.Operands.{Operands}
-use Rattle.command.specs.Code.{shapeOf, lengthOf, numberAt, operandsOf}
+use Rattle.command.specs.Code.{startRecord, entryRecord, mergeRecord, headRecord, endRecord, shapeOf, lengthOf, numberAt, operandsOf}
 use Rattle.tape.specs.declared.Record.{Record}
-use Rattle.tape.specs.declared.Record.the-variants.{Start, Entry, Merge, Head, End, Broken}
-use Rattle.tape.specs.Record.{recordIn, recordLength, recordFrom, recordBytes}
+use Rattle.tape.specs.declared.Record.the-variants.{Start, Version, Head, End, Broken}
+use Rattle.tape.specs.Record.{recordIn, recordLength, recordFrom, versionBytes, recordBytes, recordRefusal}
 
 -- every element is a byte; what lies past the end reads as 0
 abbrev pub Bytes : List ℕ → Type 0
 Bytes t = (k : ℕ) → getD t k 0 < 256
 
--- each number of a record fits its field
+-- each number of a version, and of a record, fits its field
+abbrev pub NodeFits : Node → Type 0
+NodeFits (Entry parent code strip operand) = (parent .0 < 65536) × (code < 256) × (strip .0 < 256) × (operand < 65536)
+NodeFits (Merge receiver giver) = (receiver .0 < 65536) × (giver .0 < 65536)
+
 abbrev pub Fits : Record → Type 0
-Fits (Start capacity) = capacity < 65536
-Fits (Entry parent code strip operand) = (parent .0 < 65536) × (code < 256) × (strip .0 < 256) × (operand < 65536)
-Fits (Merge receiver giver) = (receiver .0 < 65536) × (giver .0 < 65536)
+Fits (Start settings) = settings .capacity < 65536
+Fits (Version node) = NodeFits node
 Fits (Head console version) = (console .0 < 256) × (version .0 < 65536)
 Fits End = Unit {0}
 Fits Broken = ⊥
@@ -45,23 +50,23 @@ whole : (front rest : List ℕ) → ltb (length (front ++ rest)) (length front) 
 whole front rest = le-ltb (length (front ++ rest)) (length front) (simp length-append (omega arith))
 
 pub record-read : (x : Record) (rest : List ℕ) → Fits x → recordIn (recordBytes x ++ rest) ≡ x
-unfolding recordIn recordFrom recordBytes shapeOf lengthOf numberAt operandsOf
-record-read (Start capacity) rest h = simp (whole (recordBytes (Start capacity)) rest, word-back)
-record-read (Entry parent code strip operand) rest h =
-    let there = whole (recordBytes (Entry parent code strip operand)) rest in
+unfolding recordIn recordFrom shapeOf lengthOf numberAt operandsOf
+record-read (Start settings) rest h = simp (whole (recordBytes (Start settings)) rest, word-back)
+record-read (Version (Entry parent code strip operand)) rest h =
+    let there = whole (versionBytes (Entry parent code strip operand)) rest in
     simp (there, word-back (parent .0) (h .0), byte-back code (h .1), byte-back (strip .0) (h .2), word-back operand (h .3))
-record-read (Merge receiver giver) rest h =
-    simp (whole (recordBytes (Merge receiver giver)) rest, word-back (receiver .0) (h .0), word-back (giver .0) (h .1))
+record-read (Version (Merge receiver giver)) rest h =
+    simp (whole (versionBytes (Merge receiver giver)) rest, word-back (receiver .0) (h .0), word-back (giver .0) (h .1))
 record-read (Head console version) rest h =
     simp (whole (recordBytes (Head console version)) rest, byte-back (console .0) (h .0), word-back (version .0) (h .1))
 record-read End rest h = simp (whole (recordBytes End) rest)
 record-read Broken rest h = absurd h
 
 pub record-length : (x : Record) (rest : List ℕ) → Fits x → recordLength (recordBytes x ++ rest) ≡ length (recordBytes x)
-unfolding recordBytes shapeOf lengthOf
-record-length (Start capacity) rest h = refl
-record-length (Entry parent code strip operand) rest h = refl
-record-length (Merge receiver giver) rest h = refl
+unfolding shapeOf lengthOf
+record-length (Start settings) rest h = refl
+record-length (Version (Entry parent code strip operand)) rest h = refl
+record-length (Version (Merge receiver giver)) rest h = refl
 record-length (Head console version) rest h = refl
 record-length End rest h = refl
 record-length Broken rest h = absurd h
@@ -88,9 +93,9 @@ Begins : ℕ → List ℕ → Type 0
 Begins c t = (t ≡ recordBytes (recordFor c t) ++ drop (lengthOf (shapeOf c)) t) × Fits (recordFor c t)
 
 -- no other code is a record's
-pub unknown : (c : ℕ) (o : Operands) → c ≢ 0x20 → c ≢ 0x21 → c ≢ 0x22 → c ≢ 0x23 → c ≢ 0x24 → recordFrom c o ≡ Broken
+pub unknown : (c : ℕ) (o : Operands) → c ≢ startRecord → c ≢ entryRecord → c ≢ mergeRecord → c ≢ headRecord → c ≢ endRecord → recordFrom c o ≡ Broken
 unfolding recordFrom
-unknown c o n₀ n₁ n₂ n₃ n₄ = simp (ne-eqb c 0x20 n₀, ne-eqb c 0x21 n₁, ne-eqb c 0x22 n₂, ne-eqb c 0x23 n₃, ne-eqb c 0x24 n₄)
+unknown c o n₀ n₁ n₂ n₃ n₄ = simp (ne-eqb c startRecord n₀, ne-eqb c entryRecord n₁, ne-eqb c mergeRecord n₂, ne-eqb c headRecord n₃, ne-eqb c endRecord n₄)
 
 module _ (t : List ℕ) (bytes : Bytes t) where
   -- a word gives back the two bytes that it was read from
@@ -103,48 +108,48 @@ module _ (t : List ℕ) (bytes : Bytes t) where
   small : (k : ℕ) → wordAt t k < 65536
   small k = omega (arith, bytes k, bytes (k + 1))
 
-  begins-start : getD t 0 0 ≡ 0x20 → ltb (length t) 3 ≡ false → Begins 0x20 t
-  unfolding Begins recordFor recordFrom recordBytes shapeOf lengthOf numberAt operandsOf
+  begins-start : getD t 0 0 ≡ startRecord → ltb (length t) 3 ≡ false → Begins startRecord t
+  unfolding Begins recordFor recordFrom shapeOf lengthOf numberAt operandsOf
   begins-start e l = (cc (front-drop t 0 3 (ltb-false (length t) 3 l), high 1, low 1), rw l (small 1))
 
-  begins-entry : getD t 0 0 ≡ 0x21 → ltb (length t) 7 ≡ false → Begins 0x21 t
-  unfolding Begins recordFor recordFrom recordBytes shapeOf lengthOf numberAt operandsOf
+  begins-entry : getD t 0 0 ≡ entryRecord → ltb (length t) 7 ≡ false → Begins entryRecord t
+  unfolding Begins recordFor recordFrom shapeOf lengthOf numberAt operandsOf
   begins-entry e l = (
     cc (front-drop t 0 7 (ltb-false (length t) 7 l), high 1, low 1, byte-back _ (bytes 3), byte-back _ (bytes 4), high 5, low 5),
     rw l (small 1, bytes 3, bytes 4, small 5),
   )
 
-  begins-merge : getD t 0 0 ≡ 0x22 → ltb (length t) 5 ≡ false → Begins 0x22 t
-  unfolding Begins recordFor recordFrom recordBytes shapeOf lengthOf numberAt operandsOf
+  begins-merge : getD t 0 0 ≡ mergeRecord → ltb (length t) 5 ≡ false → Begins mergeRecord t
+  unfolding Begins recordFor recordFrom shapeOf lengthOf numberAt operandsOf
   begins-merge e l = (cc (front-drop t 0 5 (ltb-false (length t) 5 l), high 1, low 1, high 3, low 3), rw l (small 1, small 3))
 
-  begins-head : getD t 0 0 ≡ 0x23 → ltb (length t) 4 ≡ false → Begins 0x23 t
-  unfolding Begins recordFor recordFrom recordBytes shapeOf lengthOf numberAt operandsOf
+  begins-head : getD t 0 0 ≡ headRecord → ltb (length t) 4 ≡ false → Begins headRecord t
+  unfolding Begins recordFor recordFrom shapeOf lengthOf numberAt operandsOf
   begins-head e l = (
     cc (front-drop t 0 4 (ltb-false (length t) 4 l), byte-back _ (bytes 1), high 2, low 2),
     rw l (bytes 1, small 2),
   )
 
-  begins-end : getD t 0 0 ≡ 0x24 → ltb (length t) 1 ≡ false → Begins 0x24 t
-  unfolding Begins recordFor recordFrom recordBytes shapeOf lengthOf numberAt operandsOf
+  begins-end : getD t 0 0 ≡ endRecord → ltb (length t) 1 ≡ false → Begins endRecord t
+  unfolding Begins recordFor recordFrom shapeOf lengthOf numberAt operandsOf
   begins-end e l = (cc (front-drop t 0 1 (ltb-false (length t) 1 l)), rw l tt)
 
   begins : (c : ℕ) → getD t 0 0 ≡ c → ltb (length t) (lengthOf (shapeOf c)) ≡ false → (recordFor c t ≡ Broken → ⊥) → Begins c t
   unfolding recordFor lengthOf shapeOf
   begins c e l unbroken =
-      elim (ℕ-discrete c 0x20) [
+      elim (ℕ-discrete c startRecord) [
         | yes q ↦ rw q (begins-start (e ∙ q) (rw q at l))
         | no n₀ ↦
-            elim (ℕ-discrete c 0x21) [
+            elim (ℕ-discrete c entryRecord) [
               | yes q ↦ rw q (begins-entry (e ∙ q) (rw q at l))
               | no n₁ ↦
-                  elim (ℕ-discrete c 0x22) [
+                  elim (ℕ-discrete c mergeRecord) [
                     | yes q ↦ rw q (begins-merge (e ∙ q) (rw q at l))
                     | no n₂ ↦
-                        elim (ℕ-discrete c 0x23) [
+                        elim (ℕ-discrete c headRecord) [
                           | yes q ↦ rw q (begins-head (e ∙ q) (rw q at l))
                           | no n₃ ↦
-                              elim (ℕ-discrete c 0x24) [
+                              elim (ℕ-discrete c endRecord) [
                                 | yes q ↦ rw q (begins-end (e ∙ q) (rw q at l))
                                 | no n₄ ↦
                                     absurd (unbroken (cond-false _ _ _ l ∙ unknown c _ n₀ n₁ n₂ n₃ n₄))
@@ -154,35 +159,17 @@ module _ (t : List ℕ) (bytes : Bytes t) where
             ]
       ]
 
--- a record was there
-abbrev pub Unbroken : Record → Type 0
-Unbroken (Start capacity) = Unit {0}
-Unbroken (Entry parent code strip operand) = Unit {0}
-Unbroken (Merge receiver giver) = Unit {0}
-Unbroken (Head console version) = Unit {0}
-Unbroken End = Unit {0}
-Unbroken Broken = ⊥
-
-pub record-whole : (x : Record) (t : List ℕ) → Bytes t → recordIn t ≡ x → Unbroken x
+-- a tape begins with the bytes of the record that is read off its front, and its numbers fit
+pub record-whole : (x : Record) (t : List ℕ) → Bytes t → recordIn t ≡ x → recordRefusal x ≡ 0
     → (t ≡ recordBytes x ++ drop (recordLength t) t) × Fits x
 unfolding recordIn recordFor Begins
 record-whole x t bytes e u =
-    let unbroken : recordIn t ≡ Broken → ⊥ = λ b. subst Unbroken (sym e ∙ b) u in
+    let unbroken : recordIn t ≡ Broken → ⊥ = λ b. omega (arith, u, ap recordRefusal (sym e ∙ b)) in
     elim (decide (ltb (length t) (recordLength t))) [
       | inl s ↦ absurd (unbroken (cond-true _ _ _ s))
       | inr l ↦ rw (← e) (begins t bytes (getD t 0 0) refl l unbroken)
     ]
 
--- what is read at the front of a tape: the tape begins with its bytes
-front-bytes : (x : Record) (t : List ℕ) → Bytes t → recordIn t ≡ x → Unbroken x → take (length (recordBytes x)) t ≡ recordBytes x
-front-bytes x t bytes e u =
-    ap (take (length (recordBytes x))) (record-whole x t bytes e u .0) ∙ take-append-seam (recordBytes x) (drop (recordLength t) t)
-
-pub record-bytes : (x : Record) (t : List ℕ) → Bytes t → x ≡ recordIn t → (x ≡ recordIn t) × (take (length (recordBytes x)) t ≡ recordBytes x)
-unfolding recordBytes
-record-bytes (Start capacity) t bytes e = (e, front-bytes _ t bytes (sym e) tt)
-record-bytes (Entry parent code strip operand) t bytes e = (e, front-bytes _ t bytes (sym e) tt)
-record-bytes (Merge receiver giver) t bytes e = (e, front-bytes _ t bytes (sym e) tt)
-record-bytes (Head console version) t bytes e = (e, front-bytes _ t bytes (sym e) tt)
-record-bytes End t bytes e = (e, front-bytes _ t bytes (sym e) tt)
-record-bytes Broken t bytes e = (e, refl)
+pub record-begins : (x : Record) (t : List ℕ) → Bytes t → x ≡ recordIn t
+    → (x ≡ recordIn t) × (recordRefusal x ≡ 0 → t ≡ recordBytes x ++ drop (recordLength t) t)
+record-begins x t bytes e = (e, λ u. record-whole x t bytes (sym e) u .0)

@@ -1,7 +1,7 @@
 -- The tape of a sound room is accepted and gives back that room; an accepted tape is the tape of its room, byte for byte.
 -- Assumes nothing.
 use Prim.Native.Nat.{ℕ, _+_, _-_, _≤_, _<_}
-use mathlib.Core.Path.{_≡_, _∙_}
+use mathlib.Core.Path.{_≡_, sym, _∙_}
 use mathlib.Core.Bool.{true}
 use mathlib.Core.List.{List, [], _++_, append-assoc}
 use mathlib.Core.Option.{some}
@@ -25,10 +25,10 @@ use Rattle.tape.proofs.Reading.{read-versions, versions-long, read-all-
 
 -- what the tape of a room says
 abbrev pub contentIn : Room → Content
-contentIn r = record { capacity = r .settings .capacity; versions = r .versions; heads = headsFrom 0 (r .heads) [] }
+contentIn r = record { settings = r .settings; versions = r .versions; heads = headsFrom 0 (r .heads) [] }
 
 tape-parts : (r : Room)
-    → tapeOf r ≡ recordBytes (Start (r .settings .capacity)) ++ (versionRecords (r .versions) ++ (headRecords 0 (r .heads) ++ recordBytes End))
+    → tapeOf r ≡ recordBytes (Start (r .settings)) ++ (versionRecords (r .versions) ++ (headRecords 0 (r .heads) ++ recordBytes End))
 unfolding tapeOf
 tape-parts r = simp append-assoc
 
@@ -43,21 +43,21 @@ module _ (r : Room) (s : soundRoom r ≡ true) where
   small = omega (arith, k .fits, within-true 1 maxCapacity (r .settings .capacity) (k .capacity))
 
   read-parts : (fuel : ℕ) → length (versionRecords (r .versions)) + length (headRecords 0 (r .heads)) < fuel
-      → readOn fuel inVersions (record { capacity = r .settings .capacity; versions = []; heads = [] })
+      → readOn fuel inVersions (record { settings = r .settings; versions = []; heads = [] })
       (versionRecords (r .versions) ++ (headRecords 0 (r .heads) ++ recordBytes End))
       ≡ some (contentIn r)
   read-parts fuel enough =
       let long = versions-long (r .versions) in
       let split : fuel ≡ length (r .versions) + (fuel - length (r .versions)) = omega arith in
       rw split
-      (read-versions (r .versions) (fuel - length (r .versions)) (r .settings .capacity) _ (k .lower) (k .ranged) (omega (arith, small))
+      (read-versions (r .versions) (fuel - length (r .versions)) (r .settings) _ (k .lower) (k .ranged) (omega (arith, small))
       ∙ read-all-heads _ (r .heads) _ (omega arith) (k .first) named-heads (omega (arith, small)) (omega (arith, k .sixteen)))
 
   pub tape-content : contentOf (tapeOf r) ≡ some (contentIn r)
-  unfolding contentOf recordBytes
+  unfolding contentOf
   tape-content =
       let fits : r .settings .capacity < 65536 = omega (arith, small) in
-      rw (tape-parts, record-read (Start (r .settings .capacity)) _ fits, record-rest (Start (r .settings .capacity)) _ fits)
+      rw (tape-parts, record-read (Start (r .settings)) _ fits, record-rest (Start (r .settings)) _ fits)
       (read-parts _ (simp length-append (omega arith)))
 
   pub tape-room : roomOf (contentIn r) ≡ r
@@ -82,4 +82,4 @@ unfolding tapeOf
 tape-forth t c bytes e a =
     let range = accepted c a .range in
     let rise : consolesRise (c .heads) ≡ true = search (and-l, and-r) in
-    simp (slots-forth (c .heads) rise, tape-written t c bytes e, append-assoc)
+    tape-parts (roomOf c) ∙ rw (slots-forth (c .heads) rise) (sym (tape-written t c bytes e ∙ simp append-assoc))

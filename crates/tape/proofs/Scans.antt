@@ -1,4 +1,4 @@
--- The scan of a tape counts what reading it gives: what the scan says of the rest of a tape is what `readOn` says of it.
+-- The scan of a tape counts what reading it gives: what is left to scan, with what was counted, is what `readOn` makes of the rest.
 -- Assumes nothing.
 use Prim.Native.Nat.{ℕ, zero, suc, _+_, _-_, _≤_, _<_}
 use mathlib.Core.Path.{_≡_, refl, sym, _∙_, ap}
@@ -7,7 +7,6 @@ use mathlib.Core.Bool.{Bool, true, false, cond}
 use mathlib.Core.List.{List, []}
 use mathlib.Core.Option.{none, some}
 use native.Mathlib.Omega.{arith}
-use native.Mathlib.Numerals.{add-one}
 use lib.Dec.{eqb, ltb}
 use lib.ListN.{length, getD, drop, length-drop, drop-of-length-le}
 use lib.Seq.{drop-drop}
@@ -16,255 +15,195 @@ use Rattle.laws.proofs.Logic.{decide, bool-ext, cond-true, cond-false}
 use Rattle.command.specs.declared.Operands.{Operands}
 use Rattle.command.specs.Code.{shapeOf, lengthOf}
 use Rattle.graph.specs.declared.Node.{Node}
-use Rattle.graph.specs.Graph.{entry, merge}
+use Rattle.room.specs.declared.Settings.{Settings}
 use Rattle.tape.specs.declared.Record.{Record}
-use Rattle.tape.specs.declared.Record.the-variants.{Start, Entry, Merge, Head, End, Broken}
+use Rattle.tape.specs.declared.Record.the-variants as record-is
 use Rattle.tape.specs.declared.scan.Kind.{Kind}
-use Rattle.tape.specs.declared.scan.Kind.the-variants as kind-is
+use Rattle.tape.specs.declared.scan.Kind.the-variants.{Misplaced, Version, Head, End}
 use Rattle.tape.specs.declared.scan.Scanned.{Scanned}
-use Rattle.tape.specs.declared.scan.Scanned.the-variants as scanned-is
-use Rattle.tape.specs.Record.{recordIn, recordLength, recordFrom}
-use Rattle.tape.specs.Tape.{Content, Stage, inVersions, inHeads, goOn, finish, refuse, afterRecord, readOn, readFrom, contentOf, withVersion, withHead}
-use Rattle.tape.specs.Reader.{placeAfter, scannedOf, kindOf, scanOn}
+use Rattle.tape.specs.declared.scan.Scanned.the-variants.{Whole, Broken}
+use Rattle.tape.specs.Record.{recordIn, recordLength, recordFrom, recordRefusal}
+use Rattle.tape.specs.Tape.{Content, Stage, inVersions, inHeads, Follow, goOn, finish, refuse, afterRecord, readOn, contentOf, withVersion, withHead}
+use Rattle.tape.specs.Reader.{placeAfter, scannedOf, kindOf}
 use Rattle.tape.proofs.Records.{unknown}
-use Rattle.tape.proofs.Reading.{read-step}
+use Rattle.tape.proofs.Reading.{go, read-step}
+use Rattle.tape.proofs.Sorts.{NoStart, not-read}
 
 -- a record that is there takes at least a byte, and is there whole
-lengthless : (c : ℕ) (o : Operands) → lengthOf (shapeOf c) ≡ 0 → recordFrom c o ≡ Broken
+lengthless : (c : ℕ) (o : Operands) → lengthOf (shapeOf c) ≡ 0 → recordFrom c o ≡ record-is.Broken
 unfolding shapeOf lengthOf
 lengthless c o h =
     unknown c o (λ e. let z = rw e at h in omega arith) (λ e. let z = rw e at h in omega arith) (λ e. let z = rw e at h in omega arith)
     (λ e. let z = rw e at h in omega arith) (λ e. let z = rw e at h in omega arith)
 
 -- what the place past a record is, where a record is there
-record Past (t : List ℕ) : Type 0 where
+record Here (t : List ℕ) : Type 0 where
   whole : recordLength t ≤ length t
   long : 0 < recordLength t
 
-past : (t : List ℕ) → (recordIn t ≡ Broken → ⊥) → Past t
+here : (t : List ℕ) → recordRefusal (recordIn t) ≡ 0 → Here t
 unfolding recordIn
-past t there =
+here t there =
     elim (decide (ltb (length t) (recordLength t))) [
-      | inl s ↦ absurd (there (cond-true _ _ _ s))
+      | inl s ↦ absurd (refused (cond-true _ _ _ s))
       | inr l ↦ record {
         whole = ltb-false _ _ l;
-        long = nonzero (recordLength t) (λ z. there (cond-false _ _ _ l ∙ lengthless (getD t 0 0) _ z));
+        long = nonzero (recordLength t) (λ z. refused (cond-false _ _ _ l ∙ lengthless (getD t 0 0) _ z));
       }
     ]
   where
+    refused : recordIn t ≡ record-is.Broken → ⊥
+    refused e = omega (arith, there, ap recordRefusal e)
+
     nonzero : (n : ℕ) → (n ≡ 0 → ⊥) → 0 < n
     nonzero n h = omega arith
-
--- what the scan does not refuse
-abbrev pub Placed : Kind → Type 0
-Placed kind-is.Misplaced = ⊥
-Placed kind-is.Version = Unit {0}
-Placed kind-is.Head = Unit {0}
-Placed kind-is.End = Unit {0}
-
--- a record that the scan does not refuse is there
-there : (x : Record) (heads : ℕ) → Placed (kindOf x heads) → x ≡ Broken → ⊥
-unfolding kindOf
-there x heads h e = rw e at h
-
--- one step of the scan, by what the record at the front is to it
-module _ (k capacity versions heads : ℕ) (rest : List ℕ) where
-  scan-refused : kind-is.Misplaced ≡ kindOf (recordIn rest) heads → scanOn (suc k) capacity versions heads rest ≡ scanned-is.Broken
-  unfolding scanOn
-  scan-refused e = rw (← e, scanOn)
-
-  scan-version : kind-is.Version ≡ kindOf (recordIn rest) heads
-      → scanOn (suc k) capacity versions heads rest ≡ scanOn k capacity (suc versions) heads (drop (recordLength rest) rest)
-  unfolding scanOn
-  scan-version e = rw (← e, scanOn)
-
-  scan-head : kind-is.Head ≡ kindOf (recordIn rest) heads
-      → scanOn (suc k) capacity versions heads rest ≡ scanOn k capacity versions (suc heads) (drop (recordLength rest) rest)
-  unfolding scanOn
-  scan-head e = rw (← e, scanOn)
-
-  scan-ended : kind-is.End ≡ kindOf (recordIn rest) heads
-      → scanOn (suc k) capacity versions heads rest
-      ≡ cond (eqb (length rest) (recordLength rest)) (scanned-is.Whole capacity versions heads) scanned-is.Broken
-  unfolding scanOn
-  scan-ended e = rw (← e, scanOn)
-
--- at the end of the tape there is no record
-scan-nothing : (k capacity versions heads : ℕ) → scanOn k capacity versions heads [] ≡ scanned-is.Broken
-unfolding scanOn recordIn recordFrom shapeOf lengthOf kindOf
-scan-nothing zero capacity versions heads = refl
-scan-nothing (suc k) capacity versions heads = refl
 
 -- the stage of reading goes by whether a head was read
 abbrev Staged : Stage → Content → Type 0
 Staged inVersions t = length (t .heads) ≡ 0
 Staged inHeads t = 0 < length (t .heads)
 
--- what the scan makes of a content that was read so far and the rest
-abbrev scanFrom : ℕ → Content → List ℕ → Scanned
-scanFrom k t rest = scanOn k (t .settings .capacity) (length (t .versions)) (length (t .heads)) rest
+-- what a record is to the scan, and what reading does after it
+abbrev Agrees : Content → Record → Kind → Follow → Type 0
+Agrees t x Misplaced f = f ≡ refuse
+Agrees t x Version f = (recordRefusal x ≡ 0) × (n : Node) × (f ≡ goOn inVersions (withVersion t n)) × (length (t .heads) ≡ 0)
+Agrees t x Head f = (recordRefusal x ≡ 0) × (c : ℕ) × (v : ℕ) × (f ≡ goOn inHeads (withHead t c v))
+Agrees t x End f = (recordRefusal x ≡ 0) × (f ≡ finish)
 
-abbrev Scans : ℕ → Type 0
-Scans k = (stage : Stage) (t : Content) (rest : List ℕ) → Staged stage t → scannedOf (readOn k stage t rest) ≡ scanFrom k t rest
-
-module _ (k : ℕ) (later : Scans k) (stage : Stage) (t : Content) (rest : List ℕ) where
-  abbrev Agree : Type 0
-  Agree = scannedOf (readOn (suc k) stage t rest) ≡ scanFrom (suc k) t rest
-
-  refuses : afterRecord stage t (recordIn rest) ≡ refuse → kind-is.Misplaced ≡ kindOf (recordIn rest) (length (t .heads)) → Agree
-  refuses a e = ap scannedOf (read-step k stage t rest refuse a) ∙ sym (scan-refused k _ _ _ rest e)
-
-  finishes : afterRecord stage t (recordIn rest) ≡ finish → kind-is.End ≡ kindOf (recordIn rest) (length (t .heads)) → Agree
-  finishes a e =
-      ap scannedOf (read-step k stage t rest finish a) ∙ answer (eqb (length rest) (recordLength rest)) ∙ sym (scan-ended k _ _ _ rest e)
-    where
-      answer : (b : Bool)
-          → scannedOf (cond b (some t) none) ≡ cond b (scanned-is.Whole (t .settings .capacity) (length (t .versions)) (length (t .heads))) scanned-is.Broken
-      answer true = refl
-      answer false = refl
-
-  goes-version : (n : Node) → afterRecord stage t (recordIn rest) ≡ goOn inVersions (withVersion t n)
-      → kind-is.Version ≡ kindOf (recordIn rest) (length (t .heads)) → length (t .heads) ≡ 0 → Agree
-  goes-version n a e none-yet =
-      ap scannedOf (read-step k stage t rest (goOn inVersions (withVersion t n)) a) ∙ later inVersions (withVersion t n) _ none-yet
-      ∙ sym (scan-version k _ _ _ rest e)
-
-  goes-head : (c v : ℕ) → afterRecord stage t (recordIn rest) ≡ goOn inHeads (withHead t c v)
-      → kind-is.Head ≡ kindOf (recordIn rest) (length (t .heads)) → Agree
-  goes-head c v a e =
-      ap scannedOf (read-step k stage t rest (goOn inHeads (withHead t c v)) a) ∙ later inHeads (withHead t c v) _ (omega arith)
-      ∙ sym (scan-head k _ _ _ rest e)
-
-agrees : (k : ℕ) → Scans k → (stage : Stage) (t : Content) (rest : List ℕ) (x : Record) → recordIn rest ≡ x → Staged stage t
-    → scannedOf (readOn (suc k) stage t rest) ≡ scanFrom (suc k) t rest
+agrees : (stage : Stage) (t : Content) (x : Record) → Staged stage t → Agrees t x (kindOf x (length (t .heads))) (afterRecord stage t x)
 unfolding afterRecord kindOf
-agrees k later inVersions t rest (Start capacity) e st = refuses k later inVersions t rest (rw e) (rw e)
-agrees k later inVersions t rest (Entry parent code strip operand) e st =
-    goes-version k later inVersions t rest (entry (parent .0) code (strip .0) operand) (rw e) (rw (e, st)) st
-agrees k later inVersions t rest (Merge receiver giver) e st =
-    goes-version k later inVersions t rest (merge (receiver .0) (giver .0)) (rw e) (rw (e, st)) st
-agrees k later inVersions t rest (Head console version) e st = goes-head k later inVersions t rest (console .0) (version .0) (rw e) (rw e)
-agrees k later inVersions t rest End e st = refuses k later inVersions t rest (rw e) (rw (e, st))
-agrees k later inVersions t rest Broken e st = refuses k later inVersions t rest (rw e) (rw e)
-agrees k later inHeads t rest (Start capacity) e st = refuses k later inHeads t rest (rw e) (rw e)
-agrees k later inHeads t rest (Entry parent code strip operand) e st =
-    refuses k later inHeads t rest (rw e) (rw (e, ne-eqb (length (t .heads)) 0 (omega arith)))
-agrees k later inHeads t rest (Merge receiver giver) e st =
-    refuses k later inHeads t rest (rw e) (rw (e, ne-eqb (length (t .heads)) 0 (omega arith)))
-agrees k later inHeads t rest (Head console version) e st = goes-head k later inHeads t rest (console .0) (version .0) (rw e) (rw e)
-agrees k later inHeads t rest End e st = finishes k later inHeads t rest (rw e) (rw (e, ne-eqb (length (t .heads)) 0 (omega arith)))
-agrees k later inHeads t rest Broken e st = refuses k later inHeads t rest (rw e) (rw e)
+agrees inVersions t (record-is.Start settings) st = refl
+agrees inVersions t (record-is.Version node) st = rw (eq-eqb (length (t .heads)) 0 st) (refl, node, refl, st)
+agrees inVersions t (record-is.Head console version) st = (refl, console .0, version .0, refl)
+agrees inVersions t record-is.End st = rw (eq-eqb (length (t .heads)) 0 st)
+agrees inVersions t record-is.Broken st = refl
+agrees inHeads t (record-is.Start settings) st = refl
+agrees inHeads t (record-is.Version node) st = rw (ne-eqb (length (t .heads)) 0 (omega arith))
+agrees inHeads t (record-is.Head console version) st = (refl, console .0, version .0, refl)
+agrees inHeads t record-is.End st = rw (ne-eqb (length (t .heads)) 0 (omega arith)) (refl, refl)
+agrees inHeads t record-is.Broken st = refl
 
-scans : (k : ℕ) → Scans k
-unfolding readOn scanOn
-scans zero stage t rest st = refl
-scans (suc k) stage t rest st = agrees k (scans k) stage t rest (recordIn rest) refl st
+-- nothing is read where no byte is left
+read-nothing : (k : ℕ) (stage : Stage) (t : Content) → readOn k stage t [] ≡ none
+unfolding readOn recordIn recordFrom shapeOf lengthOf afterRecord
+read-nothing zero stage t = refl
+read-nothing (suc k) inVersions t = refl
+read-nothing (suc k) inHeads t = refl
 
--- the scan of a whole tape
-pub scan-started : (t : List ℕ) (capacity next : ℕ) (x : Record) → x ≡ recordIn t → x ≡ Start capacity → next ≡ placeAfter t 0 → (r : Scanned)
-    → r ≡ scanOn (length t) capacity 0 0 (drop next t) → r ≡ scannedOf (contentOf t)
-unfolding contentOf
-scan-started t capacity next x e start n r h =
-    let there : recordIn t ≡ Start capacity = sym e ∙ start in
-    let place : next ≡ recordLength t = n ∙ ahead t (past t (λ b. different capacity (sym there ∙ b))) in
-    h ∙ ap (λ (k : ℕ). scanOn (length t) capacity 0 0 (drop k t)) place
-    ∙ sym (scans (length t) inVersions (record { capacity = capacity; versions = []; heads = [] }) (drop (recordLength t) t) refl)
-    ∙ ap (λ (y : Record). scannedOf (readFrom (length t) (drop (recordLength t) t) y)) (sym there)
-  where
-    different : (capacity : ℕ) → Start capacity ≡ Broken → ⊥
-    different capacity d = let z : _≡_ {A = ℕ} 0 1 = cc in omega arith
+-- what is read from a place on, where nothing was read before
+abbrev pub scanFrom : List ℕ → ℕ → Settings → Scanned
+scanFrom tape start settings = scannedOf (readOn (length tape) inVersions (record { settings = settings; versions = []; heads = [] }) (drop start tape))
 
-    ahead : (t : List ℕ) → Past t → placeAfter t 0 ≡ recordLength t
-    ahead t p = rw (le-ltb (length t) (recordLength t) (p .whole)) (omega arith)
-
--- a record that does not start a tape
-abbrev pub NoStart : Record → Type 0
-NoStart (Start capacity) = ⊥
-NoStart (Entry parent code strip operand) = Unit {0}
-NoStart (Merge receiver giver) = Unit {0}
-NoStart (Head console version) = Unit {0}
-NoStart End = Unit {0}
-NoStart Broken = Unit {0}
-
-pub scan-unstarted : (t : List ℕ) (x y : Record) → x ≡ recordIn t → x ≡ y → NoStart y → scanned-is.Broken ≡ scannedOf (contentOf t)
-unfolding contentOf
-scan-unstarted t x y e f no-start = rw (← e, f) (none-read y no-start)
-  where
-    none-read : (y : Record) → NoStart y → scanned-is.Broken ≡ scannedOf (readFrom (length t) (drop (recordLength t) t) y)
-    none-read (Start capacity) n = absurd n
-    none-read (Entry parent code strip operand) n = refl
-    none-read (Merge receiver giver) n = refl
-    none-read (Head console version) n = refl
-    none-read End n = refl
-    none-read Broken n = refl
-
--- the loop: what is left to scan, with what was counted, is what was to scan at the start
-pub record Scanning (t : List ℕ) (start capacity at versions heads : ℕ) : Type 0 where
-  pub within : at ≤ length t
+-- the loop: what was counted is what some content has, and what is left to read behind that content is what was to read at the start
+pub record Scanning (tape : List ℕ) (start : ℕ) (settings : Settings) (at versions heads : ℕ) : Type 0 where
+  pub within : at ≤ length tape
   pub passed : versions + heads ≤ at
-  pub same : scanOn (length t) capacity 0 0 (drop start t) ≡ scanOn (length t - (versions + heads)) capacity versions heads (drop at t)
+  stage : Stage
+  told : Content
+  staged : Staged stage told
+  set : told .settings ≡ settings
+  versioned : length (told .versions) ≡ versions
+  headed : length (told .heads) ≡ heads
+  same : scanFrom tape start settings ≡ scannedOf (readOn (length tape - (versions + heads)) stage told (drop at tape))
 
-pub scanning-starts : (t : List ℕ) (start capacity : ℕ) → start ≤ length t → Scanning t start capacity start 0 0
-scanning-starts t start capacity h = record { within = h; passed = omega arith; same = ap (λ (k : ℕ). scanOn k capacity 0 0 (drop start t)) (omega arith) }
+pub scanning-starts : (tape : List ℕ) (start : ℕ) (settings : Settings) → start ≤ length tape → Scanning tape start settings start 0 0
+scanning-starts tape start settings h =
+    record {
+      within = h;
+      passed = omega arith;
+      stage = inVersions;
+      told = record { settings = settings; versions = []; heads = [] };
+      staged = refl;
+      set = refl;
+      versioned = refl;
+      headed = refl;
+      same = ap (λ (k : ℕ). scannedOf (readOn k inVersions (record { settings = settings; versions = []; heads = [] }) (drop start tape))) (omega arith);
+    }
 
-module _ (t : List ℕ) (start capacity at versions heads : ℕ) (i : Scanning t start capacity at versions heads) where
+module _ {tape : List ℕ} {start : ℕ} {settings : Settings} {at versions heads : ℕ} (i : Scanning tape start settings at versions heads) where
   -- no byte is left
-  pub scanning-out : length t ≤ at → scanned-is.Broken ≡ scanOn (length t) capacity 0 0 (drop start t)
-  scanning-out h = sym (i .same ∙ rw (drop-of-length-le t h) (scan-nothing _ capacity versions heads))
+  pub scanning-out : length tape ≤ at → Broken ≡ scanFrom tape start settings
+  scanning-out h = sym (i .same ∙ rw (drop-of-length-le tape h, read-nothing))
 
-  module _ (more : at < length t) (x : Record) (e : x ≡ recordIn (drop at t)) (kind : Kind) (is : kind ≡ kindOf x heads) where
-    fuel : length t - (versions + heads) ≡ suc (length t - suc (versions + heads))
-    fuel = let p = i .passed in omega arith
+  module _ (more : at < length tape) {x : Record} (e : x ≡ recordIn (drop at tape)) {kind : Kind} (is : kind ≡ kindOf x heads) where
+    abbrev rest : List ℕ
+    rest = drop at tape
 
-    sort : (found : Kind) → kind ≡ found → found ≡ kindOf (recordIn (drop at t)) heads
-    sort found told = sym told ∙ is ∙ ap (λ (y : Record). kindOf y heads) e
+    abbrev after : Follow
+    after = afterRecord (i .stage) (i .told) (recordIn rest)
 
-    step : (y : Scanned) → scanOn (suc (length t - suc (versions + heads))) capacity versions heads (drop at t) ≡ y
-        → scanOn (length t) capacity 0 0 (drop start t) ≡ y
-    step y h = i .same ∙ ap (λ (k : ℕ). scanOn k capacity versions heads (drop at t)) fuel ∙ h
+    agreed : (found : Kind) → kind ≡ found → Agrees (i .told) (recordIn rest) found after
+    agreed found k =
+        let sort : kindOf (recordIn rest) (length (i .told .heads)) ≡ found = ap (kindOf (recordIn rest)) (i .headed) ∙ ap (λ (y : Record). kindOf y heads) (sym e) ∙ sym is ∙ k in
+        rw sort at (agrees (i .stage) (i .told) (recordIn rest) (i .staged))
 
-    pub scanning-refused : kind ≡ kind-is.Misplaced → scanned-is.Broken ≡ scanOn (length t) capacity 0 0 (drop start t)
-    scanning-refused told = sym (step _ (scan-refused _ _ _ _ _ (sort _ told)))
+    step : (f : Follow) → after ≡ f → scanFrom tape start settings ≡ scannedOf (go (length tape - suc (versions + heads)) (i .told) rest f)
+    step f a =
+        let fuel : length tape - (versions + heads) ≡ suc (length tape - suc (versions + heads)) = omega (arith, i .passed) in
+        i .same ∙ ap (λ (k : ℕ). scannedOf (readOn k (i .stage) (i .told) rest)) fuel ∙ ap scannedOf (read-step _ (i .stage) (i .told) rest f a)
 
-    module _ (next : ℕ) (n : next ≡ placeAfter t at) (found : Kind) (told : kind ≡ found) (placed : Placed found) where
-      here : Past (drop at t)
-      here = past (drop at t) (there (recordIn (drop at t)) heads (rw (← sort found told) placed))
+    pub scanning-refused : kind ≡ Misplaced → Broken ≡ scanFrom tape start settings
+    scanning-refused k = sym (step refuse (agreed Misplaced k))
 
-      ahead : next ≡ at + recordLength (drop at t)
-      ahead = n ∙ rw (le-ltb (length (drop at t)) (recordLength (drop at t)) (here .whole))
-
-      pub scanning-forth : at < next
-      scanning-forth = omega (arith, ahead, here .long)
+    module _ {next : ℕ} (n : next ≡ placeAfter tape at) where
+      ahead : Here rest → next ≡ at + recordLength rest
+      ahead h = n ∙ rw (le-ltb (length rest) (recordLength rest) (h .whole))
 
       -- one record more was counted
-      goes-on : (v h : ℕ) → v + h ≡ suc (versions + heads) → next ≤ length t
-          → scanOn (suc (length t - suc (versions + heads))) capacity versions heads (drop at t)
-          ≡ scanOn (length t - suc (versions + heads)) capacity v h (drop (recordLength (drop at t)) (drop at t))
-          → Scanning t start capacity next v h
-      goes-on v h one w counted = record { within = w; passed = omega (arith, i .passed, scanning-forth); same = step _ (counted ∙ on) }
+      goes-on : next ≤ length tape → (stage : Stage) (told : Content) (v h : ℕ) → recordRefusal (recordIn rest) ≡ 0 → after ≡ goOn stage told → Staged stage told → told .settings ≡ settings
+          → length (told .versions) ≡ v → length (told .heads) ≡ h → v + h ≡ suc (versions + heads) → (at < next) × Scanning tape start settings next v h
+      goes-on w stage told v h there a staged set versioned headed one =
+          let place = ahead (here rest there) in
+          let forth : at < next = omega (arith, here rest there .long) in
+          let left : drop (recordLength rest) rest ≡ drop next tape = drop-drop (recordLength rest) at tape ∙ ap (λ (m : ℕ). drop m tape) (sym place) in (
+            forth,
+            record {
+              within = w;
+              passed = omega (arith, i .passed);
+              stage = stage;
+              told = told;
+              staged = staged;
+              set = set;
+              versioned = versioned;
+              headed = headed;
+              same = step (goOn stage told) a ∙ rw (left, one);
+            },
+          )
+
+      pub scanning-version : next ≤ length tape → kind ≡ Version → (at < next) × Scanning tape start settings next (versions + 1) heads
+      scanning-version w k =
+          let a = agreed Version k in
+          goes-on w inVersions (withVersion (i .told) (a .1)) (versions + 1) heads (a .0) (a .2) (a .3) (i .set) (omega (arith, i .versioned)) (i .headed) (omega arith)
+
+      pub scanning-head : next ≤ length tape → kind ≡ Head → (at < next) × Scanning tape start settings next versions (heads + 1)
+      scanning-head w k =
+          let a = agreed Head k in
+          goes-on w inHeads (withHead (i .told) (a .1) (a .2)) versions (heads + 1) (a .0) (a .3) (omega arith) (i .set) (i .versioned) (omega (arith, i .headed)) (omega arith)
+
+      pub scanning-ended : kind ≡ End → (y : Scanned) → y ≡ cond (eqb next (length tape)) (Whole settings versions heads) Broken → y ≡ scanFrom tape start settings
+      scanning-ended k y h =
+          let a = agreed End k in
+          let place = ahead (here rest (a .0)) in
+          let last : eqb next (length tape) ≡ eqb (length rest) (recordLength rest) =
+          bool-ext _ _ (λ p. eq-eqb (length rest) (recordLength rest) (omega (arith, eqb-true next (length tape) p, length-drop at tape)))
+          (λ p. eq-eqb next (length tape) (omega (arith, eqb-true (length rest) (recordLength rest) p, length-drop at tape, i .within)))
+          in
+          h ∙ rw (last, ← i .set, ← i .versioned, ← i .headed) (answer (eqb (length rest) (recordLength rest))) ∙ sym (step finish (a .1))
         where
-          on : scanOn (length t - suc (versions + heads)) capacity v h (drop (recordLength (drop at t)) (drop at t))
-              ≡ scanOn (length t - (v + h)) capacity v h (drop next t)
-          on =
-              let d : drop (recordLength (drop at t)) (drop at t) ≡ drop next t = drop-drop (recordLength (drop at t)) at t ∙ ap (λ (m : ℕ). drop m t) (sym ahead) in
-              cc
+          answer : (b : Bool) → cond b (scannedOf (some (i .told))) Broken ≡ scannedOf (cond b (some (i .told)) none)
+          answer true = refl
+          answer false = refl
 
-    module _ (next : ℕ) (n : next ≡ placeAfter t at) where
-      pub scanning-version : kind ≡ kind-is.Version → next ≤ length t → Scanning t start capacity next (versions + 1) heads
-      scanning-version told w = rw (add-one versions) (goes-on next n _ told tt (suc versions) heads (omega arith) w (scan-version _ _ _ _ _ (sort _ told)))
+-- the scan of a whole tape
+pub scan-started : (tape : List ℕ) {settings : Settings} {next : ℕ} {x : Record} → x ≡ recordIn tape → x ≡ record-is.Start settings → next ≡ placeAfter tape 0 → (r : Scanned)
+    → r ≡ scanFrom tape next settings → r ≡ scannedOf (contentOf tape)
+unfolding contentOf
+scan-started tape {settings} {next} e start n r h =
+    let is : recordIn tape ≡ record-is.Start settings = sym e ∙ start in
+    let there = here tape (ap recordRefusal is) in
+    let place : next ≡ recordLength tape = n ∙ rw (le-ltb (length tape) (recordLength tape) (there .whole)) (omega arith) in
+    h ∙ rw (place, is)
 
-      pub scanning-head : kind ≡ kind-is.Head → next ≤ length t → Scanning t start capacity next versions (heads + 1)
-      scanning-head told w = rw (add-one heads) (goes-on next n _ told tt versions (suc heads) (omega arith) w (scan-head _ _ _ _ _ (sort _ told)))
-
-      pub scanning-ended : kind ≡ kind-is.End → (y : Scanned)
-          → y ≡ cond (eqb next (length t)) (scanned-is.Whole capacity versions heads) scanned-is.Broken
-          → y ≡ scanOn (length t) capacity 0 0 (drop start t)
-      scanning-ended told y h =
-          h ∙ ap (λ (b : Bool). cond b (scanned-is.Whole capacity versions heads) scanned-is.Broken) last ∙ sym (step _ (scan-ended _ _ _ _ _ (sort _ told)))
-        where
-          last : eqb next (length t) ≡ eqb (length (drop at t)) (recordLength (drop at t))
-          last =
-              let place = ahead next n _ told tt in
-              bool-ext _ _
-              (λ p. eq-eqb (length (drop at t)) (recordLength (drop at t)) (omega (arith, eqb-true next (length t) p, place, length-drop at t)))
-              (λ p. eq-eqb next (length t) (omega (arith, eqb-true (length (drop at t)) (recordLength (drop at t)) p, place, length-drop at t, i .within)))
+pub scan-unstarted : (tape : List ℕ) {x : Record} → x ≡ recordIn tape → NoStart x → Broken ≡ scannedOf (contentOf tape)
+unfolding contentOf
+scan-unstarted tape {x} e no-start = ap scannedOf (not-read x no-start (length tape) (drop (recordLength tape) tape)) ∙ rw (← e)

@@ -12,20 +12,20 @@ use lib.ListN.{length, drop, drop-of-length-le}
 use lib.Seq.{getD-drop}
 use borrow.Author.Tests.{eqb-true}
 use Rattle.tape.specs.declared.Record.{Record}
-use Rattle.tape.specs.declared.Record.the-variants.{Start, Entry, Merge, Head, End, Broken}
-use Rattle.tape.specs.Record.{recordIn, recordLength, recordBytes}
-use Rattle.tape.specs.Tape.{Content, Stage, inVersions, inHeads, Next, goOn, finish, refuse, afterRecord, readOn, readFrom, contentOf, versionRecord, versionRecords}
-use Rattle.tape.proofs.Records.{Bytes, Fits, Unbroken, record-whole}
+use Rattle.tape.specs.declared.Record.the-variants.{Start, Version, Head, End, Broken}
+use Rattle.tape.specs.Record.{recordIn, recordLength, recordBytes, recordRefusal}
+use Rattle.tape.specs.Tape.{Content, Stage, inVersions, inHeads, Follow, goOn, finish, refuse, afterRecord, readOn, readFrom, contentOf, versionRecords}
+use Rattle.tape.proofs.Records.{Bytes, Fits, record-whole}
 use Rattle.tape.proofs.Heads.{headBytes}
 use Rattle.tape.proofs.Reading.{read-step}
 
 -- the records of a content
 abbrev pub written : Content → List ℕ
-written t = recordBytes (Start (t .settings .capacity)) ++ (versionRecords (t .versions) ++ headBytes (t .heads))
+written t = recordBytes (Start (t .settings)) ++ (versionRecords (t .versions) ++ headBytes (t .heads))
 
 -- the record of a head
-abbrev pub headRecord : ℕ × ℕ → Record
-headRecord h = Head (record { 0 = h .0 }) (record { 0 = h .1 })
+abbrev pub recordOfHead : ℕ × ℕ → Record
+recordOfHead h = Head (record { 0 = h .0 }) (record { 0 = h .1 })
 
 -- the numbers of all these records fit their fields
 abbrev pub AllFit : {A : Type 0} → (A → Record) → List A → Type 0
@@ -34,33 +34,31 @@ AllFit recordOf (x ∷ before) = Fits (recordOf x) × AllFit recordOf before
 
 pub record ContentFits (t : Content) : Type 0 where
   pub capacity : t .settings .capacity < 65536
-  pub versions : AllFit versionRecord (t .versions)
-  pub heads : AllFit headRecord (t .heads)
+  pub versions : AllFit Version (t .versions)
+  pub heads : AllFit recordOfHead (t .heads)
 
 -- before the first head record there is no head
-abbrev Placed : Stage → Content → Type 0
-Placed inVersions t = t .heads ≡ []
-Placed inHeads t = Unit {0}
+abbrev NoHeadYet : Stage → Content → Type 0
+NoHeadYet inVersions t = t .heads ≡ []
+NoHeadYet inHeads t = Unit {0}
 
 -- what a record makes of what was read: it is written after it, or it is the end
-abbrev Adds : Content → Record → Next → Type 0
+abbrev Adds : Content → Record → Follow → Type 0
 Adds t x (goOn next more) =
-    Unbroken x × (written more ≡ written t ++ recordBytes x) × Placed next more × (Fits x → ContentFits t → ContentFits more)
+    (recordRefusal x ≡ 0) × (written more ≡ written t ++ recordBytes x) × NoHeadYet next more × (Fits x → ContentFits t → ContentFits more)
 Adds t x finish = x ≡ End
 Adds t x refuse = Unit {0}
 
-adds : (stage : Stage) (t : Content) (x : Record) → Placed stage t → Adds t x (afterRecord stage t x)
+adds : (stage : Stage) (t : Content) (x : Record) → NoHeadYet stage t → Adds t x (afterRecord stage t x)
 unfolding afterRecord versionRecords
-adds inVersions t (Start capacity) p = tt
-adds inVersions t (Entry parent code strip operand) p = (tt, simp (p, append-assoc, append-nil), p, λ f c. record { capacity = c .capacity; versions = (f, c .versions); heads = c .heads })
-adds inVersions t (Merge receiver giver) p = (tt, simp (p, append-assoc, append-nil), p, λ f c. record { capacity = c .capacity; versions = (f, c .versions); heads = c .heads })
-adds inVersions t (Head console version) p = (tt, simp append-assoc, tt, λ f c. record { capacity = c .capacity; versions = c .versions; heads = (f, c .heads) })
+adds inVersions t (Start settings) p = tt
+adds inVersions t (Version node) p = (refl, simp (p, append-assoc, append-nil), p, λ f c. record { capacity = c .capacity; versions = (f, c .versions); heads = c .heads })
+adds inVersions t (Head console version) p = (refl, simp append-assoc, tt, λ f c. record { capacity = c .capacity; versions = c .versions; heads = (f, c .heads) })
 adds inVersions t End p = tt
 adds inVersions t Broken p = tt
-adds inHeads t (Start capacity) p = tt
-adds inHeads t (Entry parent code strip operand) p = tt
-adds inHeads t (Merge receiver giver) p = tt
-adds inHeads t (Head console version) p = (tt, simp append-assoc, tt, λ f c. record { capacity = c .capacity; versions = c .versions; heads = (f, c .heads) })
+adds inHeads t (Start settings) p = tt
+adds inHeads t (Version node) p = tt
+adds inHeads t (Head console version) p = (refl, simp append-assoc, tt, λ f c. record { capacity = c .capacity; versions = c .versions; heads = (f, c .heads) })
 adds inHeads t End p = refl
 adds inHeads t Broken p = tt
 
@@ -75,14 +73,14 @@ closed true t d e = (refl, cc)
 closed false t d e = (cc, cc)
 
 -- what was read before a place and the rest from there are together what is read in the end, and it fits where that did
-kept : (k : ℕ) (stage : Stage) (t d : Content) (rest : List ℕ) → Placed stage t → Bytes rest → readOn k stage t rest ≡ some d
+kept : (k : ℕ) (stage : Stage) (t d : Content) (rest : List ℕ) → NoHeadYet stage t → Bytes rest → readOn k stage t rest ≡ some d
     → (written t ++ rest ≡ written d ++ recordBytes End) × (ContentFits t → ContentFits d)
 unfolding readOn
 kept zero stage t d rest p bytes e = nothing-read e
 kept (suc k) stage t d rest p bytes e = at (afterRecord stage t (recordIn rest)) refl (adds stage t (recordIn rest) p) (kept k)
   where
-    at : (n : Next) → afterRecord stage t (recordIn rest) ≡ n → Adds t (recordIn rest) n
-        → ((stage : Stage) (t d : Content) (rest : List ℕ) → Placed stage t → Bytes rest → readOn k stage t rest ≡ some d
+    at : (n : Follow) → afterRecord stage t (recordIn rest) ≡ n → Adds t (recordIn rest) n
+        → ((stage : Stage) (t d : Content) (rest : List ℕ) → NoHeadYet stage t → Bytes rest → readOn k stage t rest ≡ some d
         → (written t ++ rest ≡ written d ++ recordBytes End) × (ContentFits t → ContentFits d))
         → (written t ++ rest ≡ written d ++ recordBytes End) × (ContentFits t → ContentFits d)
     at (goOn next more) q add on =
@@ -96,7 +94,7 @@ kept (suc k) stage t d rest p bytes e = at (afterRecord stage t (recordIn rest))
         (same, λ f. later .1 (add .3 (whole .1) f))
     at finish q add on =
         let last = closed (eqb (length rest) (recordLength rest)) t d (sym (read-step k stage t rest finish q) ∙ e) in
-        let whole = record-whole End rest bytes add tt .0 in
+        let whole = record-whole End rest bytes add refl .0 in
         let ends = eqb-true (length rest) (recordLength rest) (last .0) in
         let none-left = drop-of-length-le rest {i = recordLength rest} (omega arith) in
         (cc (last .1, append-nil (recordBytes End)), λ f. subst ContentFits (last .1) f)
@@ -109,15 +107,14 @@ whole-tape t c bytes e = at (recordIn t) refl e
   where
     at : (x : Record) → recordIn t ≡ x → readFrom (length t) (drop (recordLength t) t) x ≡ some c
         → (t ≡ written c ++ recordBytes End) × ContentFits c
-    at (Start capacity) q e =
-        let whole = record-whole (Start capacity) t bytes q tt in
-        let start : Content = record { capacity = capacity; versions = []; heads = [] } in
+    at (Start settings) q e =
+        let whole = record-whole (Start settings) t bytes q refl in
+        let start : Content = record { settings = settings; versions = []; heads = [] } in
         let rest = kept (length t) inVersions start c (drop (recordLength t) t) refl (bytes-drop (recordLength t) t bytes) e in (
-          cc (whole .0, rest .0, append-nil (recordBytes (Start capacity))),
+          cc (whole .0, rest .0, append-nil (recordBytes (Start settings))),
           rest .1 (record { capacity = whole .1; versions = tt; heads = tt }),
         )
-    at (Entry parent code strip operand) q e = nothing-read e
-    at (Merge receiver giver) q e = nothing-read e
+    at (Version node) q e = nothing-read e
     at (Head console version) q e = nothing-read e
     at End q e = nothing-read e
     at Broken q e = nothing-read e

@@ -7,6 +7,8 @@ use lib.Dec.{eqb, ltb}
 use lib.ListN.{length, getD, drop}
 use Rattle.graph.specs.declared.Node.{Node}
 use Rattle.graph.specs.Graph.{Graph, merge}
+use Rattle.command.specs.Code.{startRecord, headRecord, shapeOf, lengthOf}
+use Rattle.room.specs.declared.Settings.{Settings}
 use Rattle.tape.specs.declared.Record.{Record}
 use Rattle.tape.specs.declared.Record.the-variants as record-is
 use Rattle.tape.specs.declared.scan.Kind.{Kind}
@@ -19,6 +21,22 @@ use Rattle.tape.specs.Tape.{Content, versionRecords}
 -- the place past the record at a place; where no whole record stands there, the place itself
 abbrev pub placeAfter : List ℕ → ℕ → ℕ
 placeAfter t at = cond (ltb (length (drop at t)) (recordLength (drop at t))) at (at + recordLength (drop at t))
+
+-- the node of a version's record; of another, which no caller asks for, a merge of version 0 with itself
+abbrev pub nodeOn : Record → Node
+nodeOn (record-is.Start settings) = merge 0 0
+nodeOn (record-is.Version node) = node
+nodeOn (record-is.Head console version) = merge 0 0
+nodeOn record-is.End = merge 0 0
+nodeOn record-is.Broken = merge 0 0
+
+-- console and version of a head's record; of another, which no caller asks for, 0 and 0
+abbrev pub headOn : Record → ℕ × ℕ
+headOn (record-is.Start settings) = (0, 0)
+headOn (record-is.Version node) = (0, 0)
+headOn (record-is.Head console version) = (console .0, version .0)
+headOn record-is.End = (0, 0)
+headOn record-is.Broken = (0, 0)
 
 -- the first k versions after version 0 of a graph, the newest first
 abbrev pub firstVersions : ℕ → Graph → Graph
@@ -38,38 +56,37 @@ nextHead heads j = getD heads (length heads - suc j) (0, 0)
 
 -- the place of the record of version suc k
 abbrev pub versionPlace : Graph → ℕ → ℕ
-versionPlace g k = 3 + length (versionRecords (firstVersions k g))
+versionPlace g k = lengthOf (shapeOf startRecord) + length (versionRecords (firstVersions k g))
 
 -- the place of the head record number j
 abbrev pub headPlace : Content → ℕ → ℕ
-headPlace t j = versionPlace (t .versions) (length (t .versions)) + 4 * j
+headPlace t j = versionPlace (t .versions) (length (t .versions)) + lengthOf (shapeOf headRecord) * j
 
--- the scan's answer: the tape's capacity, and how many versions and heads it has, where it "is such a sequence of whole records"
+-- the scan's answer: what the room is set to, and how many versions and heads it has, where it "is such a sequence of whole records"
 abbrev pub scannedOf : Option Content → Scanned
 scannedOf none = Broken
-scannedOf (some t) = Whole (t .settings .capacity) (length (t .versions)) (length (t .heads))
+scannedOf (some t) = Whole (t .settings) (length (t .versions)) (length (t .heads))
 
 -- the paper's number for the scan's answer: 0, or "7 tape isn't such a sequence of whole records, with at least one head."
 abbrev pub scanRefusal : Scanned → ℕ
-scanRefusal (Whole capacity versions heads) = 0
+scanRefusal (Whole settings versions heads) = 0
 scanRefusal Broken = 7
 
 -- what a record is to the scan after so many heads
 unfoldable pub kindOf : Record → ℕ → Kind
-kindOf (record-is.Start capacity) heads = kind-is.Misplaced
-kindOf (record-is.Entry parent code strip operand) heads = cond (eqb heads 0) kind-is.Version kind-is.Misplaced
-kindOf (record-is.Merge receiver giver) heads = cond (eqb heads 0) kind-is.Version kind-is.Misplaced
+kindOf (record-is.Start settings) heads = kind-is.Misplaced
+kindOf (record-is.Version node) heads = cond (eqb heads 0) kind-is.Version kind-is.Misplaced
 kindOf (record-is.Head console version) heads = kind-is.Head
 kindOf record-is.End heads = cond (eqb heads 0) kind-is.Misplaced kind-is.End
 kindOf record-is.Broken heads = kind-is.Misplaced
 
 -- the scan of the rest of a tape, with so many versions and heads behind it; the first number bounds the records, as in `readOn`
-unfoldable pub scanOn : ℕ → ℕ → ℕ → ℕ → List ℕ → Scanned
-scanOn zero capacity versions heads rest = Broken
-scanOn (suc k) capacity versions heads rest =
+unfoldable pub scanOn : ℕ → Settings → ℕ → ℕ → List ℕ → Scanned
+scanOn zero settings versions heads rest = Broken
+scanOn (suc k) settings versions heads rest =
     elim (kindOf (recordIn rest) heads) [
       | kind-is.Misplaced ↦ Broken
-      | kind-is.Version ↦ scanOn k capacity (suc versions) heads (drop (recordLength rest) rest)
-      | kind-is.Head ↦ scanOn k capacity versions (suc heads) (drop (recordLength rest) rest)
-      | kind-is.End ↦ cond (eqb (length rest) (recordLength rest)) (Whole capacity versions heads) Broken
+      | kind-is.Version ↦ scanOn k settings (suc versions) heads (drop (recordLength rest) rest)
+      | kind-is.Head ↦ scanOn k settings versions (suc heads) (drop (recordLength rest) rest)
+      | kind-is.End ↦ cond (eqb (length rest) (recordLength rest)) (Whole settings versions heads) Broken
     ]

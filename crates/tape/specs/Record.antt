@@ -6,10 +6,13 @@ use mathlib.Core.List.{List, [], _∷_, _++_}
 use lib.Dec.{eqb, ltb}
 use lib.ListN.{length, getD}
 use Rattle.buffer.specs.Field.{byte, word}
+use Rattle.graph.specs.declared.Node.{Node}
+use Rattle.graph.specs.declared.Node.the-variants.{Entry, Merge}
+use Rattle.graph.specs.Graph.{entry, merge}
 use Rattle.command.specs.declared.Operands.{Operands}
-use Rattle.command.specs.Code.{shapeOf, lengthOf, operandsOf}
+use Rattle.command.specs.Code.{startRecord, entryRecord, mergeRecord, headRecord, endRecord, shapeOf, lengthOf, operandsOf}
 use Rattle.tape.specs.declared.Record.{Record}
-use Rattle.tape.specs.declared.Record.the-variants.{Start, Entry, Merge, Head, End, Broken}
+use Rattle.tape.specs.declared.Record.the-variants.{Start, Version, Head, End, Broken}
 
 -- how many bytes the record at the front takes
 abbrev pub recordLength : List ℕ → ℕ
@@ -18,11 +21,11 @@ recordLength t = lengthOf (shapeOf (getD t 0 0))
 -- the record of a code and what follows it; no other code is a record's
 unfoldable pub recordFrom : ℕ → Operands → Record
 recordFrom code o =
-    cond (eqb code 0x20) (Start (o .first))
-    (cond (eqb code 0x21) (Entry (record { 0 = o .first }) (o .second) (record { 0 = o .third }) (o .fourth))
-    (cond (eqb code 0x22) (Merge (record { 0 = o .first }) (record { 0 = o .second }))
-    (cond (eqb code 0x23) (Head (record { 0 = o .first }) (record { 0 = o .second }))
-    (cond (eqb code 0x24) End Broken))))
+    cond (eqb code startRecord) (Start (record { capacity = o .first }))
+    (cond (eqb code entryRecord) (Version (entry (o .first) (o .second) (o .third) (o .fourth)))
+    (cond (eqb code mergeRecord) (Version (merge (o .first) (o .second)))
+    (cond (eqb code headRecord) (Head (record { 0 = o .first }) (record { 0 = o .second }))
+    (cond (eqb code endRecord) End Broken))))
 
 -- the record at the front of a tape, where it is there whole
 unfoldable pub recordIn : List ℕ → Record
@@ -32,10 +35,22 @@ recordIn t =
 
 -- The paper's code and values for each record. "21: parent (16 bits), entry code 02 to 08 (8), strip (8), operand (16; ..). 22:
 -- receiver's version, giver's version (16 each). 23: console (8), version (16)."
-unfoldable pub recordBytes : Record → List ℕ
-recordBytes (Start capacity) = 0x20 ∷ word capacity
-recordBytes (Entry parent code strip operand) = 0x21 ∷ word (parent .0) ++ (byte code ∷ byte (strip .0) ∷ word operand)
-recordBytes (Merge receiver giver) = 0x22 ∷ word (receiver .0) ++ word (giver .0)
-recordBytes (Head console version) = 0x23 ∷ byte (console .0) ∷ word (version .0)
-recordBytes End = 0x24 ∷ []
+abbrev pub versionBytes : Node → List ℕ
+versionBytes (Entry parent code strip operand) =
+    entryRecord ∷ word (parent .0) ++ (byte code ∷ byte (strip .0) ∷ word operand)
+versionBytes (Merge receiver giver) = mergeRecord ∷ word (receiver .0) ++ word (giver .0)
+
+abbrev pub recordBytes : Record → List ℕ
+recordBytes (Start settings) = startRecord ∷ word (settings .capacity)
+recordBytes (Version node) = versionBytes node
+recordBytes (Head console version) = headRecord ∷ byte (console .0) ∷ word (version .0)
+recordBytes End = endRecord ∷ []
 recordBytes Broken = []
+
+-- the paper's number for each record: what is none is why a tape "isn't such a sequence of whole records", 7
+abbrev pub recordRefusal : Record → ℕ
+recordRefusal (Start settings) = 0
+recordRefusal (Version node) = 0
+recordRefusal (Head console version) = 0
+recordRefusal End = 0
+recordRefusal Broken = 7

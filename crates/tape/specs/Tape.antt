@@ -7,25 +7,20 @@ use mathlib.Core.Option.{Option, none, some}
 use lib.Dec.{eqb, leb, ltb}
 use lib.ListN.{length, drop, set, replicate}
 use Rattle.graph.specs.declared.Node.{Node}
-use Rattle.graph.specs.declared.Node.the-variants.{Entry, Merge}
-use Rattle.graph.specs.Graph.{Graph, entry, merge, versionCount, everyVersion, parentsLower}
+use Rattle.graph.specs.Graph.{Graph, versionCount, everyVersion, parentsLower}
 use Rattle.refusal.specs.Refusal.{_when_, firstRefusal}
 use Rattle.command.specs.Code.{consoleCount, isConsole}
 use Rattle.room.specs.Room.{Room}
-use Rattle.room.specs.Sound.{isCapacity, entryInRange, soundRoom}
+use Rattle.room.specs.declared.Settings.{Settings}
+use Rattle.room.specs.Sound.{settingsInRange, entryInRange, soundRoom}
 use Rattle.tape.specs.declared.Record.{Record}
-use Rattle.tape.specs.declared.Record.the-variants.{Start, Entry, Merge, Head, End, Broken}
-use Rattle.tape.specs.Record.{recordIn, recordLength, recordBytes}
+use Rattle.tape.specs.declared.Record.the-variants.{Start, Version, Head, End, Broken}
+use Rattle.tape.specs.Record.{recordIn, recordLength, versionBytes, recordBytes}
 
--- The tape of a room.
-abbrev pub versionRecord : Node → Record
-versionRecord (Entry p code strip operand) = Entry (record { 0 = (p .0) }) code (record { 0 = (strip .0) }) operand
-versionRecord (Merge p q) = Merge (record { 0 = (p .0) }) (record { 0 = (q .0) })
-
--- "one record per version from 1 upward"
+-- The tape of a room: "one record per version from 1 upward"
 unfoldable pub versionRecords : Graph → List ℕ
 versionRecords [] = []
-versionRecords (n ∷ g) = versionRecords g ++ recordBytes (versionRecord n)
+versionRecords (n ∷ g) = versionRecords g ++ versionBytes n
 
 -- "one head record per present console, consoles rising", from console c on
 unfoldable pub headRecords : ℕ → List (Option ℕ) → List ℕ
@@ -35,42 +30,40 @@ headRecords c (some v ∷ later) = recordBytes (Head (record { 0 = c }) (record 
 
 unfoldable pub tapeOf : Room → List ℕ
 tapeOf r =
-    recordBytes (Start (r .settings .capacity)) ++ versionRecords (r .versions) ++ headRecords 0 (r .heads) ++ recordBytes End
+    recordBytes (Start (r .settings)) ++ versionRecords (r .versions) ++ headRecords 0 (r .heads) ++ recordBytes End
 
 -- The grammar: what was read so far, the newest version and the last head first.
 pub record Content : Type 0 where
-  pub capacity : ℕ
+  pub settings : Settings
   pub versions : Graph
   -- console and version of each head record
   pub heads : List (ℕ × ℕ)
 
 abbrev pub withVersion : Content → Node → Content
-withVersion t n = record { capacity = t .settings .capacity; versions = n ∷ t .versions; heads = t .heads }
+withVersion t n = record { settings = t .settings; versions = n ∷ t .versions; heads = t .heads }
 
 abbrev pub withHead : Content → ℕ → ℕ → Content
-withHead t c v = record { capacity = t .settings .capacity; versions = t .versions; heads = (c, v) ∷ t .heads }
+withHead t c v = record { settings = t .settings; versions = t .versions; heads = (c, v) ∷ t .heads }
 
 -- what may follow: versions or the first head; further heads or the end
 pub data Stage : Type 0 where
   inVersions : Stage
   inHeads : Stage
 
-pub data Next : Type 0 where
-  goOn : Stage → Content → Next
-  finish : Next
-  refuse : Next
+-- what reading does after a record
+pub data Follow : Type 0 where
+  goOn : Stage → Content → Follow
+  finish : Follow
+  refuse : Follow
 
-unfoldable pub afterRecord : Stage → Content → Record → Next
-afterRecord inVersions t (Start capacity) = refuse
-afterRecord inVersions t (Entry parent code strip operand) =
-    goOn inVersions (withVersion t (entry (parent .0) code (strip .0) operand))
-afterRecord inVersions t (Merge receiver giver) = goOn inVersions (withVersion t (merge (receiver .0) (giver .0)))
+unfoldable pub afterRecord : Stage → Content → Record → Follow
+afterRecord inVersions t (Start settings) = refuse
+afterRecord inVersions t (Version node) = goOn inVersions (withVersion t node)
 afterRecord inVersions t (Head console version) = goOn inHeads (withHead t (console .0) (version .0))
 afterRecord inVersions t End = refuse
 afterRecord inVersions t Broken = refuse
-afterRecord inHeads t (Start capacity) = refuse
-afterRecord inHeads t (Entry parent code strip operand) = refuse
-afterRecord inHeads t (Merge receiver giver) = refuse
+afterRecord inHeads t (Start settings) = refuse
+afterRecord inHeads t (Version node) = refuse
 afterRecord inHeads t (Head console version) = goOn inHeads (withHead t (console .0) (version .0))
 afterRecord inHeads t End = finish
 afterRecord inHeads t Broken = refuse
@@ -87,9 +80,8 @@ readOn (suc k) stage t rest =
     ]
 
 abbrev pub readFrom : ℕ → List ℕ → Record → Option Content
-readFrom k rest (Start capacity) = readOn k inVersions (record { capacity = capacity; versions = []; heads = [] }) rest
-readFrom k rest (Entry parent code strip operand) = none
-readFrom k rest (Merge receiver giver) = none
+readFrom k rest (Start settings) = readOn k inVersions (record { settings = settings; versions = []; heads = [] }) rest
+readFrom k rest (Version node) = none
 readFrom k rest (Head console version) = none
 readFrom k rest End = none
 readFrom k rest Broken = none
@@ -104,7 +96,7 @@ headSlots [] = replicate consoleCount none
 headSlots (h ∷ before) = set (headSlots before) (h .0) (some (h .1))
 
 abbrev pub roomOf : Content → Room
-roomOf t = record { capacity = t .settings .capacity; versions = t .versions; heads = headSlots (t .heads) }
+roomOf t = record { settings = t .settings; versions = t .versions; heads = headSlots (t .heads) }
 
 -- "the first console not 0, a console not above the one before it or above 15"
 unfoldable pub consolesRise : List (ℕ × ℕ) → Bool
@@ -130,12 +122,15 @@ inRange t =
 -- "8 capacity outside 1 to 1,024.", 9, "10 the tape's versions and heads give no sound store."
 abbrev pub contentTests : Content → List (ℕ × Bool)
 contentTests t =
-    8 when not (isCapacity (t .settings .capacity))
+    8 when not (settingsInRange (t .settings))
     ∷ 9 when not (inRange t)
     ∷ 10 when not (soundRoom (roomOf t))
     ∷ []
 
--- "7 tape isn't such a sequence of whole records, with at least one head."
+-- "7 tape isn't such a sequence of whole records, with at least one head.", and 8 to 10 of one that is
+abbrev pub tapeTests : Option Content → List (ℕ × Bool)
+tapeTests none = 7 when true ∷ []
+tapeTests (some t) = contentTests t
+
 unfoldable pub contentRefusal : Option Content → ℕ
-contentRefusal none = 7
-contentRefusal (some t) = firstRefusal (contentTests t)
+contentRefusal o = firstRefusal (tapeTests o)

@@ -1,18 +1,20 @@
 // The grammar of tapes: whether a tape is a sequence of whole records that may follow each other, and how many of them it has.
 use crate::Record;
-use crate::reader::read_at;
+use crate::place::read_at;
+use room::Settings;
 ghost use mathlib.Core.Path.{_≡_};
 ghost use mathlib.Core.Bool.{cond};
+ghost use mathlib.Core.List.{[]};
 ghost use Prim.Native.Nat.{_≤_};
 ghost use lib.Dec.{eqb};
 ghost use lib.ListN.{length, drop};
-ghost use Rattle.tape.specs.Tape.{contentOf};
-ghost use Rattle.tape.specs.Reader.{scannedOf, scanRefusal, kindOf, scanOn};
+ghost use Rattle.tape.specs.Tape.{contentOf, inVersions, readOn};
+ghost use Rattle.tape.specs.Reader.{scannedOf, scanRefusal, kindOf};
 
-// A tape is whole, with its capacity and how many versions and heads it has, or it is refused with 7.
+// A tape is whole, with what the room is set to and how many versions and heads it has, or it is refused with 7.
 pub enum Scanned {
     Whole {
-        capacity: usize,
+        settings: Settings,
         versions: usize,
         heads: usize,
     },
@@ -42,33 +44,23 @@ fn kind_of(x: Record, heads: usize) -> Kind
     ensures { λ r. ⌜ r ≡ kindOf x heads ⌝ }
 {
     match x {
-        Record::Start { capacity: _ } => Kind::Misplaced,
-        Record::Entry {
-            parent: _,
-            code: _,
-            strip: _,
-            operand: _,
-        } => by_heads(heads, Kind::Version, Kind::Misplaced),
-        Record::Merge {
-            receiver: _,
-            giver: _,
-        } => by_heads(heads, Kind::Version, Kind::Misplaced),
+        Record::Version { node: _ } => by_heads(heads, Kind::Version, Kind::Misplaced),
         Record::Head {
             console: _,
             version: _,
         } => Kind::Head,
         Record::End => by_heads(heads, Kind::Misplaced, Kind::End),
-        Record::Broken => Kind::Misplaced,
+        Record::Start { settings: _ } | Record::Broken => Kind::Misplaced,
     }
 }
 
 // The answer at the end record, by whether it is the last byte.
-fn scan_end(last: bool, capacity: usize, versions: usize, heads: usize) -> Scanned
-    ensures { λ r. ⌜ r ≡ cond last (Scanned.Whole capacity versions heads) Scanned.Broken ⌝ }
+fn scan_end(last: bool, settings: Settings, versions: usize, heads: usize) -> Scanned
+    ensures { λ r. ⌜ r ≡ cond last (Scanned.Whole settings versions heads) Scanned.Broken ⌝ }
 {
     if last {
         return Scanned::Whole {
-            capacity,
+            settings,
             versions,
             heads,
         };
@@ -76,19 +68,19 @@ fn scan_end(last: bool, capacity: usize, versions: usize, heads: usize) -> Scann
     Scanned::Broken
 }
 
-// The scan from the first record behind the capacity on.
-fn scan_on(tape: &[u8], start: usize, capacity: usize) -> Scanned
+// The scan from the first record behind the start on.
+fn scan_on(tape: &[u8], start: usize, settings: Settings) -> Scanned
     requires { ⌜ start ≤ length (now tape) ⌝ }
-    ensures { λ r. ⌜ r ≡ scanOn (length (now (tape .entry))) capacity 0 0 (drop start (now (tape .entry))) ⌝ }
+    ensures { λ r. ⌜ r ≡ scannedOf (readOn (length (now (tape .entry))) inVersions (record { settings = settings; versions = []; heads = [] }) (drop start (now (tape .entry)))) ⌝ }
 {
     let mut at = start;
     let mut versions: usize = 0;
     let mut heads: usize = 0;
     while at < tape.len() {
         let taken = read_at(tape, at);
-        let found = taken.record;
+        let found = taken.found;
         let kind = kind_of(found, heads);
-        at = taken.next.at;
+        at = taken.next;
         match kind {
             Kind::Misplaced => {
                 return Scanned::Broken;
@@ -100,7 +92,7 @@ fn scan_on(tape: &[u8], start: usize, capacity: usize) -> Scanned
                 heads = heads + 1;
             }
             Kind::End => {
-                return scan_end(at == tape.len(), capacity, versions, heads);
+                return scan_end(at == tape.len(), settings, versions, heads);
             }
         }
     }
@@ -112,27 +104,11 @@ pub fn scan(tape: &[u8]) -> Scanned
     ensures { λ r. ⌜ r ≡ scannedOf (contentOf (now (tape .entry))) ⌝ }
 {
     let taken = read_at(tape, 0);
-    let found = taken.record;
-    let past = taken.next.at;
-    match found {
-        Record::Start { capacity } => scan_on(tape, past, capacity),
-        Record::Entry {
-            parent: _,
-            code: _,
-            strip: _,
-            operand: _,
-        } => Scanned::Broken,
-        Record::Merge {
-            receiver: _,
-            giver: _,
-        } => Scanned::Broken,
-        Record::Head {
-            console: _,
-            version: _,
-        } => Scanned::Broken,
-        Record::End => Scanned::Broken,
-        Record::Broken => Scanned::Broken,
-    }
+    let found = taken.found;
+    let Record::Start { settings } = found else {
+        return Scanned::Broken;
+    };
+    scan_on(tape, taken.next, settings)
 }
 
 // The number of the scan's answer: 0 for a whole tape, else its refusal.
@@ -141,7 +117,7 @@ pub fn scan_refusal(x: Scanned) -> u32
 {
     match x {
         Scanned::Whole {
-            capacity: _,
+            settings: _,
             versions: _,
             heads: _,
         } => 0,

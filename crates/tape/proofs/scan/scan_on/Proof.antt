@@ -1,18 +1,18 @@
--- `tape::scan::scan_on` meets its contract. The loop's invariant: what is left to scan, with what was counted, is what was to scan at the start. The measure is what is left of the tape.
+-- `tape::scan::scan_on` meets its contract. The loop's invariant is `Scanning`, the measure what is left of the tape.
 -- Assumes nothing.
 use Prim.Native.Nat.{_-_}
 use native.Mathlib.Omega.{arith}
 use borrow.Author.Needs.{needs}
 use lib.ListN.{length}
-use Rattle.tape.proofs.Scans.{Scanning, scanning-starts, scanning-out, scanning-refused, scanning-forth, scanning-version, scanning-head, scanning-ended}
+use Rattle.tape.proofs.Scans.{Scanning, scanning-starts, scanning-out, scanning-refused, scanning-version, scanning-head, scanning-ended}
 use Rattle.tape.proofs.scan.scan_on.Statement.{statement}
 use Rattle.tape.proofs.scan.scan_on.Tie as tie
 
 abbrev Inv-loop : tie.InvT-loop
-Inv-loop tape start capacity at₀ versions₀ heads₀ at versions heads = Scanning tape start capacity at versions heads
+Inv-loop tape start settings at₀ versions₀ heads₀ at versions heads = Scanning tape start settings at versions heads
 
 abbrev μ-loop : tie.MeasureT-loop
-μ-loop tape start capacity at₀ versions₀ heads₀ at versions heads = length tape - at
+μ-loop tape start settings at₀ versions₀ heads₀ at versions heads = length tape - at
 
 loop-holds : tie.Need-loop-holds Inv-loop μ-loop
 loop-holds c = scanning-starts _ _ _ (omega arith)
@@ -30,7 +30,7 @@ returns : tie.Need-returns Inv-loop μ-loop
 returns c =
     let k = c .before .before in
     let r = k .before in
-    scanning-refused _ _ _ _ _ _ (r .before .before .loop .inv) (r .before .loop-test .taken) _ (r .read-at .ensures .0) _ (k .kind-of .ensures) (c .enum-told .given .1)
+    scanning-refused (r .before .before .loop .inv) (r .before .loop-test .taken) (r .read-at .ensures .0) (k .kind-of .ensures) (c .enum-told .given .1)
 
 enum-told-2 : tie.Need-enum-told-2 Inv-loop μ-loop
 enum-told-2 c = search needs
@@ -42,15 +42,14 @@ loop-less : tie.Need-loop-less Inv-loop μ-loop
 loop-less c =
     let k = c .before .before in
     let r = k .before in
-    let forth = scanning-forth _ _ _ _ _ _ (r .before .before .loop .inv) (r .before .loop-test .taken) _ (r .read-at .ensures .0) _ (k .kind-of .ensures) _ (r .read-at .ensures .1) _ (c .enum-told2 .given .1) tt in
-    omega arith
+    let on = scanning-version (r .before .before .loop .inv) (r .before .loop-test .taken) (r .read-at .ensures .0) (k .kind-of .ensures) (r .read-at .ensures .1) (r .read-at .ensures .2) (c .enum-told2 .given .1) in
+    omega (arith, on .0)
 
 loop-again : tie.Need-loop-again Inv-loop μ-loop
 loop-again c =
     let k = c .before .before in
     let r = k .before in
-    scanning-version _ _ _ _ _ _ (r .before .before .loop .inv) (r .before .loop-test .taken) _ (r .read-at .ensures .0) _ (k .kind-of .ensures) _ (r .read-at .ensures .1)
-    (c .enum-told2 .given .1) (r .read-at .ensures .2)
+    scanning-version (r .before .before .loop .inv) (r .before .loop-test .taken) (r .read-at .ensures .0) (k .kind-of .ensures) (r .read-at .ensures .1) (r .read-at .ensures .2) (c .enum-told2 .given .1) .1
 
 enum-told-3 : tie.Need-enum-told-3 Inv-loop μ-loop
 enum-told-3 c = search needs
@@ -62,15 +61,14 @@ loop-less-2 : tie.Need-loop-less-2 Inv-loop μ-loop
 loop-less-2 c =
     let k = c .before .before in
     let r = k .before in
-    let forth = scanning-forth _ _ _ _ _ _ (r .before .before .loop .inv) (r .before .loop-test .taken) _ (r .read-at .ensures .0) _ (k .kind-of .ensures) _ (r .read-at .ensures .1) _ (c .enum-told3 .given .1) tt in
-    omega arith
+    let on = scanning-head (r .before .before .loop .inv) (r .before .loop-test .taken) (r .read-at .ensures .0) (k .kind-of .ensures) (r .read-at .ensures .1) (r .read-at .ensures .2) (c .enum-told3 .given .1) in
+    omega (arith, on .0)
 
 loop-again-2 : tie.Need-loop-again-2 Inv-loop μ-loop
 loop-again-2 c =
     let k = c .before .before in
     let r = k .before in
-    scanning-head _ _ _ _ _ _ (r .before .before .loop .inv) (r .before .loop-test .taken) _ (r .read-at .ensures .0) _ (k .kind-of .ensures) _ (r .read-at .ensures .1)
-    (c .enum-told3 .given .1) (r .read-at .ensures .2)
+    scanning-head (r .before .before .loop .inv) (r .before .loop-test .taken) (r .read-at .ensures .0) (k .kind-of .ensures) (r .read-at .ensures .1) (r .read-at .ensures .2) (c .enum-told3 .given .1) .1
 
 enum-told-4 : tie.Need-enum-told-4 Inv-loop μ-loop
 enum-told-4 c = search needs
@@ -82,11 +80,10 @@ returns-2 : tie.Need-returns-2 Inv-loop μ-loop
 returns-2 c =
     let k = c .before .before .before in
     let r = k .before in
-    scanning-ended _ _ _ _ _ _ (r .before .before .loop .inv) (r .before .loop-test .taken) _ (r .read-at .ensures .0) _ (k .kind-of .ensures) _ (r .read-at .ensures .1)
-    (c .before .enum-told4 .given .1) _ (c .scan-end .ensures)
+    scanning-ended (r .before .before .loop .inv) (r .before .loop-test .taken) (r .read-at .ensures .0) (k .kind-of .ensures) (r .read-at .ensures .1) (c .before .enum-told4 .given .1) _ (c .scan-end .ensures)
 
 returns-3 : tie.Need-returns-3 Inv-loop μ-loop
-returns-3 c = scanning-out _ _ _ _ _ _ (c .before .loop .inv) (c .loop-test .left)
+returns-3 c = scanning-out (c .before .loop .inv) (c .loop-test .left)
 
 pub scan-on-spec : {M : Type 1} → statement M
 scan-on-spec =

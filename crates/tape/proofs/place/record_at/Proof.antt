@@ -1,10 +1,10 @@
--- `tape::reader::take_at` meets its contract.
+-- `tape::place::record_at` meets its contract.
 -- Assumes nothing.
 use native.Mathlib.Omega.{arith}
 use Rattle.laws.proofs.Lists.{rest-all}
 use borrow.Author.Needs.{needs}
-use Rattle.tape.proofs.reader.take_at.Statement.{statement}
-use Rattle.tape.proofs.reader.take_at.Tie as tie
+use Rattle.tape.proofs.place.record_at.Statement.{statement}
+use Rattle.tape.proofs.place.record_at.Tie as tie
 
 sub-record-in : tie.Need-sub-record-in
 sub-record-in c = omega arith
@@ -18,19 +18,15 @@ part-record-in-end c = omega arith
 record-in-requires : tie.Need-record-in-requires
 record-in-requires c κs = search needs
 
-next-at-requires : tie.Need-next-at-requires
-next-at-requires c κs = omega arith
-
 returns : tie.Need-returns
-returns c = (rw (rest-all _ _) at (c .before .record-in .ensures .0), c .next-at .ensures .0, c .next-at .ensures .1)
+returns c = rw (rest-all _ _) at (c .record-in .ensures .0)
 
-pub take-at-spec : {M : Type 1} → statement M
-take-at-spec =
+pub record-at-spec : {M : Type 1} → statement M
+record-at-spec =
     tie.close
     (tie.spec
     sub-record-in
     part-record-in-start
     part-record-in-end
     record-in-requires
-    next-at-requires
     returns)

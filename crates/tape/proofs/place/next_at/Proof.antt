@@ -1,10 +1,10 @@
--- `tape::reader::next_at` meets its contract.
+-- `tape::place::next_at` meets its contract.
 -- Assumes nothing.
 use native.Mathlib.Omega.{arith}
 use Rattle.tape.proofs.Places.{place-stays, place-moves}
 use borrow.Author.Needs.{needs}
-use Rattle.tape.proofs.reader.next_at.Statement.{statement}
-use Rattle.tape.proofs.reader.next_at.Tie as tie
+use Rattle.tape.proofs.place.next_at.Statement.{statement}
+use Rattle.tape.proofs.place.next_at.Tie as tie
 
 sub-rest : tie.Need-sub-rest
 sub-rest c = omega arith
@@ -21,8 +21,8 @@ record-length-requires c κs = search needs
 returns : tie.Need-returns
 returns c = place-stays _ _ (omega arith) _ (c .before .record-length .ensures) (omega arith)
 
-add-result : tie.Need-add-result
-add-result c = omega arith
+add-t7 : tie.Need-add-t7
+add-t7 c = omega arith
 
 returns-2 : tie.Need-returns-2
 returns-2 c = place-moves _ _ (omega arith) _ (c .before .record-length .ensures) (omega arith)
@@ -36,5 +36,5 @@ next-at-spec =
     part-rest-end
     record-length-requires
     returns
-    add-result
+    add-t7
     returns-2)

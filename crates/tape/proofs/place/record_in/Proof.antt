@@ -1,16 +1,16 @@
--- `tape::reader::record_in` meets its contract.
+-- `tape::place::record_in` meets its contract.
 -- Assumes nothing.
 use native.Mathlib.Omega.{arith}
 use Rattle.command.proofs.Shapes.{narrow-shape}
-use Rattle.tape.proofs.Records.{record-bytes}
+use Rattle.tape.proofs.Records.{record-begins}
 use Rattle.tape.proofs.Places.{record-empty, record-short, record-found}
-use Rattle.tape.proofs.reader.record_in.Statement.{statement}
-use Rattle.tape.proofs.reader.record_in.Tie as tie
+use Rattle.tape.proofs.place.record_in.Statement.{statement}
+use Rattle.tape.proofs.place.record_in.Tie as tie
 
 returns : tie.Need-returns
 returns c =
     let known = c .before in
-    record-bytes _ _ (λ i. known .shared-slice-known .given i .fits) (record-empty _ (c .if1 .taken))
+    record-begins _ _ (λ i. known .shared-slice-known .given i .fits) (record-empty _ (c .if1 .taken))
 
 shared-slice-read-wide : tie.Need-shared-slice-read-wide
 shared-slice-read-wide c = omega arith
@@ -28,7 +28,7 @@ returns-2 : tie.Need-returns-2
 returns-2 c =
     let read = c .before .before .before in
     let known = read .before .before .before in
-    record-bytes _ _ (λ i. known .shared-slice-known .given i .fits)
+    record-begins _ _ (λ i. known .shared-slice-known .given i .fits)
     (record-short _ _ (read .wide .ensures .0) _ (c .before .before .widths-of .ensures) _ (c .before .length-of .ensures) (c .if2 .taken))
 
 operands-of-requires : tie.Need-operands-of-requires
@@ -42,7 +42,7 @@ returns-3 c =
     let passed = c .before .before in
     let read = passed .before .before .before in
     let known = read .before .before .before in
-    record-bytes _ _ (λ i. known .shared-slice-known .given i .fits)
+    record-begins _ _ (λ i. known .shared-slice-known .given i .fits)
     (record-found _ _ (read .wide .ensures .0) _ (passed .before .before .widths-of .ensures) _ (passed .before .length-of .ensures) (passed .if2 .left) _ (c .before .operands-of .ensures) _ (c .record-from .ensures))
 
 pub record-in-spec : {M : Type 1} → statement M

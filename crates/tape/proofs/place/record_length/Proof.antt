@@ -1,10 +1,10 @@
--- `tape::reader::record_length` meets its contract.
+-- `tape::place::record_length` meets its contract.
 -- Assumes nothing.
 use native.Mathlib.Omega.{arith}
 use Rattle.command.proofs.Shapes.{narrow-shape}
 use Rattle.tape.proofs.Places.{length-empty, length-found}
-use Rattle.tape.proofs.reader.record_length.Statement.{statement}
-use Rattle.tape.proofs.reader.record_length.Tie as tie
+use Rattle.tape.proofs.place.record_length.Statement.{statement}
+use Rattle.tape.proofs.place.record_length.Tie as tie
 
 returns : tie.Need-returns
 returns c = length-empty (c .before .before .args .t .now) (c .if1 .taken)

@@ -1,11 +1,11 @@
--- `tape::reader::record_from` meets its contract.
+-- `tape::place::record_from` meets its contract.
 -- Assumes nothing.
 use mathlib.Core.Path.{sym}
 use native.Mathlib.Omega.{arith}
 use Rattle.tape.specs.Record.{recordFrom}
 use Rattle.tape.proofs.Records.{unknown}
-use Rattle.tape.proofs.reader.record_from.Statement.{statement}
-use Rattle.tape.proofs.reader.record_from.Tie as tie
+use Rattle.tape.proofs.place.record_from.Statement.{statement}
+use Rattle.tape.proofs.place.record_from.Tie as tie
 
 returns : tie.Need-returns
 unfolding recordFrom

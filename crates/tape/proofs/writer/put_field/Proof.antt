@@ -1,0 +1,25 @@
+-- `tape::writer::put_field` meets its contract.
+-- Assumes nothing.
+use mathlib.Core.Path.{refl, _∙_}
+use native.Mathlib.Omega.{arith}
+use Rattle.tape.proofs.Grown.{word-part}
+use Rattle.tape.proofs.writer.put_field.Statement.{statement}
+use Rattle.tape.proofs.writer.put_field.Tie as tie
+
+put-word-requires : tie.Need-put-word-requires
+put-word-requires c κs = omega arith
+
+add-result : tie.Need-add-result
+add-result c = omega arith
+
+same-length : tie.Need-same-length
+same-length c = omega arith
+
+returns : tie.Need-returns
+returns c =
+    let call = c .before .before in
+    let start = call .before .before .before in
+    (refl, call .put-word .ensures ∙ word-part (start .args .tape .now) (start .args .at) (start .args .x) (start .pre))
+
+pub put-field-spec : {M : Type 1} → statement M
+put-field-spec = tie.close (tie.spec put-word-requires add-result same-length returns)

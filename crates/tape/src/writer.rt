@@ -1,0 +1,130 @@
+// Records of the tape, each written at a place of a buffer that has room for it there; a writer says where its record ends.
+use crate::ENTRY_LENGTH;
+use crate::MERGE_LENGTH;
+use buffer::put_word;
+use command::codes::END_RECORD;
+use command::codes::ENTRY_RECORD;
+use command::codes::HEAD_RECORD;
+use command::codes::MERGE_RECORD;
+use command::codes::START_RECORD;
+use graph::Console;
+use graph::Node;
+use graph::Strip;
+use graph::Version;
+use room::Settings;
+ghost use mathlib.Core.Path.{_≡_};
+ghost use mathlib.Core.List.{[], _∷_};
+ghost use Prim.Native.Nat.{_+_, _<_, _≤_};
+ghost use lib.ListN.{length};
+ghost use Rattle.buffer.specs.Field.{byte, word, withPart};
+ghost use Rattle.graph.specs.declared.Node.the-variants.{Entry, Merge};
+ghost use Rattle.tape.specs.declared.Record.the-variants.{Start, Head, End};
+ghost use Rattle.tape.specs.Record.{versionBytes, recordBytes};
+
+// Writes a number's 8 bits at a place, and says where they end.
+fn put_byte(tape: &mut [u8], at: usize, x: usize) -> usize
+    requires { ⌜ at < length (now tape) ⌝ }
+    ensures { λ r. ⌜ (r ≡ at + 1) × (now (tape .exit) ≡ withPart (now (tape .entry)) at (byte x ∷ [])) ⌝ }
+{
+    tape[at] = (x % 256) as u8;
+    at + 1
+}
+
+// Writes a number's 16 bits at a place, and says where they end.
+fn put_field(tape: &mut [u8], at: usize, x: usize) -> usize
+    requires { ⌜ at + 1 < length (now tape) ⌝ }
+    ensures { λ r. ⌜ (r ≡ at + 2) × (now (tape .exit) ≡ withPart (now (tape .entry)) at (word x)) ⌝ }
+{
+    put_word(tape, at, x);
+    at + 2
+}
+
+// Writes the record that every tape begins with, at its front.
+pub fn put_start(tape: &mut [u8], settings: Settings) -> usize
+    requires { ⌜ length (recordBytes (Start settings)) ≤ length (now tape) ⌝ }
+    ensures { λ r. ⌜ (r ≡ length (recordBytes (Start settings))) × (now (tape .exit) ≡ withPart (now (tape .entry)) 0 (recordBytes (Start settings))) ⌝ }
+{
+    let coded = put_byte(tape, 0, START_RECORD);
+    put_field(tape, coded, settings.capacity)
+}
+
+// Writes the record of an entry at a place.
+fn put_entry(
+    tape: &mut [u8],
+    at: usize,
+    parent: Version,
+    code: usize,
+    strip: Strip,
+    operand: usize,
+) -> usize
+    requires { ⌜ at + length (versionBytes (Entry parent code strip operand)) ≤ length (now tape) ⌝ }
+    ensures { λ r. ⌜ (r ≡ at + length (versionBytes (Entry parent code strip operand))) × (now (tape .exit) ≡ withPart (now (tape .entry)) at (versionBytes (Entry parent code strip operand))) ⌝ }
+{
+    let coded = put_byte(tape, at, ENTRY_RECORD);
+    let second = put_field(tape, coded, parent.0);
+    let third = put_byte(tape, second, code);
+    let fourth = put_byte(tape, third, strip.0);
+    put_field(tape, fourth, operand)
+}
+
+// Writes the record of a merge at a place.
+fn put_merge(tape: &mut [u8], at: usize, receiver: Version, giver: Version) -> usize
+    requires { ⌜ at + length (versionBytes (Merge receiver giver)) ≤ length (now tape) ⌝ }
+    ensures { λ r. ⌜ (r ≡ at + length (versionBytes (Merge receiver giver))) × (now (tape .exit) ≡ withPart (now (tape .entry)) at (versionBytes (Merge receiver giver))) ⌝ }
+{
+    let coded = put_byte(tape, at, MERGE_RECORD);
+    let second = put_field(tape, coded, receiver.0);
+    put_field(tape, second, giver.0)
+}
+
+// How many bytes the record of a version takes.
+pub fn version_length(node: Node) -> usize
+    ensures { λ r. ⌜ (r ≡ length (versionBytes node)) × (r ≤ 7) ⌝ }
+{
+    match node {
+        Node::Entry {
+            parent: _,
+            code: _,
+            strip: _,
+            operand: _,
+        } => ENTRY_LENGTH,
+        Node::Merge {
+            receiver: _,
+            giver: _,
+        } => MERGE_LENGTH,
+    }
+}
+
+// Writes the record of a version at a place.
+pub fn put_version(tape: &mut [u8], at: usize, node: Node) -> usize
+    requires { ⌜ at + length (versionBytes node) ≤ length (now tape) ⌝ }
+    ensures { λ r. ⌜ (r ≡ at + length (versionBytes node)) × (now (tape .exit) ≡ withPart (now (tape .entry)) at (versionBytes node)) ⌝ }
+{
+    match node {
+        Node::Entry {
+            parent,
+            code,
+            strip,
+            operand,
+        } => put_entry(tape, at, parent, code, strip, operand),
+        Node::Merge { receiver, giver } => put_merge(tape, at, receiver, giver),
+    }
+}
+
+// Writes the record of a console's head at a place.
+pub fn put_head(tape: &mut [u8], at: usize, console: Console, version: Version) -> usize
+    requires { ⌜ at + length (recordBytes (Head console version)) ≤ length (now tape) ⌝ }
+    ensures { λ r. ⌜ (r ≡ at + length (recordBytes (Head console version))) × (now (tape .exit) ≡ withPart (now (tape .entry)) at (recordBytes (Head console version))) ⌝ }
+{
+    let coded = put_byte(tape, at, HEAD_RECORD);
+    let second = put_byte(tape, coded, console.0);
+    put_field(tape, second, version.0)
+}
+
+// Writes the last byte of a tape at a place.
+pub fn put_end(tape: &mut [u8], at: usize) -> usize
+    requires { ⌜ at + length (recordBytes End) ≤ length (now tape) ⌝ }
+    ensures { λ r. ⌜ (r ≡ at + length (recordBytes End)) × (now (tape .exit) ≡ withPart (now (tape .entry)) at (recordBytes End)) ⌝ }
+{
+    put_byte(tape, at, END_RECORD)
+}
