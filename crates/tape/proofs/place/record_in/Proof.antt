@@ -22,17 +22,17 @@ widths-of-requires : tie.Need-widths-of-requires
 widths-of-requires c κs = tt
 
 length-of-requires : tie.Need-length-of-requires
-length-of-requires c κs = rw (c .widths-of .ensures) (narrow-shape _)
+length-of-requires c κs = rw (c .widths-of .ensures .0) (narrow-shape _)
 
 returns-2 : tie.Need-returns-2
 returns-2 c =
     let read = c .before .before .before in
     let known = read .before .before .before in
     record-begins _ _ (λ i. known .shared-slice-known .given i .fits)
-    (record-short _ _ (read .wide .ensures .0) _ (c .before .before .widths-of .ensures) _ (c .before .length-of .ensures) (c .if2 .taken))
+    (record-short _ _ (read .wide .ensures .0) _ (c .before .before .widths-of .ensures .0) _ (c .before .length-of .ensures) (c .if2 .taken))
 
 operands-of-requires : tie.Need-operands-of-requires
-operands-of-requires c κs = (rw (c .before .before .widths-of .ensures) (narrow-shape _), omega arith)
+operands-of-requires c κs = (rw (c .before .before .widths-of .ensures .0) (narrow-shape _), omega arith)
 
 record-from-requires : tie.Need-record-from-requires
 record-from-requires c κs = tt
@@ -43,7 +43,7 @@ returns-3 c =
     let read = passed .before .before .before in
     let known = read .before .before .before in
     record-begins _ _ (λ i. known .shared-slice-known .given i .fits)
-    (record-found _ _ (read .wide .ensures .0) _ (passed .before .before .widths-of .ensures) _ (passed .before .length-of .ensures) (passed .if2 .left) _ (c .before .operands-of .ensures) _ (c .record-from .ensures))
+    (record-found _ _ (read .wide .ensures .0) _ (passed .before .before .widths-of .ensures .0) _ (passed .before .length-of .ensures) (passed .if2 .left) _ (c .before .operands-of .ensures) _ (c .record-from .ensures))
 
 pub record-in-spec : {M : Type 1} → statement M
 record-in-spec =

@@ -19,10 +19,10 @@ widths-of-requires : tie.Need-widths-of-requires
 widths-of-requires c κs = tt
 
 length-of-requires : tie.Need-length-of-requires
-length-of-requires c κs = rw (c .widths-of .ensures) (narrow-shape _)
+length-of-requires c κs = rw (c .widths-of .ensures .0) (narrow-shape _)
 
 returns-2 : tie.Need-returns-2
-returns-2 c = length-found (c .before .before .before .before .before .before .args .t .now) _ (c .before .before .wide .ensures .0) _ (c .before .widths-of .ensures) _ (c .length-of .ensures)
+returns-2 c = length-found (c .before .before .before .before .before .before .args .t .now) _ (c .before .before .wide .ensures .0) _ (c .before .widths-of .ensures .0) _ (c .length-of .ensures)
 
 pub record-length-spec : {M : Type 1} → statement M
 record-length-spec =
