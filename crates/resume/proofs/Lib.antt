@@ -1,16 +1,15 @@
 pub mod Follows
+pub mod Along
 pub mod Passed
 pub mod Highest
 pub mod Meets
 pub mod Grown
 pub mod VersionsWritten
 pub mod StoreWritten
-pub mod Appendable
 pub mod TableSteps
 pub mod HeadSlots
 pub mod HeadMeets
 pub mod Reread
-pub mod Parents
 pub mod HeadsJudged
 pub mod RoomJudged
 pub mod Resumes

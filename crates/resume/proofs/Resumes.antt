@@ -12,7 +12,8 @@ use borrow.Author.Tests.{ne-eqb, eq-eqb}
 use Rattle.laws.proofs.Logic.{cond-true, cond-false}
 use Rattle.buffer.specs.Field.{overwrite}
 use Rattle.refusal.specs.Refusal.{_when_, firstRefusal}
-use Rattle.room.specs.Sound.{isCapacity, soundRoom}
+use Rattle.room.specs.declared.Settings.{Settings}
+use Rattle.room.specs.Sound.{settingsInRange, soundRoom}
 use Rattle.store.specs.Layout.{storeSize, encode}
 use Rattle.tape.specs.declared.scan.Scanned.{Scanned}
 use Rattle.tape.specs.declared.scan.Scanned.the-variants.{Whole, Broken}
@@ -34,13 +35,6 @@ refused : (o : Option Content) (old : List ℕ) (n : ℕ) → 0 < n → n ≡ re
 unfolding resumedStore
 refused o old n l e = (e, sym (cond-false _ _ _ (ap (λ (k : ℕ). eqb k 0) (sym e) ∙ ne-eqb n 0 (omega arith))))
 
--- the first of two refusals, as the code finds it
-pub two-refusals : (unsound short : Bool) {one other n : ℕ} → one ≡ cond unsound 10 0 → other ≡ cond short 19 0 → n ≡ cond (eqb one 0) other one
-    → n ≡ firstRefusal (10 when unsound ∷ 19 when short ∷ [])
-unfolding firstRefusal
-two-refusals true short e f h = rw e at h
-two-refusals false short e f h = rw (e, f) at h
-
 -- no refusal is left where the room is sound and the buffer long enough
 pub none-left : (sound short : Bool) → firstRefusal (10 when not sound ∷ 19 when short ∷ []) ≡ 0 → (sound ≡ true) × (short ≡ false)
 unfolding firstRefusal
@@ -49,11 +43,11 @@ none-left true false e = (refl, refl)
 none-left false short e = absurd (omega arith)
 
 module _ (t : Content) (old : List ℕ) where
-  pub no-capacity : isCapacity (t .settings .capacity) ≡ false → Resumed (some t) old 8 old
+  pub no-capacity : settingsInRange (t .settings) ≡ false → Resumed (some t) old 8 old
   unfolding firstRefusal
   no-capacity a = refused (some t) old 8 (omega arith) (rw a)
 
-  module _ (a : isCapacity (t .settings .capacity) ≡ true) where
+  module _ (a : settingsInRange (t .settings) ≡ true) where
     pub out-of-range : inRange t ≡ false → Resumed (some t) old 9 old
     unfolding firstRefusal
     out-of-range b = refused (some t) old 9 (omega arith) (rw (a, b))
@@ -72,15 +66,15 @@ module _ (t : Content) (old : List ℕ) where
       resumed z f = (answer, f ∙ sym (cond-true _ _ _ (eq-eqb (resumeRefusal (some t) old) 0 (sym answer ∙ z))))
 
 -- what the scan says
-pub record Read (o : Option Content) (capacity versions heads : ℕ) : Type 0 where
+pub record Read (o : Option Content) (settings : Settings) (versions heads : ℕ) : Type 0 where
   pub whole : o ≡ some (told o)
-  pub capacity-is : capacity ≡ told o .settings .capacity
+  pub settings-are : settings ≡ told o .settings
   pub versions-are : versions ≡ length (told o .versions)
   pub heads-are : heads ≡ length (told o .heads)
 
-pub scan-read : (o : Option Content) {x : Scanned} {capacity versions heads : ℕ} → x ≡ scannedOf o → x ≡ Whole capacity versions heads → Read o capacity versions heads
+pub scan-read : (o : Option Content) {x : Scanned} {settings : Settings} {versions heads : ℕ} → x ≡ scannedOf o → x ≡ Whole settings versions heads → Read o settings versions heads
 scan-read none e f = absurd (let z : _≡_ {A = ℕ} 0 1 = cc in omega arith)
-scan-read (some t) e f = record { whole = refl; capacity-is = cc; versions-are = cc; heads-are = cc }
+scan-read (some t) e f = record { whole = refl; settings-are = cc; versions-are = cc; heads-are = cc }
 
 -- a tape that the scan refuses is refused with the scan's number
 pub scan-refused : (o : Option Content) (old : List ℕ) (n : ℕ) {x : Scanned} → x ≡ scannedOf o → x ≡ Broken → n ≡ scanRefusal x → Resumed o old n old

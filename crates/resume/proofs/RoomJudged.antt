@@ -17,20 +17,20 @@ use Rattle.graph.specs.Graph.{Graph, versionCount, isSome, everyVersion, parent
 use Rattle.graph.proofs.Below.{of}
 use Rattle.command.specs.Code.{consoleCount, isConsole}
 use Rattle.room.specs.Room.{headOf}
-use Rattle.room.specs.Sound.{isCapacity, entryInRange, namesVersion, headsNameVersions, headsMeet, allBehindHeads, soundRoom}
+use Rattle.room.specs.Sound.{settingsInRange, entryInRange, namesVersion, headsNameVersions, headsMeet, allBehindHeads, soundRoom}
 use Rattle.tape.specs.Tape.{Content, headSlots, roomOf, consolesRise, headsNamed, inRange}
 use Rattle.tape.proofs.Heads.{length-slots}
 use Rattle.resume.proofs.HeadSlots.{headField, heads-diagonal}
 
 -- what is in range of a tape's content
-pub record Ranged (t : Content) : Type 0 where
+pub record Facts (t : Content) : Type 0 where
   pub count : versionCount (t .versions) ≤ t .settings .capacity
   pub lower : everyVersion parentsLower (t .versions) ≡ true
   pub ranged : everyVersion entryInRange (t .versions) ≡ true
   pub rise : consolesRise (t .heads) ≡ true
   pub named : headsNamed (t .versions) (t .heads) ≡ true
 
-pub in-range : (t : Content) → inRange t ≡ true → Ranged t
+pub in-range : (t : Content) → inRange t ≡ true → Facts t
 in-range t h =
     record {
       count = leb-true (versionCount (t .versions)) (t .settings .capacity) (search (and-l, and-r) depth 8);
@@ -40,7 +40,7 @@ in-range t h =
       named = search (and-l, and-r) depth 8;
     }
 
-pub range-small : (t : Content) → isCapacity (t .settings .capacity) ≡ true → Ranged t → versionCount (t .versions) ≤ 1024
+pub range-small : (t : Content) → settingsInRange (t .settings) ≡ true → Facts t → versionCount (t .versions) ≤ 1024
 range-small t cap k =
     let c = k .count in
     omega (arith, leb-true (t .settings .capacity) 1024 (and-r (leb 1 (t .settings .capacity)) (leb (t .settings .capacity) 1024) cap))
@@ -76,7 +76,7 @@ rest-passes true false h = refl
 rest-passes true true false = refl
 rest-passes true true true = refl
 
-module _ (t : Content) (cap : isCapacity (t .settings .capacity) ≡ true) (range : inRange t ≡ true) where
+module _ (t : Content) (cap : settingsInRange (t .settings) ≡ true) (range : inRange t ≡ true) where
   heads-name : headsNameVersions (roomOf t) ≡ true
   heads-name =
       let k = in-range t range in

@@ -15,7 +15,8 @@ use Rattle.buffer.proofs.Patches.{with-length, with-outside, with-stands}
 use Rattle.buffer.proofs.Writes.{put-length, put-other}
 use Rattle.graph.specs.Graph.{versionCount, isEntry}
 use Rattle.command.specs.Code.{consoleCount}
-use Rattle.room.specs.Room.{Room, fresh}
+use Rattle.room.specs.declared.Settings.{Settings}
+use Rattle.room.specs.Room.{Room, freshRoom}
 use Rattle.room.specs.Sound.{soundRoom}
 use Rattle.room.proofs.Sound.{sound-facts}
 use Rattle.room.proofs.Steps.{fresh-sound}
@@ -32,8 +33,8 @@ use Rattle.resume.specs.Writing.{withHeader}
 use Rattle.resume.proofs.VersionsWritten.{Built}
 
 -- where the store of a fresh room of the tape's capacity was written over the old bytes
-module _ (t : Content) (sound : soundRoom (roomOf t) ≡ true) (old : List ℕ) (capacity : ℕ) (size : capacity ≡ t .settings .capacity)
-    (room-for : storeSize capacity ≤ length old) {s : List ℕ} (made : s ≡ overwrite (encode (fresh capacity)) old) where
+module _ (t : Content) (sound : soundRoom (roomOf t) ≡ true) (old : List ℕ) (settings : Settings) (size : settings ≡ t .settings)
+    (room-for : storeSize (settings .capacity) ≤ length old) {s : List ℕ} (made : s ≡ overwrite (encode (freshRoom settings)) old) where
   abbrev r : Room
   r = roomOf t
 
@@ -41,13 +42,13 @@ module _ (t : Content) (sound : soundRoom (roomOf t) ≡ true) (old : List ℕ) 
   n = versionCount (t .versions)
 
   fits : storeSize (t .settings .capacity) ≤ length old
-  fits = omega arith
+  fits = let e = ap (λ (x : Settings). x .capacity) size in omega arith
 
-  opened : s ≡ overwrite (encode (fresh (t .settings .capacity))) old
+  opened : s ≡ overwrite (encode (freshRoom (t .settings))) old
   opened = rw size at made
 
-  fresh-length : length (encode (fresh (t .settings .capacity))) ≡ storeSize (t .settings .capacity)
-  fresh-length = encode-length (fresh (t .settings .capacity)) (fresh-sound (t .settings .capacity) (sound-facts r sound .capacity))
+  fresh-length : length (encode (freshRoom (t .settings))) ≡ storeSize (t .settings .capacity)
+  fresh-length = encode-length (freshRoom (t .settings)) (fresh-sound (t .settings) (sound-facts r sound .capacity))
 
   pub opened-long : length s ≡ length old
   opened-long = let long = fresh-length in let f = fits in rw opened (simp (length-append, length-drop) (omega arith))
@@ -55,10 +56,10 @@ module _ (t : Content) (sound : soundRoom (roomOf t) ≡ true) (old : List ℕ) 
   opened-behind : (k : ℕ) → storeSize (t .settings .capacity) ≤ k → getD s k 0 ≡ getD old k 0
   opened-behind k l =
       let long = fresh-length in
-      ap (λ (x : List ℕ). getD x k 0) opened ∙ overwrite-behind (encode (fresh (t .settings .capacity))) old k (omega arith)
+      ap (λ (x : List ℕ). getD x k 0) opened ∙ overwrite-behind (encode (freshRoom (t .settings))) old k (omega arith)
 
-  parts : Placed s (fresh (t .settings .capacity))
-  parts = placed (fresh (t .settings .capacity)) (rw opened (stands-front (encode (fresh (t .settings .capacity))) (drop (length (encode (fresh (t .settings .capacity)))) old)))
+  parts : Placed s (freshRoom (t .settings))
+  parts = placed (freshRoom (t .settings)) (rw opened (stands-front (encode (freshRoom (t .settings))) (drop (length (encode (freshRoom (t .settings)))) old)))
 
   pub opened-standing : Standing s []
   opened-standing = record { versions = parts .versions; entries = parts .entries }
@@ -119,7 +120,7 @@ module _ (t : Content) (sound : soundRoom (roomOf t) ≡ true) (old : List ℕ) 
         let wide = rowFrom-length (isEntry (t .versions)) 0 rowSize in
         let there = with-stands counted table commonsAt (omega arith) in
         record {
-          capacity = stands-kept (parts .capacity) (λ i x y. same i (omega arith));
+          settings = stands-kept (parts .settings) (λ i x y. same i (omega arith));
           count = stands-kept (put-stands now countAt n (omega (arith, now-long))) (λ i x y. outside i (omega arith));
           gap = stands-kept (parts .gap) (λ i x y. same i (omega arith));
           entries = stands-kept (built .standing .entries) (λ i x y. stays i (omega arith) (omega arith));

@@ -5,13 +5,11 @@ use mathlib.Core.Bool.{Bool, true, false}
 use mathlib.Core.List.{List, [], _∷_}
 use mathlib.Core.Option.{Option, none, some, Option·getD}
 use Prim.Native.Nat.{ℕ, zero, suc, _+_, _-_, _≤_, _<_}
-use native.Mathlib.Numerals.{add-one}
 use native.Mathlib.Omega.{arith}
 use lib.Dec.{ltb}
 use lib.ListN.{length, getD, drop}
 use borrow.Author.Tests.{ltb-true, lt-ltb}
 use Rattle.laws.proofs.Logic.{clash, and-l, and-r, and-i}
-use Rattle.laws.proofs.Lists.{all-first, none-first}
 use Rattle.buffer.specs.Field.{same}
 use Rattle.buffer.specs.Row.{intersection}
 use Rattle.buffer.proofs.Sets.{row-ext}
@@ -22,18 +20,19 @@ use Rattle.graph.proofs.Ancestor.{every-new, every-old, ancestor-old}
 use Rattle.room.specs.Sound.{entryInRange, soundRoom}
 use Rattle.room.proofs.Sound.{sound-facts}
 use Rattle.store.specs.Layout.{rowSize, entriesAt, blockAt, headFrom}
+use Rattle.store.specs.Rules.{nodeInRange}
 use Rattle.store.proofs.Diagonal.{meetNumber-below}
 use Rattle.store.proofs.Ranges.{ranges}
+use Rattle.update.specs.Append.{appended}
 use Rattle.update.proofs.AppendedBlocks.{Standing, Grew, entry-grew, merge-grew}
-use Rattle.tape.specs.declared.Record.{Record}
 use Rattle.tape.specs.Record.{recordIn}
-use Rattle.tape.specs.Tape.{Content, contentOf, roomOf, versionRecord}
-use Rattle.tape.specs.Reader.{placeAfter, firstVersions, nextNode, versionPlace}
+use Rattle.tape.specs.Tape.{Content, contentOf, roomOf}
+use Rattle.tape.specs.Reader.{placeAfter, nodeOn, firstVersions}
 use Rattle.tape.proofs.Records.{Bytes}
-use Rattle.tape.proofs.Located.{VersionAt, version-at}
-use Rattle.resume.specs.Ranges.{versionInRange}
 use Rattle.resume.specs.Rows.{ownRow, RowsOf, fieldWhen, meetField}
-use Rattle.resume.specs.Writing.{baseIn, baseBelow, storeWith}
+use Rattle.resume.specs.Versions.{baseIn}
+use Rattle.resume.proofs.Along.{Versions, along-all, versions-none, version-number, version-first, version-more}
+use Rattle.resume.proofs.Passed.{node-ranged}
 use Rattle.resume.proofs.Meets.{meet-shown}
 
 -- a graph whose versions can be written, with its rows at hand
@@ -91,36 +90,33 @@ module _ {rows : List ℕ} {g : Graph} where
       )
 
   -- the base of a merge is the highest version that the rows of its parents have in common
-  base-is : (p q : ℕ) → Ready rows (merge p q ∷ g) → baseIn rows p q ≡ baseOf g p q
+  base-is : (p q : ℕ) → Ready rows (merge p q ∷ g) → baseIn rows (merge p q) ≡ baseOf g p q
   unfolding meetField
   base-is p q r = go (meet g p q) refl (every-new mergeHasBase (merge p q) g (r .based))
     where
-      go : (o : Option ℕ) → meet g p q ≡ o → servesAsBase p q o ≡ true → baseIn rows p q ≡ Option·getD o 0
+      go : (o : Option ℕ) → meet g p q ≡ o → servesAsBase p q o ≡ true → baseIn rows (merge p q) ≡ Option·getD o 0
       go none e b = clash b refl
       go (some m) e b =
           let old = ready-old r in
-          field-some (same (ownRow rows (baseIn rows p q)) (intersection (ownRow rows p) (ownRow rows q))) (baseIn rows p q) m
+          field-some (same (ownRow rows (baseIn rows (merge p q))) (intersection (ownRow rows p) (ownRow rows q))) (baseIn rows (merge p q)) m
           (meet-shown (old .shown) (old .small) p q (parents p q r .0) (parents p q r .1) ∙ e)
 
-  ranged-new : (n : Node) → Ready rows (n ∷ g) → versionInRange (versionCount g) (versionRecord n) ≡ true
-  ranged-new (Entry p code strip operand) r =
-      let n = entry (p .0) code (strip .0) operand in
-      and-i _ _ (every-new entryInRange n g (r .ranged)) (every-new parentsLower n g (r .lower))
-  ranged-new (Merge p q) r = every-new parentsLower (merge (p .0) (q .0)) g (r .lower)
+  ranged-new : (n : Node) → Ready rows (n ∷ g) → nodeInRange (versionCount g) n ≡ true
+  ranged-new n r = node-ranged g n ∙ and-i _ _ (every-new parentsLower n g (r .lower)) (every-new entryInRange n g (r .ranged))
 
-  base-new : (n : Node) → Ready rows (n ∷ g) → baseBelow rows (versionCount g) (versionRecord n) ≡ true
-  base-new (Entry p code strip operand) r = refl
-  base-new (Merge p q) r = lt-ltb (baseIn rows (p .0) (q .0)) (versionCount g) (rw (base-is (p .0) (q .0) r) (meetNumber-below g (p .0) (q .0)))
+  base-new : (n : Node) → Ready rows (n ∷ g) → baseIn rows n < versionCount g
+  base-new (Entry p code strip operand) r = omega arith
+  base-new (Merge p q) r = rw (base-is (p .0) (q .0) r) (meetNumber-below g (p .0) (q .0))
 
   grew : (s : List ℕ) (n : Node) → Ready rows (n ∷ g) → Standing s g → blockAt (suc (versionCount g)) ≤ length s
-      → Grew s (storeWith s rows (versionCount g) (versionRecord n)) g n
+      → Grew s (appended s (versionCount g) n (baseIn rows n)) g n
   grew s (Entry p code strip operand) r h fits =
       let small = r .small in
       entry-grew s g h (ready-old r .lower) (omega arith) fits (p .0) code (strip .0) operand
       (ltb-true (p .0) (versionCount g) (every-new parentsLower (entry (p .0) code (strip .0) operand) g (r .lower)))
   grew s (Merge p q) r h fits =
       let small = r .small in
-      merge-grew s g h (ready-old r .lower) (omega arith) fits (p .0) (q .0) (baseIn rows (p .0) (q .0)) (parents (p .0) (q .0) r .0) (parents (p .0) (q .0) r .1) (base-is (p .0) (q .0) r)
+      merge-grew s g h (ready-old r .lower) (omega arith) fits (p .0) (q .0) (baseIn rows (merge (p .0) (q .0))) (parents (p .0) (q .0) r .0) (parents (p .0) (q .0) r .1) (base-is (p .0) (q .0) r)
 
 -- bytes in which version 0 stands became bytes in which a graph stands, and nothing else changed
 pub record Built (s t : List ℕ) (g : Graph) : Type 0 where
@@ -136,67 +132,34 @@ built-more b w =
       kept = λ k outside apart. w .kept k (λ x y. outside (omega arith) (omega arith)) apart ∙ b .kept k (λ x y. outside x (omega arith)) apart;
     }
 
--- the first k versions of a tape have been written into s
-pub record Written (t : Content) (s : List ℕ) (k at : ℕ) (now : List ℕ) : Type 0 where
-  pub within : k ≤ length (t .versions)
-  pub place : at ≡ versionPlace (t .versions) k
-  pub built : Built s now (firstVersions k (t .versions))
+-- the versions read so far have been written into s, which is a fresh store
+pub written-none : (t : Content) {s : List ℕ} → Standing s [] → Versions t (Built s s) 0 3
+written-none t {s} h = versions-none t (Built s s) (record { long = refl; standing = h; kept = λ k outside apart. refl })
 
-pub written-none : (t : Content) {at : ℕ} {s : List ℕ} → at ≡ versionPlace (t .versions) 0 → Standing s [] → Written t s 0 at s
-written-none t {at} {s} place h =
-    record {
-      within = omega arith;
-      place = place;
-      built = subst (Built s s) (sym (none-first (t .versions))) (record { long = refl; standing = h; kept = λ k outside apart. refl });
-    }
-
-pub written-all : (t : Content) {s now : List ℕ} {k at : ℕ} → Written t s k at now → length (t .versions) ≤ k → Built s now (t .versions)
-written-all t {s} {now} {k} w l =
-    let b = w .within in
-    let e : k ≡ length (t .versions) = omega arith in
-    let all : firstVersions k (t .versions) ≡ t .versions = rw e (all-first (t .versions)) in
-    subst (Built s now) all (w .built)
+pub written-all : (t : Content) {s now : List ℕ} {k at : ℕ} → Versions t (Built s now) k at → length (t .versions) ≤ k → Built s now (t .versions)
+written-all t a l = along-all _ _ a l .0
 
 module _ (tape : List ℕ) (t : Content) (bytes : Bytes tape) (says : contentOf tape ≡ some t) {rows s : List ℕ} (ready : Ready rows (t .versions))
-    (fits : blockAt (versionCount (t .versions)) ≤ length s) {k at : ℕ} {now : List ℕ} (w : Written t s k at now) (l : k < length (t .versions)) where
-  abbrev before : Graph
-  before = firstVersions k (t .versions)
-
-  abbrev node : Node
-  node = nextNode (t .versions) k
-
-  there : VersionAt tape (t .versions) k node
-  there = version-at tape t bytes says k l
-
-  pub record-inside : at ≤ length tape
-  record-inside = rw (w .place) (there .record-at .inside)
-
-  next-ready : Ready rows (node ∷ before)
-  next-ready = subst (Ready rows) (there .first) (ready-drop (length (t .versions) - suc k) (t .versions) ready)
-
-  number : k + 1 ≡ versionCount before
-  number = omega (arith, there .count)
-
+    (fits : blockAt (versionCount (t .versions)) ≤ length s) {k at : ℕ} {now : List ℕ} (a : Versions t (Built s now) k at) (l : k < length (t .versions)) where
   pub next-fits : blockAt (suc (k + 1)) ≤ length now
-  next-fits = omega (arith, w .built .long)
+  next-fits = omega (arith, a .built .long)
 
-  module _ {x : Record} (read : x ≡ recordIn (drop at tape)) where
-    is : x ≡ versionRecord node
-    is = read ∙ rw (w .place) (there .record-at .read)
+  module _ {x : Node} (read : x ≡ nodeOn (recordIn (drop at tape))) where
+    next-ready : Ready rows (x ∷ firstVersions k (t .versions))
+    next-ready = subst (Ready rows) (version-first tape t bytes says a l read) (ready-drop (length (t .versions) - suc k) (t .versions) ready)
 
-    pub next-ranged : versionInRange (k + 1) x ≡ true
-    next-ranged = rw (is, number) (ranged-new node next-ready)
+    number : k + 1 ≡ versionCount (firstVersions k (t .versions))
+    number = version-number tape t bytes says a l
 
-    pub next-based : baseBelow rows (k + 1) x ≡ true
-    next-based = rw (is, number) (base-new node next-ready)
+    pub next-ranged : nodeInRange (k + 1) x ≡ true
+    next-ranged = rw number (ranged-new x next-ready)
 
-    pub written-more : {next : ℕ} {after : List ℕ} → next ≡ placeAfter tape at → after ≡ storeWith now rows (k + 1) x → Written t s (k + 1) next after
-    written-more {next} {after} en ea =
-        let first : firstVersions (k + 1) (t .versions) ≡ node ∷ before = rw add-one (there .first) in
-        let made : Grew now (storeWith now rows (k + 1) x) before node =
-        rw (is, number) (grew now node next-ready (w .built .standing) (omega (arith, next-fits, there .count))) in
-        record {
-          within = omega arith;
-          place = en ∙ rw (w .place, add-one) (there .record-at .past);
-          built = rw (first, ea) (built-more (w .built) made);
-        }
+    pub next-based : baseIn rows x < k + 1
+    next-based = rw number (base-new x next-ready)
+
+    pub written-more : {next : ℕ} {after : List ℕ} → after ≡ appended now (k + 1) x (baseIn rows x) → next ≡ placeAfter tape at
+        → Versions t (Built s after) (k + 1) next
+    written-more {after = after} made moved =
+        let grown : Grew now after (firstVersions k (t .versions)) x =
+        rw (made, number) (grew now x next-ready (a .built .standing) (omega (arith, next-fits, number))) in
+        version-more tape t bytes says a l read (Built s after) moved (built-more (a .built) grown)

@@ -6,7 +6,7 @@ use Rattle.tape.specs.Tape.{Content, contentOf}
 
 -- what a whole tape says; of a broken one, nothing
 abbrev pub told : Option Content → Content
-told none = record { capacity = 0; versions = []; heads = [] }
+told none = record { settings = record { capacity = 0 }; versions = []; heads = [] }
 told (some t) = t
 
 abbrev pub contentIn : List ℕ → Content

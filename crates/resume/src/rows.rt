@@ -1,21 +1,28 @@
-// The ancestry rows of a tape's versions, in an array of their own: made one after the other, and compared to find common versions.
+// The ancestry rows of a tape's versions in an array of their own, one behind the other, and what they have in common.
 use buffer::add_member;
 use buffer::clear;
 use buffer::is_intersection;
+use buffer::part_of;
 use buffer::put_extended;
 use buffer::put_extended_union;
+use graph::Node;
 use graph::Version;
+use store::places::Field;
 use store::places::ROW;
+use store::places::field_of;
 use store::rules::is_base;
 ghost use mathlib.Core.Path.{_≡_};
+ghost use mathlib.Core.Bool.{true};
 ghost use Prim.Native.Nat.{_+_, _*_, _/_, _^_, _<_, _≤_};
 ghost use lib.ListN.{length};
 ghost use Rattle.buffer.specs.Field.{zeros, withPart};
-ghost use Rattle.buffer.specs.Row.{withMember, union};
+ghost use Rattle.buffer.specs.Row.{withMember};
 ghost use Rattle.graph.specs.Graph.{servesAsBase};
 ghost use Rattle.room.specs.Sound.{maxCapacity};
 ghost use Rattle.store.specs.Layout.{rowSize, headFrom};
+ghost use Rattle.store.specs.Rules.{nodeInRange};
 ghost use Rattle.resume.specs.Rows.{highestCommon, rowsSize, ownRow, meetField};
+ghost use Rattle.resume.specs.Versions.{rowsWith, baseFound, baseIn};
 
 // The highest bit of a byte that is not 0.
 fn top_bit(x: u8) -> usize
@@ -47,30 +54,28 @@ fn top_bit(x: u8) -> usize
 }
 
 // The highest version that two rows have in common; 0 where there is none.
-pub fn highest_common(p: &[u8], q: &[u8]) -> usize
+fn highest_common(p: &[u8], q: &[u8]) -> Version
     requires { ⌜ length (now p) ≡ rowSize ⌝ }
     requires { ⌜ length (now q) ≡ rowSize ⌝ }
-    ensures { λ r. ⌜ (r ≡ highestCommon (now (p .entry)) (now (q .entry))) × (r < maxCapacity) ⌝ }
+    ensures { λ r. ⌜ (r .0 ≡ highestCommon (now (p .entry)) (now (q .entry))) × (r .0 < maxCapacity) ⌝ }
 {
     let mut k = ROW;
     while 0 < k {
         k -= 1;
         let x = p[k] & q[k];
         if x != 0 {
-            return 8 * k + top_bit(x);
+            return Version(8 * k + top_bit(x));
         }
     }
-    0
+    Version(0)
 }
 
 // The row of a version.
-pub fn row_in(rows: &[u8], v: usize) -> &[u8]
-    requires { ⌜ (length (now rows) ≡ rowsSize) × (v < maxCapacity) ⌝ }
-    ensures { λ r. ⌜ (now r ≡ ownRow (now (rows .entry)) v) × (length (now r) ≡ rowSize) ⌝ }
+fn row_in(rows: &[u8], v: Version) -> &[u8]
+    requires { ⌜ (length (now rows) ≡ rowsSize) × (v .0 < maxCapacity) ⌝ }
+    ensures { λ r. ⌜ (now r ≡ ownRow (now (rows .entry)) (v .0)) × (length (now r) ≡ rowSize) ⌝ }
 {
-    let at = ROW * v;
-    let end = at + ROW;
-    &rows[at..end]
+    part_of(rows, ROW * v.0, ROW)
 }
 
 // Makes a row that has version 0 alone.
@@ -92,44 +97,85 @@ pub fn put_root(rows: &mut [u8])
     make_root(&mut rows[at..end]);
 }
 
-// Writes the row of version v, an entry on p.
-pub fn put_entry(rows: &mut [u8], v: usize, p: usize)
-    requires { ⌜ (length (now rows) ≡ rowsSize) × (p < v) × (v < maxCapacity) ⌝ }
-    ensures { λ _. ⌜ now (rows .exit) ≡ withPart (now (rows .entry)) (rowSize * v) (withMember (ownRow (now (rows .entry)) p) v) ⌝ }
+// Writes the row of version v, whose parents are below it.
+pub fn put_row(rows: &mut [u8], v: Version, node: Node)
+    requires { ⌜ (length (now rows) ≡ rowsSize) × (v .0 < maxCapacity) × (nodeInRange (v .0) node ≡ true) ⌝ }
+    ensures { λ _. ⌜ now (rows .exit) ≡ rowsWith (now (rows .entry)) (v .0) node ⌝ }
 {
-    put_extended(rows, ROW * p, ROW * v, v);
-}
-
-// Writes the row of version v, a merge of q into p.
-pub fn put_merge(rows: &mut [u8], v: usize, p: usize, q: usize)
-    requires { ⌜ (length (now rows) ≡ rowsSize) × (p < v) × (q < v) × (v < maxCapacity) ⌝ }
-    ensures { λ _. ⌜ now (rows .exit) ≡ withPart (now (rows .entry)) (rowSize * v) (withMember (union (ownRow (now (rows .entry)) p) (ownRow (now (rows .entry)) q)) v) ⌝ }
-{
-    put_extended_union(rows, ROW * p, ROW * q, ROW * v, v);
-}
-
-// 1 more than the meet of two versions; 0 where they have none.
-pub fn meet_field(rows: &[u8], u: usize, v: usize) -> usize
-    requires { ⌜ (length (now rows) ≡ rowsSize) × (u < maxCapacity) × (v < maxCapacity) ⌝ }
-    ensures { λ r. ⌜ (r ≡ meetField (now (rows .entry)) u v) × (r ≤ maxCapacity) ⌝ }
-{
-    let p = row_in(rows, u);
-    let q = row_in(rows, v);
-    let h = highest_common(p, q);
-    if !is_intersection(row_in(rows, h), p, q) {
-        return 0;
+    match node {
+        Node::Entry {
+            parent,
+            code: _,
+            strip: _,
+            operand: _,
+        } => put_extended(rows, ROW * parent.0, ROW * v.0, v.0),
+        Node::Merge { receiver, giver } => put_extended_union(
+            rows,
+            ROW * receiver.0,
+            ROW * giver.0,
+            ROW * v.0,
+            v.0,
+        ),
     }
-    h + 1
+}
+
+// The highest version that the rows of two versions have in common: their meet, where they have one.
+fn common_below(rows: &[u8], p: Version, q: Version) -> Version
+    requires { ⌜ (length (now rows) ≡ rowsSize) × (p .0 < maxCapacity) × (q .0 < maxCapacity) ⌝ }
+    ensures { λ r. ⌜ (r .0 ≡ highestCommon (ownRow (now (rows .entry)) (p .0)) (ownRow (now (rows .entry)) (q .0))) × (r .0 < maxCapacity) ⌝ }
+{
+    highest_common(row_in(rows, p), row_in(rows, q))
+}
+
+// The field that stands for the meet of two versions, and for none where they have none.
+pub fn meet_field(rows: &[u8], u: Version, v: Version) -> Field
+    requires { ⌜ (length (now rows) ≡ rowsSize) × (u .0 < maxCapacity) × (v .0 < maxCapacity) ⌝ }
+    ensures { λ r. ⌜ (r .0 ≡ meetField (now (rows .entry)) (u .0) (v .0)) × (r .0 ≤ maxCapacity) ⌝ }
+{
+    let h = common_below(rows, u, v);
+    if !is_intersection(row_in(rows, h), row_in(rows, u), row_in(rows, v)) {
+        return Field(0);
+    }
+    field_of(h)
 }
 
 // Whether two versions have a meet that is neither of them.
-pub fn has_base(rows: &[u8], p: Version, q: Version) -> bool
+fn has_base(rows: &[u8], p: Version, q: Version) -> bool
     requires { ⌜ (length (now rows) ≡ rowsSize) × (p .0 < maxCapacity) × (q .0 < maxCapacity) ⌝ }
     ensures { λ r. ⌜ r ≡ servesAsBase (p .0) (q .0) (headFrom (meetField (now (rows .entry)) (p .0) (q .0))) ⌝ }
 {
-    let mine = row_in(rows, p.0);
-    let given = row_in(rows, q.0);
-    let h = highest_common(mine, given);
-    let base = row_in(rows, h);
-    is_base(Version(h), p, q, base, mine, given)
+    let h = common_below(rows, p, q);
+    is_base(h, p, q, row_in(rows, h), row_in(rows, p), row_in(rows, q))
+}
+
+// Whether the parents of version v, if it is a merge, have a base; they are below it.
+pub fn base_found(rows: &[u8], v: Version, node: Node) -> bool
+    requires { ⌜ (length (now rows) ≡ rowsSize) × (v .0 < maxCapacity) × (nodeInRange (v .0) node ≡ true) ⌝ }
+    ensures { λ r. ⌜ r ≡ baseFound (now (rows .entry)) node ⌝ }
+{
+    match node {
+        Node::Entry {
+            parent: _,
+            code: _,
+            strip: _,
+            operand: _,
+        } => true,
+        Node::Merge { receiver, giver } => has_base(rows, receiver, giver),
+    }
+}
+
+// The base of version v, whose parents are below it; version 0 for an entry, which has none.
+pub fn base_in(rows: &[u8], v: Version, node: Node) -> Version
+    requires { ⌜ (length (now rows) ≡ rowsSize) × (v .0 < maxCapacity) × (nodeInRange (v .0) node ≡ true) ⌝ }
+    ensures { λ r. ⌜ r .0 ≡ baseIn (now (rows .entry)) node ⌝ }
+{
+    match node {
+        Node::Entry {
+            parent: _,
+            code: _,
+            strip: _,
+            operand: _,
+        } => Version(0),
+        Node::Merge { receiver, giver } => common_below(rows, receiver, giver),
+    }
 }

@@ -1,12 +1,14 @@
 // The table of common versions of a tape's heads, in a header of its own: each head on its diagonal, each pair's meet by the rows of the versions.
 use crate::rows::meet_field;
+use command::numbers::CONSOLES;
 use graph::Console;
-use store::places::CONSOLES;
+use store::places::Field;
 use store::places::common_in;
-use tape::Record;
-use tape::reader::read_at;
-use update::commons;
+use store::places::field_of;
+use store::places::version_of;
+use tape::reader::read_head;
 use update::commons::put_common;
+use update::commons::put_head;
 ghost use mathlib.Core.Path.{_≡_};
 ghost use mathlib.Core.Bool.{true};
 ghost use mathlib.Core.Option.{some};
@@ -24,55 +26,55 @@ ghost use Rattle.tape.specs.Reader.{headPlace};
 ghost use Rattle.resume.specs.Content.{contentIn};
 ghost use Rattle.resume.specs.Rows.{rowsSize, RowsOf};
 ghost use Rattle.resume.specs.Heads.{headTable, pairField, pairMeets, withPairs, consoleMeets, withConsoles, tableMeets};
-ghost use Rattle.resume.specs.Versions.{headWithin, tableAfter};
 
 // The field of two consoles whose own fields are x and y.
-fn pair_field(rows: &[u8], x: usize, y: usize) -> usize
+fn pair_field(rows: &[u8], x: Field, y: Field) -> Field
     requires { ⌜ length (now rows) ≡ rowsSize ⌝ }
-    requires { ⌜ (x ≤ maxCapacity) × (y ≤ maxCapacity) ⌝ }
-    ensures { λ r. ⌜ r ≡ pairField (now (rows .entry)) x y ⌝ }
+    requires { ⌜ (x .0 ≤ maxCapacity) × (y .0 ≤ maxCapacity) ⌝ }
+    ensures { λ r. ⌜ r .0 ≡ pairField (now (rows .entry)) (x .0) (y .0) ⌝ }
 {
-    if x == 0 {
-        return 0;
+    if x.0 == 0 {
+        return Field(0);
     }
-    if y == 0 {
-        return 0;
+    if y.0 == 0 {
+        return Field(0);
     }
-    meet_field(rows, x - 1, y - 1)
+    meet_field(rows, version_of(x), version_of(y))
 }
 
 // Writes the field of two consoles whose own fields are x and y, and says whether their heads, if both are present, have a meet.
-fn judge_pair(rows: &[u8], header: &mut [u8], c: usize, d: usize, x: usize, y: usize) -> bool
+fn build_pair(rows: &[u8], header: &mut [u8], c: Console, d: Console, x: Field, y: Field) -> bool
     requires { ⌜ length (now rows) ≡ rowsSize ⌝ }
     requires { ⌜ length (now header) ≡ headerSize ⌝ }
-    requires { ⌜ (c < consoleCount) × (d < consoleCount) × (x ≤ maxCapacity) × (y ≤ maxCapacity) ⌝ }
-    ensures { λ r. ⌜ (r ≡ pairMeets (now (rows .entry)) x y) × (now (header .exit) ≡ putCommon (now (header .entry)) c d (pairField (now (rows .entry)) x y)) ⌝ }
+    requires { ⌜ (c .0 < consoleCount) × (d .0 < consoleCount) × (x .0 ≤ maxCapacity) × (y .0 ≤ maxCapacity) ⌝ }
+    ensures { λ r. ⌜ (r ≡ pairMeets (now (rows .entry)) (x .0) (y .0)) × (now (header .exit) ≡ putCommon (now (header .entry)) (c .0) (d .0) (pairField (now (rows .entry)) (x .0) (y .0))) ⌝ }
 {
     let z = pair_field(rows, x, y);
-    put_common(header, Console(c), Console(d), z);
-    (x == 0) | (y == 0) | (z != 0)
+    put_common(header, c, d, z);
+    (x.0 == 0) | (y.0 == 0) | (z.0 != 0)
 }
 
 // Writes the fields of console c against the consoles below it, and says whether each two that are present have a common version.
-fn judge_console(rows: &[u8], header: &mut [u8], c: usize) -> bool
+fn build_console(rows: &[u8], header: &mut [u8], c: Console) -> bool
     requires { ⌜ length (now rows) ≡ rowsSize ⌝ }
     requires { ⌜ length (now header) ≡ headerSize ⌝ }
-    requires { ⌜ c < consoleCount ⌝ }
+    requires { ⌜ c .0 < consoleCount ⌝ }
     requires { ⌜ ((k : ℕ) → k < consoleCount → commonIn (now header) k k ≤ maxCapacity) ⌝ }
-    ensures { λ r. ⌜ (r ≡ consoleMeets (now (rows .entry)) (now (header .entry)) c c) × (now (header .exit) ≡ withPairs (now (rows .entry)) (now (header .entry)) c c) ⌝ }
+    ensures { λ r. ⌜ (r ≡ consoleMeets (now (rows .entry)) (now (header .entry)) (c .0) (c .0)) × (now (header .exit) ≡ withPairs (now (rows .entry)) (now (header .entry)) (c .0) (c .0)) ⌝ }
 {
     let mut ok = true;
-    for d in 0..c {
+    for k in 0..c.0 {
+        let d = Console(k);
         let x = common_in(header, c, c);
         let y = common_in(header, d, d);
-        let met = judge_pair(rows, header, c, d, x, y);
+        let met = build_pair(rows, header, c, d, x, y);
         ok = ok & met;
     }
     ok
 }
 
 // Writes the fields of all pairs of consoles, and says whether each two that are present have a common version.
-fn judge_table(rows: &[u8], header: &mut [u8]) -> bool
+fn build_pairs(rows: &[u8], header: &mut [u8]) -> bool
     requires { ⌜ length (now rows) ≡ rowsSize ⌝ }
     requires { ⌜ length (now header) ≡ headerSize ⌝ }
     requires { ⌜ ((k : ℕ) → k < consoleCount → commonIn (now header) k k ≤ maxCapacity) ⌝ }
@@ -80,30 +82,10 @@ fn judge_table(rows: &[u8], header: &mut [u8]) -> bool
 {
     let mut ok = true;
     for c in 0..CONSOLES {
-        let met = judge_console(rows, header, c);
+        let met = build_console(rows, header, Console(c));
         ok = ok & met;
     }
     ok
-}
-
-// Puts the head that a record tells onto the diagonal of a header's table.
-fn put_head(header: &mut [u8], tape_record: Record)
-    requires { ⌜ (length (now header) ≡ headerSize) × (headWithin tape_record ≡ true) ⌝ }
-    ensures { λ _. ⌜ now (header .exit) ≡ tableAfter (now (header .entry)) tape_record ⌝ }
-{
-    match tape_record {
-        Record::Start { capacity } => {}
-        Record::Entry {
-            parent,
-            code,
-            strip,
-            operand,
-        } => {}
-        Record::Merge { receiver, giver } => {}
-        Record::Head { console, version } => commons::put_head(header, console, version.0 + 1),
-        Record::End => {}
-        Record::Broken => {}
-    }
 }
 
 // Puts the heads of a whole tape, from the place of the first head record on, onto the diagonal of an empty header's table.
@@ -116,15 +98,14 @@ fn put_heads(tape: &[u8], from: usize, heads: usize, header: &mut [u8])
 {
     let mut at = from;
     for j in 0..heads {
-        let taken = read_at(tape, at);
-        let tape_record = taken.record;
-        put_head(header, tape_record);
-        at = taken.next.at;
+        let read = read_head(tape, at);
+        put_head(header, read.console, field_of(read.version));
+        at = read.next;
     }
 }
 
 // Writes the table of common versions of a whole tape's heads into an empty header, and says whether every two heads have one.
-pub fn judge_heads(tape: &[u8], from: usize, heads: usize, rows: &[u8], header: &mut [u8]) -> bool
+pub fn build_commons(tape: &[u8], from: usize, heads: usize, rows: &[u8], header: &mut [u8]) -> bool
     requires { ⌜ contentOf (now tape) ≡ some (contentIn (now tape)) ⌝ }
     requires { ⌜ (consolesRise (contentIn (now tape) .heads) ≡ true) × (headsNamed (contentIn (now tape) .versions) (contentIn (now tape) .heads) ≡ true) ⌝ }
     requires { ⌜ (versionCount (contentIn (now tape) .versions) ≤ maxCapacity) × (from ≡ headPlace (contentIn (now tape)) 0) × (heads ≡ length (contentIn (now tape) .heads)) ⌝ }
@@ -133,5 +114,5 @@ pub fn judge_heads(tape: &[u8], from: usize, heads: usize, rows: &[u8], header: 
     ensures { λ r. ⌜ (r ≡ headsMeet (roomOf (contentIn (now (tape .entry))))) × (r ≡ true → part (now (header .exit)) commonsAt commonsSize ≡ commonTable (roomOf (contentIn (now (tape .entry)))) 0 consoleCount) ⌝ }
 {
     put_heads(tape, from, heads, header);
-    judge_table(rows, header)
+    build_pairs(rows, header)
 }
