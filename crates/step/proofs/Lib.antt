@@ -1,2 +1,3 @@
 pub mod Thirds
+pub mod Groups
 pub mod After

@@ -1,6 +1,7 @@
-// A command of any kind, carried out or refused.
+// A command of any kind, executed or refused.
 use crate::changes::change;
 use crate::refusals::refusal_of;
+use crate::refusals::version_left;
 use command::Command;
 ghost use mathlib.Core.Path.{_≡_};
 ghost use mathlib.Core.Bool.{true};
@@ -9,13 +10,14 @@ ghost use Rattle.room.specs.Step.{stepRefusal};
 ghost use Rattle.store.specs.Layout.{roomIn, holdsStore};
 ghost use Rattle.step.specs.Outcome.{afterStep};
 
-// Carries a command out on a store, or says why not and changes nothing.
-pub fn carry_out(s: &mut [u8], c: Command) -> u32
+// Executes a command on a store, or says why not and changes nothing.
+pub fn execute(s: &mut [u8], c: Command) -> u32
     requires { ⌜ holdsStore (now s) ≡ true ⌝ }
     requires { ⌜ InRange c ⌝ }
     ensures { λ r. ⌜ (r ≡ stepRefusal (roomIn (now (s .entry))) c) × (now (s .exit) ≡ afterStep (now (s .entry)) c) ⌝ }
 {
-    let refusal = refusal_of(s, c);
+    let left = version_left(s);
+    let refusal = refusal_of(s, left, c);
     if refusal != 0 {
         return refusal;
     }

@@ -1,5 +1,5 @@
 // Commands on a store: the refusals by the state in their order, and what an accepted command changes.
-pub mod changes;
+mod changes;
 pub mod commands;
-pub mod refusals;
-pub mod third;
+mod refusals;
+mod third;

@@ -1,21 +1,21 @@
-// The refusals of each command by the state of the room, tested in their order.
+// The refusals of each command by the state of the room: a function for each group of tests, which gives the first that applies, or 0.
 use crate::third::some_third_splits;
 use command::Command;
 use graph::Console;
-use query::capacity_of;
 use query::head_of;
 use query::is_ancestor;
 use query::is_present;
+use query::settings_of;
 use query::version_count;
+use refusal::first_of;
+use refusal::when;
 ghost use mathlib.Core.Path.{_≡_};
 ghost use mathlib.Core.Bool.{true, _||_};
-ghost use mathlib.Core.List.{[], _∷_};
 ghost use Prim.Native.Nat.{_<_};
+ghost use Rattle.refusal.specs.Refusal.{firstRefusal};
 ghost use Rattle.command.specs.Code.{consoleCount};
 ghost use Rattle.command.specs.Decoding.{InRange};
-ghost use Rattle.refusal.specs.Refusal.{_when_, firstRefusal};
-ghost use Rattle.command.specs.declared.Command.the-variants.{Fork, Merge, FastForward};
-ghost use Rattle.room.specs.Step.{absent, behind, full, stepRefusal};
+ghost use Rattle.room.specs.Step.{absent, behind, versionLeft, receiverGiverTests, forkTests, entryTests, mergeTests, fastForwardTests, stateTests};
 ghost use Rattle.store.specs.Layout.{roomIn, holdsStore};
 
 // Whether one of two consoles is absent.
@@ -36,98 +36,86 @@ fn is_behind(s: &[u8], c: Console, d: Console) -> bool
     is_ancestor(s, head_of(s, c), head_of(s, d))
 }
 
-// Whether no version is left.
-fn is_full(s: &[u8]) -> bool
+// Whether a version is left.
+pub fn version_left(s: &[u8]) -> bool
     requires { ⌜ holdsStore (now s) ≡ true ⌝ }
-    ensures { λ r. ⌜ r ≡ full (roomIn (now (s .entry))) ⌝ }
+    ensures { λ r. ⌜ r ≡ versionLeft (roomIn (now (s .entry))) ⌝ }
 {
-    let capacity = capacity_of(s);
+    let settings = settings_of(s);
     let count = version_count(s);
-    capacity <= count
+    count < settings.capacity
 }
 
-// The first refusal of a fork, or 0.
+// What refuses a merge and a fast-forward alike.
+fn receiver_giver_refusal(s: &[u8], receiver: Console, giver: Console) -> u32
+    requires { ⌜ holdsStore (now s) ≡ true ⌝ }
+    requires { ⌜ (receiver .0 < consoleCount) × (giver .0 < consoleCount) ⌝ }
+    ensures { λ r. ⌜ r ≡ firstRefusal (receiverGiverTests (roomIn (now (s .entry))) (receiver .0) (giver .0)) ⌝ }
+{
+    let one_absent = when(12, one_is_absent(s, receiver, giver));
+    let giver_behind = when(14, is_behind(s, giver, receiver));
+    first_of(one_absent, giver_behind)
+}
+
+// What refuses a fork.
 fn fork_refusal(s: &[u8], new: Console, old: Console) -> u32
     requires { ⌜ holdsStore (now s) ≡ true ⌝ }
     requires { ⌜ (new .0 < consoleCount) × (old .0 < consoleCount) ⌝ }
-    ensures { λ r. ⌜ r ≡ stepRefusal (roomIn (now (s .entry))) (Fork new old) ⌝ }
+    ensures { λ r. ⌜ r ≡ firstRefusal (forkTests (roomIn (now (s .entry))) (new .0) (old .0)) ⌝ }
 {
-    if !is_present(s, old) {
-        return 12;
-    }
-    if is_present(s, new) {
-        return 13;
-    }
-    0
+    let old_absent = when(12, !is_present(s, old));
+    let new_present = when(13, is_present(s, new));
+    first_of(old_absent, new_present)
 }
 
-// The first refusal of a fast-forward, or 0.
+// What refuses an entry, given whether a version is left.
+fn entry_refusal(s: &[u8], left: bool, console: Console) -> u32
+    requires { ⌜ holdsStore (now s) ≡ true ⌝ }
+    requires { ⌜ console .0 < consoleCount ⌝ }
+    ensures { λ r. ⌜ r ≡ firstRefusal (entryTests (roomIn (now (s .entry))) left (console .0)) ⌝ }
+{
+    let console_absent = when(12, !is_present(s, console));
+    let none_left = when(18, !left);
+    first_of(console_absent, none_left)
+}
+
+// What refuses a merge, given whether a version is left. A third console is asked about only where both are present.
+fn merge_refusal(s: &[u8], left: bool, receiver: Console, giver: Console) -> u32
+    requires { ⌜ holdsStore (now s) ≡ true ⌝ }
+    requires { ⌜ (receiver .0 < consoleCount) × (giver .0 < consoleCount) ⌝ }
+    ensures { λ r. ⌜ r ≡ firstRefusal (mergeTests (roomIn (now (s .entry))) left (receiver .0) (giver .0)) ⌝ }
+{
+    let refusal = receiver_giver_refusal(s, receiver, giver);
+    if refusal != 0 {
+        return refusal;
+    }
+    let receiver_behind = when(15, is_behind(s, receiver, giver));
+    let third_splits = when(17, some_third_splits(s, receiver, giver));
+    let none_left = when(18, !left);
+    first_of(receiver_behind, first_of(third_splits, none_left))
+}
+
+// What refuses a fast-forward.
 fn forward_refusal(s: &[u8], receiver: Console, giver: Console) -> u32
     requires { ⌜ holdsStore (now s) ≡ true ⌝ }
     requires { ⌜ (receiver .0 < consoleCount) × (giver .0 < consoleCount) ⌝ }
-    ensures { λ r. ⌜ r ≡ stepRefusal (roomIn (now (s .entry))) (FastForward receiver giver) ⌝ }
+    ensures { λ r. ⌜ r ≡ firstRefusal (fastForwardTests (roomIn (now (s .entry))) (receiver .0) (giver .0)) ⌝ }
 {
-    if one_is_absent(s, receiver, giver) {
-        return 12;
-    }
-    if is_behind(s, giver, receiver) {
-        return 14;
-    }
-    if !is_behind(s, receiver, giver) {
-        return 16;
-    }
-    0
+    let refusal = receiver_giver_refusal(s, receiver, giver);
+    let receiver_ahead = when(16, !is_behind(s, receiver, giver));
+    first_of(refusal, receiver_ahead)
 }
 
-// The first refusal of an entry, or 0.
-fn entry_refusal(s: &[u8], console: Console) -> u32
-    requires { ⌜ holdsStore (now s) ≡ true ⌝ }
-    requires { ⌜ console .0 < consoleCount ⌝ }
-    ensures { λ r. ⌜ r ≡ firstRefusal (12 when absent (roomIn (now (s .entry))) (console .0) ∷ 18 when full (roomIn (now (s .entry))) ∷ []) ⌝ }
-{
-    if !is_present(s, console) {
-        return 12;
-    }
-    if is_full(s) {
-        return 18;
-    }
-    0
-}
-
-// The first refusal of a merge, or 0.
-fn merge_refusal(s: &[u8], receiver: Console, giver: Console) -> u32
-    requires { ⌜ holdsStore (now s) ≡ true ⌝ }
-    requires { ⌜ (receiver .0 < consoleCount) × (giver .0 < consoleCount) ⌝ }
-    ensures { λ r. ⌜ r ≡ stepRefusal (roomIn (now (s .entry))) (Merge receiver giver) ⌝ }
-{
-    if one_is_absent(s, receiver, giver) {
-        return 12;
-    }
-    if is_behind(s, giver, receiver) {
-        return 14;
-    }
-    if is_behind(s, receiver, giver) {
-        return 15;
-    }
-    if some_third_splits(s, receiver, giver) {
-        return 17;
-    }
-    if is_full(s) {
-        return 18;
-    }
-    0
-}
-
-// The first refusal of a command by the state of the room, or 0.
-pub fn refusal_of(s: &[u8], c: Command) -> u32
+// The first refusal of a command by the state of the room, given whether a version is left, or 0.
+pub fn refusal_of(s: &[u8], left: bool, c: Command) -> u32
     requires { ⌜ holdsStore (now s) ≡ true ⌝ }
     requires { ⌜ InRange c ⌝ }
-    ensures { λ r. ⌜ r ≡ stepRefusal (roomIn (now (s .entry))) c ⌝ }
+    ensures { λ r. ⌜ r ≡ firstRefusal (stateTests (roomIn (now (s .entry))) left c) ⌝ }
 {
     match c {
         Command::Fork { new, old } => fork_refusal(s, new, old),
-        Command::Entry { console, .. } => entry_refusal(s, console),
-        Command::Merge { receiver, giver } => merge_refusal(s, receiver, giver),
+        Command::Entry { console, .. } => entry_refusal(s, left, console),
+        Command::Merge { receiver, giver } => merge_refusal(s, left, receiver, giver),
         Command::FastForward { receiver, giver } => forward_refusal(s, receiver, giver),
     }
 }

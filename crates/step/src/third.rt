@@ -1,10 +1,10 @@
 // Refusal 17: whether a third console stands between two that are to be merged.
+use command::numbers::CONSOLES;
 use graph::Console;
 use graph::Version;
 use query::common_of;
 use query::is_ancestor;
 use query::is_present;
-use store::places::CONSOLES;
 ghost use mathlib.Core.Path.{_≡_};
 ghost use mathlib.Core.Bool.{true};
 ghost use Prim.Native.Nat.{_<_};

@@ -26,18 +26,12 @@ move-asks : (s : List ℕ) (c d : Console) → TwoConsoles (c .0) (d .0) → May
     → ((c .0 < consoleCount) × (d .0 < consoleCount)) × MayMove (roomIn s) (c .0) (d .0)
 move-asks s c d two may = ((two .0, two .1), may)
 
-enum-known-c : tie.Need-enum-known-c
-enum-known-c c = search needs
-
 move-console-requires : tie.Need-move-console-requires
 move-console-requires c κs =
     let start = c .before .before .before .before .before in
     let s = start .args .s .now in
     let accepted = subst (Accepted s) (c .before .before .c .given .1) (start .pre .1) in
     (start .pre .0, move-asks s _ _ (accepted .0) (fork-accepted _ _ _ (accepted .1)))
-
-enum-known-c-2 : tie.Need-enum-known-c-2
-enum-known-c-2 c = search needs
 
 enter-requires : tie.Need-enter-requires
 enter-requires c κs =
@@ -46,9 +40,6 @@ enter-requires c κs =
     let accepted = subst (Accepted s) (c .before .before .c2 .given .1) (start .pre .1) in
     let may = entry-accepted _ _ _ _ _ (accepted .1) in
     (start .pre .0, search (and-l, and-r, ltb-true, may, accepted))
-
-enum-known-c-3 : tie.Need-enum-known-c-3
-enum-known-c-3 c = search needs
 
 merge-requires : tie.Need-merge-requires
 merge-requires c κs =
@@ -59,9 +50,6 @@ merge-requires c κs =
     let two = accepted .0 in
     (start .pre .0, ((two .0, two .1), ((may .receiver, may .giver), ((may .ahead, may .back), (may .unsplit, may .left)))))
 
-enum-known-c-4 : tie.Need-enum-known-c-4
-enum-known-c-4 c = search needs
-
 move-console-requires-2 : tie.Need-move-console-requires-2
 move-console-requires-2 c κs =
     let start = c .before .before .before .before .before in
@@ -69,29 +57,17 @@ move-console-requires-2 c κs =
     let accepted = subst (Accepted s) (c .before .before .c4 .given .1) (start .pre .1) in
     (start .pre .0, move-asks s _ _ (accepted .0) (forward-accepted _ _ _ (accepted .1)))
 
-same-length : tie.Need-same-length
-same-length c = omega arith
-
 returns : tie.Need-returns
 unfolding step
 returns c = rw (c .before .before .before .before .before .c .given .1) (c .before .before .move-console .ensures)
-
-same-length-2 : tie.Need-same-length-2
-same-length-2 c = omega arith
 
 returns-2 : tie.Need-returns-2
 unfolding step
 returns-2 c = rw (c .before .before .before .before .before .c2 .given .1) (c .before .before .enter .ensures)
 
-same-length-3 : tie.Need-same-length-3
-same-length-3 c = omega arith
-
 returns-3 : tie.Need-returns-3
 unfolding step
 returns-3 c = rw (c .before .before .before .before .before .c3 .given .1) (c .before .before .merge .ensures)
-
-same-length-4 : tie.Need-same-length-4
-same-length-4 c = omega arith
 
 returns-4 : tie.Need-returns-4
 unfolding step
@@ -100,20 +76,6 @@ returns-4 c = rw (c .before .before .before .before .before .c4 .given .1) (c .b
 pub change-spec : {M : Type 1} → statement M
 change-spec =
     tie.close
-    (tie.spec
-    enum-known-c
-    move-console-requires
-    enum-known-c-2
-    enter-requires
-    enum-known-c-3
-    merge-requires
-    enum-known-c-4
-    move-console-requires-2
-    same-length
-    returns
-    same-length-2
-    returns-2
-    same-length-3
-    returns-3
-    same-length-4
-    returns-4)
+    (tie.spec (λ c. search needs) move-console-requires (λ c. search needs) enter-requires (λ c. search needs) merge-requires
+    (λ c. search needs) move-console-requires-2 (λ c. omega arith) returns (λ c. omega arith) returns-2 (λ c. omega arith) returns-3
+    (λ c. omega arith) returns-4)

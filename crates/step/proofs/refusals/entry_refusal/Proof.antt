@@ -1,34 +1,18 @@
 -- `step::refusals::entry_refusal` meets its contract.
 -- Assumes nothing.
-use mathlib.Core.Path.{sym, ap, _∙_}
-use mathlib.Core.Bool.{not}
-use Rattle.refusal.proofs.Refusals.{given-here, given-later, given-none}
+use mathlib.Core.Path.{refl, sym}
+use mathlib.Core.List.{[], _∷_}
 use borrow.Author.Needs.{needs}
+use Rattle.refusal.specs.Refusal.{_when_}
+use Rattle.refusal.proofs.Refusals.{first-append}
 use Rattle.step.proofs.refusals.entry_refusal.Statement.{statement}
 use Rattle.step.proofs.refusals.entry_refusal.Tie as tie
 
-is-present-requires : tie.Need-is-present-requires
-is-present-requires c κs = search needs
-
 returns : tie.Need-returns
 returns c =
-    given-here _ _ _ (ap not (sym (c .before .is-present .ensures)) ∙ c .if1 .taken)
-
-is-full-requires : tie.Need-is-full-requires
-is-full-requires c κs = search needs
-
-returns-2 : tie.Need-returns-2
-returns-2 c =
-    let one = c .before .before in
-    given-later _ _ _ _ (ap not (sym (one .before .is-present .ensures)) ∙ one .if1 .left)
-    (given-here _ _ _ (sym (c .before .is-full .ensures) ∙ c .if2 .taken))
-
-returns-3 : tie.Need-returns-3
-returns-3 c =
-    let one = c .before .before in
-    given-later _ _ _ _ (ap not (sym (one .before .is-present .ensures)) ∙ one .if1 .left)
-    (given-later _ _ _ _ (sym (c .before .is-full .ensures) ∙ c .if2 .left) given-none)
+    let absent = c .before .before in
+    rw (c .first-of .ensures, c .before .when2 .ensures, absent .when .ensures, absent .before .is-present .ensures)
+    (sym (first-append (12 when _ ∷ []) (18 when _ ∷ []) refl))
 
 pub entry-refusal-spec : {M : Type 1} → statement M
-entry-refusal-spec =
-    tie.close (tie.spec is-present-requires returns is-full-requires returns-2 returns-3)
+entry-refusal-spec = tie.close (tie.spec (λ c κs. search needs) (λ c κs. tt) (λ c κs. tt) (λ c κs. tt) returns)

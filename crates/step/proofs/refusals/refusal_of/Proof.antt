@@ -3,13 +3,10 @@
 use mathlib.Core.Path.{subst}
 use native.Mathlib.Omega.{arith}
 use Rattle.command.specs.Decoding.{InRange}
-use Rattle.room.specs.Step.{stepRefusal}
+use Rattle.room.specs.Step.{stateTests}
 use borrow.Author.Needs.{needs}
 use Rattle.step.proofs.refusals.refusal_of.Statement.{statement}
 use Rattle.step.proofs.refusals.refusal_of.Tie as tie
-
-enum-known-c : tie.Need-enum-known-c
-enum-known-c c = search needs
 
 fork-refusal-requires : tie.Need-fork-refusal-requires
 fork-refusal-requires c κs =
@@ -17,25 +14,16 @@ fork-refusal-requires c κs =
     let range = subst InRange (c .before .c .given .1) (start .pre .1) in
     (start .pre .0, omega (arith, range))
 
-enum-known-c-2 : tie.Need-enum-known-c-2
-enum-known-c-2 c = search needs
-
 entry-refusal-requires : tie.Need-entry-refusal-requires
 entry-refusal-requires c κs =
     let start = c .before .before .before .before in
     (start .pre .0, subst InRange (c .before .c2 .given .1) (start .pre .1) .0)
-
-enum-known-c-3 : tie.Need-enum-known-c-3
-enum-known-c-3 c = search needs
 
 merge-refusal-requires : tie.Need-merge-refusal-requires
 merge-refusal-requires c κs =
     let start = c .before .before .before .before in
     let range = subst InRange (c .before .c3 .given .1) (start .pre .1) in
     (start .pre .0, omega (arith, range))
-
-enum-known-c-4 : tie.Need-enum-known-c-4
-enum-known-c-4 c = search needs
 
 forward-refusal-requires : tie.Need-forward-refusal-requires
 forward-refusal-requires c κs =
@@ -44,31 +32,23 @@ forward-refusal-requires c κs =
     (start .pre .0, omega (arith, range))
 
 returns : tie.Need-returns
+unfolding stateTests
 returns c = rw (c .before .before .c .given .1) (c .fork-refusal .ensures)
 
 returns-2 : tie.Need-returns-2
-unfolding stepRefusal
+unfolding stateTests
 returns-2 c = rw (c .before .before .c2 .given .1) (c .entry-refusal .ensures)
 
 returns-3 : tie.Need-returns-3
+unfolding stateTests
 returns-3 c = rw (c .before .before .c3 .given .1) (c .merge-refusal .ensures)
 
 returns-4 : tie.Need-returns-4
+unfolding stateTests
 returns-4 c = rw (c .before .before .c4 .given .1) (c .forward-refusal .ensures)
 
 pub refusal-of-spec : {M : Type 1} → statement M
 refusal-of-spec =
     tie.close
-    (tie.spec
-    enum-known-c
-    fork-refusal-requires
-    enum-known-c-2
-    entry-refusal-requires
-    enum-known-c-3
-    merge-refusal-requires
-    enum-known-c-4
-    forward-refusal-requires
-    returns
-    returns-2
-    returns-3
-    returns-4)
+    (tie.spec (λ c. search needs) fork-refusal-requires (λ c. search needs) entry-refusal-requires (λ c. search needs) merge-refusal-requires
+    (λ c. search needs) forward-refusal-requires returns returns-2 returns-3 returns-4)

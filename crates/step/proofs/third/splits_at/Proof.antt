@@ -19,9 +19,6 @@ returns-2 c =
     let a = c .before .before .before .before .before .args in
     sym (giver-splits-not (roomIn (a .s .now)) (a .c .0) (a .d .0) (a .k) (omega arith))
 
-is-present-requires : tie.Need-is-present-requires
-is-present-requires c κs = search needs
-
 returns-3 : tie.Need-returns-3
 returns-3 c =
     let a = c .before .before .before .before .before .before .before .args in
@@ -45,4 +42,4 @@ returns-4 c =
 pub splits-at-spec : {M : Type 1} → statement M
 splits-at-spec =
     tie.close
-    (tie.spec returns returns-2 is-present-requires returns-3 commons-apart-requires returns-4)
+    (tie.spec returns returns-2 (λ c κs. search needs) returns-3 commons-apart-requires returns-4)
