@@ -1,5 +1,4 @@
 pub mod Limits
-pub mod Carried
 pub mod CodeKinds
 pub mod Shapes
 pub mod Decodes

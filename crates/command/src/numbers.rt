@@ -1,12 +1,10 @@
 // Which numbers may stand in a command or a record: codes, consoles, strips and operands.
+use board::STRIP_COUNT;
 ghost use mathlib.Core.Path.{_≡_};
 ghost use Rattle.command.specs.Code.{isEntryCode, isConsole, isStrip, isOperand};
 
 // The number of consoles.
 pub const CONSOLES: usize = 16;
-
-// The number of strips.
-const STRIPS: usize = 32;
 
 // The number of marks.
 const MARKS: usize = 16;
@@ -33,7 +31,7 @@ pub fn is_console(c: usize) -> bool
 pub fn is_strip(k: usize) -> bool
     ensures { λ r. ⌜ r ≡ isStrip k ⌝ }
 {
-    k < STRIPS
+    k < STRIP_COUNT
 }
 
 // Whether an entry of a code may carry a number.

@@ -4,7 +4,6 @@ use native.Mathlib.Omega.{arith}
 use borrow.Author.Tests.{ne-eqb}
 use Rattle.command.specs.Code.{isOperand}
 use Rattle.command.proofs.Limits.{within-false}
-use Rattle.command.proofs.Carried.{operand-mark, operand-unmark}
 use Rattle.command.proofs.numbers.is_operand.Statement.{statement}
 use Rattle.command.proofs.numbers.is_operand.Tie as tie
 
@@ -17,10 +16,12 @@ unfolding isOperand
 returns-2 c = rw (c .match .keys2)
 
 returns-3 : tie.Need-returns-3
-returns-3 c = operand-mark _ _ (c .match .keys3)
+unfolding isOperand
+returns-3 c = rw (c .match .keys3)
 
 returns-4 : tie.Need-returns-4
-returns-4 c = operand-unmark _ _ (c .match .keys4)
+unfolding isOperand
+returns-4 c = rw (c .match .keys4)
 
 returns-5 : tie.Need-returns-5
 unfolding isOperand
