@@ -12,7 +12,7 @@ use Rattle.laws.proofs.Lists.{all-first, none-first}
 use Rattle.graph.specs.declared.Node.{Node}
 use Rattle.graph.specs.Graph.{Graph, versionCount, everyVersion}
 use Rattle.graph.proofs.Ancestor.{every-old}
-use Rattle.command.specs.Code.{startRecord, shapeOf, lengthOf}
+use Rattle.command.specs.Code.{shapeOf, lengthOf}
 use Rattle.tape.specs.Record.{recordIn}
 use Rattle.tape.specs.Tape.{Content, contentOf}
 use Rattle.tape.specs.Reader.{placeAfter, nodeOn, headOn, firstVersions, nextNode, firstHeads, nextHead, versionPlace, headPlace}
@@ -54,7 +54,9 @@ every-drop f (suc m) (n ∷ g) h = every-drop f m g (every-old f n g h)
 abbrev pub Versions : Content → (Graph → Type 0) → ℕ → ℕ → Type 0
 Versions t = Along (t .versions) (versionPlace (t .versions))
 
-pub versions-none : (t : Content) (Built : Graph → Type 0) → Built [] → Versions t Built 0 (lengthOf (shapeOf startRecord))
+-- the first stands behind the three bytes of the start
+pub versions-none : (t : Content) (Built : Graph → Type 0) → Built [] → Versions t Built 0 3
+unfolding shapeOf lengthOf
 versions-none t Built b = along-none (t .versions) (versionPlace (t .versions)) Built (sym (first-place (t .versions))) b
 
 module _ (tape : List ℕ) (t : Content) (bytes : Bytes tape) (says : contentOf tape ≡ some t) {Old : Graph → Type 0} {k at : ℕ}

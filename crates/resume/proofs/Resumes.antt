@@ -78,5 +78,6 @@ scan-read (some t) e f = record { whole = refl; settings-are = cc; versions-are 
 
 -- a tape that the scan refuses is refused with the scan's number
 pub scan-refused : (o : Option Content) (old : List ℕ) (n : ℕ) {x : Scanned} → x ≡ scannedOf o → x ≡ Broken → n ≡ scanRefusal x → Resumed o old n old
+unfolding firstRefusal
 scan-refused none old n e f g = let seven = g ∙ ap scanRefusal f in refused none old n (omega arith) seven
 scan-refused (some t) old n e f g = absurd (let z : _≡_ {A = ℕ} 0 1 = cc in omega arith)

@@ -20,9 +20,6 @@ judge-table-requires c κs =
     let low = heads-low t (p .1 .0 .0) (p .1 .0 .1) (p .1 .1 .0 .0) made in
     (p .1 .1 .1 .0 .long, (long, low))
 
-same-length : tie.Need-same-length
-same-length c = omega arith
-
 returns : tie.Need-returns
 returns c =
     let judged = c .before .before in
@@ -33,4 +30,4 @@ returns c =
     (judged .judge-table .ensures .0) (judged .judge-table .ensures .1)
 
 pub judge-heads-spec : {M : Type 1} → statement M
-judge-heads-spec = tie.close (tie.spec put-heads-requires judge-table-requires same-length returns)
+judge-heads-spec = tie.close (tie.spec put-heads-requires judge-table-requires (λ c. omega arith) returns)

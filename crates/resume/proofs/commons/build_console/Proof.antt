@@ -15,12 +15,6 @@ abbrev μ-loop : tie.MeasureT-loop
 loop-holds : tie.Need-loop-holds Inv-loop μ-loop
 loop-holds c = paired-none _ _ _ (c .before .before .pre .1 .0)
 
-common-in-requires : tie.Need-common-in-requires Inv-loop μ-loop
-common-in-requires c κs = omega arith
-
-common-in-requires-2 : tie.Need-common-in-requires-2 Inv-loop μ-loop
-common-in-requires-2 c κs = omega arith
-
 judge-pair-requires : tie.Need-judge-pair-requires Inv-loop μ-loop
 judge-pair-requires c κs =
     let turn = c .before .before .before .before .before .before in
@@ -34,12 +28,6 @@ judge-pair-requires c κs =
     let y = paired-own p n d (omega arith) in
     omega (arith, x, y, own (a .c) n, own d (omega arith))
 
-add-d : tie.Need-add-d Inv-loop μ-loop
-add-d c = omega arith
-
-loop-less : tie.Need-loop-less Inv-loop μ-loop
-loop-less c = omega arith
-
 loop-again : tie.Need-loop-again Inv-loop μ-loop
 loop-again c =
     let call = c .before .before in
@@ -50,24 +38,11 @@ loop-again c =
     paired-more (turn .before .loop .inv) (start .pre .1 .1 .0) (turn .loop-test .taken) (first .common-in .ensures .0) (second .common-in2 .ensures .0)
     (call .judge-pair .ensures .0) (call .judge-pair .ensures .1)
 
-same-length : tie.Need-same-length Inv-loop μ-loop
-same-length c = omega arith
-
 returns : tie.Need-returns Inv-loop μ-loop
 returns c = let turn = c .before in paired-all (turn .loop .inv) (turn .before .before .before .pre .1 .1 .0) (c .loop-test .left)
 
 pub judge-console-spec : {M : Type 1} → statement M
 judge-console-spec =
     tie.close
-    (tie.spec
-    Inv-loop
-    μ-loop
-    loop-holds
-    common-in-requires
-    common-in-requires-2
-    judge-pair-requires
-    add-d
-    loop-less
-    loop-again
-    same-length
-    returns)
+    (tie.spec Inv-loop μ-loop loop-holds (λ c κs. omega arith) (λ c κs. omega arith) judge-pair-requires (λ c. omega arith)
+    (λ c. omega arith) loop-again (λ c. omega arith) returns)

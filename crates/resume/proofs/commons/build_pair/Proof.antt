@@ -7,15 +7,6 @@ use Rattle.resume.proofs.TableSteps.{pair-answer}
 use Rattle.resume.proofs.heads.judge_pair.Statement.{statement}
 use Rattle.resume.proofs.heads.judge_pair.Tie as tie
 
-pair-field-requires : tie.Need-pair-field-requires
-pair-field-requires c κs = omega arith
-
-put-common-requires : tie.Need-put-common-requires
-put-common-requires c κs = omega arith
-
-same-length : tie.Need-same-length
-same-length c = omega arith
-
 returns : tie.Need-returns
 returns c =
     let written = c .before .before in
@@ -24,4 +15,4 @@ returns c =
     (pair-answer (a .rows .now) (a .x) (a .y) (made .pair-field .ensures), written .put-common .ensures ∙ ap (putCommon (a .header .now) (a .c) (a .d)) (made .pair-field .ensures))
 
 pub judge-pair-spec : {M : Type 1} → statement M
-judge-pair-spec = tie.close (tie.spec pair-field-requires put-common-requires same-length returns)
+judge-pair-spec = tie.close (tie.spec (λ c κs. omega arith) (λ c κs. omega arith) (λ c. omega arith) returns)

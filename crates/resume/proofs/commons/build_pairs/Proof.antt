@@ -22,19 +22,10 @@ judge-console-requires c κs =
     let own = turn .before .before .before .pre .1 .1 in
     (omega arith, (omega arith, (omega arith, λ k l. omega (arith, tabled-own (turn .loop .inv) k l, own k l))))
 
-add-c : tie.Need-add-c Inv-loop μ-loop
-add-c c = omega arith
-
-loop-less : tie.Need-loop-less Inv-loop μ-loop
-loop-less c = omega arith
-
 loop-again : tie.Need-loop-again Inv-loop μ-loop
 loop-again c =
     let call = c .before .before in
     tabled-more (call .before .before .before .loop .inv) (omega arith) (call .judge-console .ensures .0) (call .judge-console .ensures .1)
-
-same-length : tie.Need-same-length Inv-loop μ-loop
-same-length c = omega arith
 
 returns : tie.Need-returns Inv-loop μ-loop
 returns c = tabled-all (c .before .loop .inv) (c .loop-test .left)
@@ -42,13 +33,4 @@ returns c = tabled-all (c .before .loop .inv) (c .loop-test .left)
 pub judge-table-spec : {M : Type 1} → statement M
 judge-table-spec =
     tie.close
-    (tie.spec
-    Inv-loop
-    μ-loop
-    loop-holds
-    judge-console-requires
-    add-c
-    loop-less
-    loop-again
-    same-length
-    returns)
+    (tie.spec Inv-loop μ-loop loop-holds judge-console-requires (λ c. omega arith) (λ c. omega arith) loop-again (λ c. omega arith) returns)

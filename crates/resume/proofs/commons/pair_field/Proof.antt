@@ -12,19 +12,8 @@ returns c = pair-none-left _ _ _ (c .if1 .taken)
 returns-2 : tie.Need-returns-2
 returns-2 c = let a = c .before .before .before .args in pair-none-right (a .rows .now) (a .x) (a .y) (c .if2 .taken)
 
-sub-meet-field : tie.Need-sub-meet-field
-sub-meet-field c = omega arith
-
-sub-meet-field-2 : tie.Need-sub-meet-field-2
-sub-meet-field-2 c = omega arith
-
-meet-field-requires : tie.Need-meet-field-requires
-meet-field-requires c κs = omega arith
-
 returns-3 : tie.Need-returns-3
 returns-3 c = let a = c .before .before .before .before .args in c .meet-field .ensures .0 ∙ pair-both (a .rows .now) (a .x) (a .y) (c .before .before .if1 .left) (c .before .if2 .left)
 
 pub pair-field-spec : {M : Type 1} → statement M
-pair-field-spec =
-    tie.close
-    (tie.spec returns returns-2 sub-meet-field sub-meet-field-2 meet-field-requires returns-3)
+pair-field-spec = tie.close (tie.spec returns returns-2 (λ c. omega arith) (λ c. omega arith) (λ c κs. omega arith) returns-3)

@@ -36,12 +36,6 @@ put-head-requires c κs =
       head-within (a .tape .now) (contentIn (a .tape .now)) (λ k. known .shared-slice-known .given k .fits) (p .0) (p .1 .0 .0) (p .1 .0 .1) (p .1 .1 .0 .0) (turn .loop .inv) (omega arith) (c .before .read-at .ensures .0),
     )
 
-add-j : tie.Need-add-j Inv-loop μ-loop
-add-j c = omega arith
-
-loop-less : tie.Need-loop-less Inv-loop μ-loop
-loop-less c = omega arith
-
 loop-again : tie.Need-loop-again Inv-loop μ-loop
 loop-again c =
     let turn = c .before .before .before .before .before .before in
@@ -52,23 +46,11 @@ loop-again c =
     headed-more (a .tape .now) (contentIn (a .tape .now)) (λ k. known .shared-slice-known .given k .fits) (p .0) (p .1 .0 .0) (p .1 .0 .1) (p .1 .1 .0 .0) (turn .loop .inv) (omega arith)
     (c .before .before .before .before .read-at .ensures .0) (c .before .before .before .before .read-at .ensures .1) (c .before .before .put-head .ensures)
 
-same-length : tie.Need-same-length Inv-loop μ-loop
-same-length c = omega arith
-
 returns : tie.Need-returns Inv-loop μ-loop
 returns c = headed-all _ (c .before .loop .inv) (omega arith)
 
 pub put-heads-spec : {M : Type 1} → statement M
 put-heads-spec =
     tie.close
-    (tie.spec
-    Inv-loop
-    μ-loop
-    loop-holds
-    read-at-requires
-    put-head-requires
-    add-j
-    loop-less
-    loop-again
-    same-length
-    returns)
+    (tie.spec Inv-loop μ-loop loop-holds read-at-requires put-head-requires (λ c. omega arith) (λ c. omega arith) loop-again
+    (λ c. omega arith) returns)

@@ -4,26 +4,8 @@ use borrow.Author.Needs.{needs}
 use Rattle.resume.proofs.ranges.head_in_range.Statement.{statement}
 use Rattle.resume.proofs.ranges.head_in_range.Tie as tie
 
-enum-known-tape-record : tie.Need-enum-known-tape-record
-enum-known-tape-record c = search needs
-
-enum-known-tape-record-2 : tie.Need-enum-known-tape-record-2
-enum-known-tape-record-2 c = search needs
-
-enum-known-tape-record-3 : tie.Need-enum-known-tape-record-3
-enum-known-tape-record-3 c = search needs
-
-enum-known-tape-record-4 : tie.Need-enum-known-tape-record-4
-enum-known-tape-record-4 c = search needs
-
 console-follows-requires : tie.Need-console-follows-requires
 console-follows-requires c κs = tt
-
-enum-told : tie.Need-enum-told
-enum-told c = search needs
-
-enum-told-2 : tie.Need-enum-told-2
-enum-told-2 c = search needs
 
 returns : tie.Need-returns
 returns c = search needs
@@ -46,17 +28,5 @@ returns-6 c = search needs
 pub head-in-range-spec : {M : Type 1} → statement M
 head-in-range-spec =
     tie.close
-    (tie.spec
-    enum-known-tape-record
-    enum-known-tape-record-2
-    enum-known-tape-record-3
-    enum-known-tape-record-4
-    console-follows-requires
-    enum-told
-    enum-told-2
-    returns
-    returns-2
-    returns-3
-    returns-4
-    returns-5
-    returns-6)
+    (tie.spec (λ c. search needs) (λ c. search needs) (λ c. search needs) (λ c. search needs) console-follows-requires (λ c. search needs)
+    (λ c. search needs) returns returns-2 returns-3 returns-4 returns-5 returns-6)

@@ -24,12 +24,6 @@ see-head-requires c κs =
     let s = c .before .before .before .before in
     head-inside (s .args .tape .now) _ (λ k. c .before .before .before .shared-slice-known .given k .fits) (s .pre .0) _ _ _ _ (c .before .loop .inv) (omega arith)
 
-add-j : tie.Need-add-j Inv-loop μ-loop
-add-j c = omega arith
-
-loop-less : tie.Need-loop-less Inv-loop μ-loop
-loop-less c = omega arith
-
 loop-again : tie.Need-loop-again Inv-loop μ-loop
 loop-again c =
     let l = c .before .before .before in
@@ -43,13 +37,4 @@ returns-2 c = heads-done _ _ _ _ _ (c .before .loop .inv) (omega arith) (omega a
 pub heads-in-range-spec : {M : Type 1} → statement M
 heads-in-range-spec =
     tie.close
-    (tie.spec
-    Inv-loop
-    μ-loop
-    returns
-    loop-holds
-    see-head-requires
-    add-j
-    loop-less
-    loop-again
-    returns-2)
+    (tie.spec Inv-loop μ-loop returns loop-holds see-head-requires (λ c. omega arith) (λ c. omega arith) loop-again returns-2)

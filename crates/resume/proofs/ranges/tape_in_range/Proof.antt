@@ -16,9 +16,6 @@ returns c =
 see-versions-requires : tie.Need-see-versions-requires
 see-versions-requires c κs = let s = c .before .before in (s .pre .0, s .pre .1 .1)
 
-add-heads-in-range : tie.Need-add-heads-in-range
-add-heads-in-range c = omega arith
-
 heads-in-range-requires : tie.Need-heads-in-range-requires
 heads-in-range-requires c κs =
     let s = c .before .before .before in
@@ -31,6 +28,4 @@ returns-2 c =
     (all-tests (contentIn (s .args .tape .now)) (s .args .capacity) _ _ (s .pre .1 .0) (omega arith) (seen .0) (c .before .heads-in-range .ensures), λ ok. seen .1)
 
 pub see-tape-spec : {M : Type 1} → statement M
-see-tape-spec =
-    tie.close
-    (tie.spec returns see-versions-requires add-heads-in-range heads-in-range-requires returns-2)
+see-tape-spec = tie.close (tie.spec returns see-versions-requires (λ c. omega arith) heads-in-range-requires returns-2)

@@ -15,27 +15,15 @@ Inv-loop tape versions k₀ at₀ ok₀ k at ok = VersionsPassed (contentIn tape
 abbrev μ-loop : tie.MeasureT-loop
 μ-loop tape versions k₀ at₀ ok₀ k at ok = versions - k
 
-place-past-requires : tie.Need-place-past-requires Inv-loop μ-loop
-place-past-requires c κs = omega arith
-
 loop-holds : tie.Need-loop-holds Inv-loop μ-loop
 loop-holds c =
     let s = c .before .before in
     versions-start _ _ (c .place-past .ensures .0 ∙ start-past (s .args .tape .now) _ (λ k. c .before .shared-slice-known .given k .fits) (s .pre .0))
 
-add-see-version : tie.Need-add-see-version Inv-loop μ-loop
-add-see-version c = omega arith
-
 see-version-requires : tie.Need-see-version-requires Inv-loop μ-loop
 see-version-requires c κs =
     let s = c .before .before .before .before in
     version-inside (s .args .tape .now) _ (λ k. c .before .before .before .shared-slice-known .given k .fits) (s .pre .0) _ _ _ (c .before .loop .inv) (omega arith)
-
-add-k : tie.Need-add-k Inv-loop μ-loop
-add-k c = omega arith
-
-loop-less : tie.Need-loop-less Inv-loop μ-loop
-loop-less c = omega arith
 
 loop-again : tie.Need-loop-again Inv-loop μ-loop
 loop-again c =
@@ -50,14 +38,5 @@ returns c = versions-done _ _ _ _ (c .before .loop .inv) (omega arith)
 pub see-versions-spec : {M : Type 1} → statement M
 see-versions-spec =
     tie.close
-    (tie.spec
-    Inv-loop
-    μ-loop
-    place-past-requires
-    loop-holds
-    add-see-version
-    see-version-requires
-    add-k
-    loop-less
-    loop-again
-    returns)
+    (tie.spec Inv-loop μ-loop (λ c κs. omega arith) loop-holds (λ c. omega arith) see-version-requires (λ c. omega arith)
+    (λ c. omega arith) loop-again returns)

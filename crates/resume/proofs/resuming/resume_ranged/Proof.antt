@@ -15,12 +15,6 @@ use Rattle.resume.proofs.Resumes.{none-left, last-refused, resumed}
 use Rattle.resume.proofs.resuming.resume_ranged.Statement.{statement}
 use Rattle.resume.proofs.resuming.resume_ranged.Tie as tie
 
-slice-aggregate-gives-sound-room : tie.Need-slice-aggregate-gives-sound-room
-slice-aggregate-gives-sound-room c = omega arith
-
-slice-aggregate-gives-sound-room-2 : tie.Need-slice-aggregate-gives-sound-room-2
-slice-aggregate-gives-sound-room-2 c = omega arith
-
 gives-sound-room-requires : tie.Need-gives-sound-room-requires
 gives-sound-room-requires c κs =
     let p = c .before .before .before .before .pre in
@@ -35,12 +29,6 @@ block-at-requires c κs =
 last-refusal-requires : tie.Need-last-refusal-requires
 last-refusal-requires c κs = tt
 
-slice-aggregate-write-store : tie.Need-slice-aggregate-write-store
-slice-aggregate-write-store c = omega arith
-
-slice-aggregate-write-store-2 : tie.Need-slice-aggregate-write-store-2
-slice-aggregate-write-store-2 c = omega arith
-
 write-store-requires : tie.Need-write-store-requires
 write-store-requires c κs =
     let then = c .before .before .before in
@@ -53,9 +41,6 @@ write-store-requires c κs =
     let fits = none-left (judged .gives-sound-room .result) _ (sym (answered .last-refusal .ensures) ∙ then .if1 .taken) in
     let long = ltb-false (length (start .args .store .now)) (sized .block-at .result) (fits .1) in
     (p .0, ((p .1 .0 .0, p .1 .0 .1), ((sym (told .0) ∙ fits .0, told .1), ((omega arith, told .2 (fits .0)), omega (arith, long)))))
-
-same-length : tie.Need-same-length
-same-length c = omega arith
 
 returns : tie.Need-returns
 returns c =
@@ -82,15 +67,5 @@ returns-2 c =
 pub resume-ranged-spec : {M : Type 1} → statement M
 resume-ranged-spec =
     tie.close
-    (tie.spec
-    slice-aggregate-gives-sound-room
-    slice-aggregate-gives-sound-room-2
-    gives-sound-room-requires
-    block-at-requires
-    last-refusal-requires
-    slice-aggregate-write-store
-    slice-aggregate-write-store-2
-    write-store-requires
-    same-length
-    returns
-    returns-2)
+    (tie.spec (λ c. omega arith) (λ c. omega arith) gives-sound-room-requires block-at-requires last-refusal-requires (λ c. omega arith)
+    (λ c. omega arith) write-store-requires (λ c. omega arith) returns returns-2)

@@ -6,15 +6,6 @@ use Rattle.resume.proofs.Resumes.{said-of, scan-read, scan-refused}
 use Rattle.resume.proofs.resuming.resume_tape.Statement.{statement}
 use Rattle.resume.proofs.resuming.resume_tape.Tie as tie
 
-scan-requires : tie.Need-scan-requires
-scan-requires c κs = omega arith
-
-enum-known-scanned : tie.Need-enum-known-scanned
-enum-known-scanned c = omega arith
-
-enum-told : tie.Need-enum-told
-enum-told c = omega arith
-
 scan-refusal-requires : tie.Need-scan-refusal-requires
 scan-refusal-requires c κs = tt
 
@@ -31,9 +22,6 @@ resume-whole-requires c κs =
     let read = scan-read (contentOf (scanned .before .before .before .args .tape .now)) (scanned .scan .ensures) (found .scanned .given .1) in
     (read .whole, (read .capacity-is, read .versions-are, read .heads-are))
 
-same-length : tie.Need-same-length
-same-length c = omega arith
-
 returns-2 : tie.Need-returns-2
 returns-2 c =
     let made = c .before .before in
@@ -46,12 +34,5 @@ returns-2 c =
 pub resume-tape-spec : {M : Type 1} → statement M
 resume-tape-spec =
     tie.close
-    (tie.spec
-    scan-requires
-    enum-known-scanned
-    enum-told
-    scan-refusal-requires
-    returns
-    resume-whole-requires
-    same-length
-    returns-2)
+    (tie.spec (λ c κs. omega arith) (λ c. omega arith) (λ c. omega arith) scan-refusal-requires returns resume-whole-requires
+    (λ c. omega arith) returns-2)

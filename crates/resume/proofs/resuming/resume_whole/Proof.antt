@@ -9,18 +9,12 @@ use Rattle.resume.proofs.Resumes.{no-capacity, out-of-range}
 use Rattle.resume.proofs.resuming.resume_whole.Statement.{statement}
 use Rattle.resume.proofs.resuming.resume_whole.Tie as tie
 
-is-capacity-requires : tie.Need-is-capacity-requires
-is-capacity-requires c κs = omega arith
-
 returns : tie.Need-returns
 returns c =
     let tested = c .before in
     let start = tested .before .before .before in
     let none = rw (start .pre .1 .0) at (sym (tested .is-capacity .ensures) ∙ not-true _ (c .if1 .taken)) in
     no-capacity (contentIn (start .args .tape .now)) (start .args .store .now) none
-
-see-tape-requires : tie.Need-see-tape-requires
-see-tape-requires c κs = search needs
 
 returns-2 : tie.Need-returns-2
 returns-2 c =
@@ -43,20 +37,10 @@ resume-ranged-requires c κs =
     let ok = not-false (seen .result .ok) (passed .if2 .left) in
     (start .pre .0, ((p .0, p .1, seen .ensures .1 ok, p .2), (size, sym (seen .ensures .0) ∙ ok)))
 
-same-length : tie.Need-same-length
-same-length c = omega arith
-
 returns-3 : tie.Need-returns-3
 returns-3 c = search needs
 
 pub resume-whole-spec : {M : Type 1} → statement M
 resume-whole-spec =
     tie.close
-    (tie.spec
-    is-capacity-requires
-    returns
-    see-tape-requires
-    returns-2
-    resume-ranged-requires
-    same-length
-    returns-3)
+    (tie.spec (λ c κs. omega arith) returns (λ c κs. search needs) returns-2 resume-ranged-requires (λ c. omega arith) returns-3)

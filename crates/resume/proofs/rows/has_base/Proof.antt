@@ -5,21 +5,6 @@ use Rattle.resume.proofs.Meets.{base-told}
 use Rattle.resume.proofs.rows.has_base.Statement.{statement}
 use Rattle.resume.proofs.rows.has_base.Tie as tie
 
-row-in-requires : tie.Need-row-in-requires
-row-in-requires c κs = omega arith
-
-row-in-requires-2 : tie.Need-row-in-requires-2
-row-in-requires-2 c κs = omega arith
-
-highest-common-requires : tie.Need-highest-common-requires
-highest-common-requires c κs = omega arith
-
-row-in-requires-3 : tie.Need-row-in-requires-3
-row-in-requires-3 c κs = omega arith
-
-is-base-requires : tie.Need-is-base-requires
-is-base-requires c κs = omega arith
-
 returns : tie.Need-returns
 returns c =
     let high = c .before .before in
@@ -30,4 +15,4 @@ returns c =
 pub has-base-spec : {M : Type 1} → statement M
 has-base-spec =
     tie.close
-    (tie.spec row-in-requires row-in-requires-2 highest-common-requires row-in-requires-3 is-base-requires returns)
+    (tie.spec (λ c κs. omega arith) (λ c κs. omega arith) (λ c κs. omega arith) (λ c κs. omega arith) (λ c κs. omega arith) returns)

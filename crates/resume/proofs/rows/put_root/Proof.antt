@@ -10,21 +10,6 @@ use Rattle.buffer.proofs.Patches.{put-lent}
 use Rattle.resume.proofs.rows.put_root.Statement.{statement}
 use Rattle.resume.proofs.rows.put_root.Tie as tie
 
-sub-make-root : tie.Need-sub-make-root
-sub-make-root c = omega arith
-
-part-make-root-start : tie.Need-part-make-root-start
-part-make-root-start c = omega arith
-
-part-make-root-end : tie.Need-part-make-root-end
-part-make-root-end c = omega arith
-
-make-root-requires : tie.Need-make-root-requires
-make-root-requires c κs = omega arith
-
-same-length : tie.Need-same-length
-same-length c = omega arith
-
 returns : tie.Need-returns
 returns c =
     let root = c .before .before .make-root in
@@ -34,10 +19,4 @@ returns c =
 pub put-root-spec : {M : Type 1} → statement M
 put-root-spec =
     tie.close
-    (tie.spec
-    sub-make-root
-    part-make-root-start
-    part-make-root-end
-    make-root-requires
-    same-length
-    returns)
+    (tie.spec (λ c. omega arith) (λ c. omega arith) (λ c. omega arith) (λ c κs. omega arith) (λ c. omega arith) returns)

@@ -7,21 +7,6 @@ use Rattle.buffer.proofs.Fields.{part-length}
 use Rattle.resume.proofs.rows.row_in.Statement.{statement}
 use Rattle.resume.proofs.rows.row_in.Tie as tie
 
-mul-at : tie.Need-mul-at
-mul-at c = omega arith
-
-add-end : tie.Need-add-end
-add-end c = omega arith
-
-sub-result : tie.Need-sub-result
-sub-result c = omega arith
-
-part-result-start : tie.Need-part-result-start
-part-result-start c = omega arith
-
-part-result-end : tie.Need-part-result-end
-part-result-end c = omega arith
-
 returns : tie.Need-returns
 returns c =
     let a = c .before .args in
@@ -29,5 +14,4 @@ returns c =
     rw e (refl, part-length (a .rows .now) (128 * a .v) 128 (omega arith))
 
 pub row-in-spec : {M : Type 1} → statement M
-row-in-spec =
-    tie.close (tie.spec mul-at add-end sub-result part-result-start part-result-end returns)
+row-in-spec = tie.close (tie.spec (λ c. omega arith) (λ c. omega arith) (λ c. omega arith) (λ c. omega arith) (λ c. omega arith) returns)

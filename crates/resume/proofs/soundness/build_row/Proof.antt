@@ -6,19 +6,10 @@ use borrow.Author.Needs.{needs}
 use Rattle.resume.proofs.versions.judge_version.Statement.{statement}
 use Rattle.resume.proofs.versions.judge_version.Tie as tie
 
-enum-known-tape-record : tie.Need-enum-known-tape-record
-enum-known-tape-record c = omega arith
-
-enum-known-tape-record-2 : tie.Need-enum-known-tape-record-2
-enum-known-tape-record-2 c = omega arith
-
 judge-entry-requires : tie.Need-judge-entry-requires
 judge-entry-requires c κs =
     let start = c .before .before .before .before .before in
     omega (arith, entry-below (start .args .v) (c .before .before .tape-record2 .given .1) (start .pre .2))
-
-enum-known-tape-record-3 : tie.Need-enum-known-tape-record-3
-enum-known-tape-record-3 c = omega arith
 
 judge-merge-requires : tie.Need-judge-merge-requires
 judge-merge-requires c κs =
@@ -26,26 +17,11 @@ judge-merge-requires c κs =
     let b = merge-below (start .args .v) (c .before .before .tape-record3 .given .1) (start .pre .2) in
     omega arith
 
-enum-known-tape-record-4 : tie.Need-enum-known-tape-record-4
-enum-known-tape-record-4 c = omega arith
-
-enum-told : tie.Need-enum-told
-enum-told c = omega arith
-
-enum-told-2 : tie.Need-enum-told-2
-enum-told-2 c = omega arith
-
 returns : tie.Need-returns
 returns c = search needs
 
-same-length : tie.Need-same-length
-same-length c = omega arith
-
 returns-2 : tie.Need-returns-2
 returns-2 c = let made = c .before .before in rw (made .before .before .before .tape-record2 .given .1) (made .judge-entry .ensures .0, made .judge-entry .ensures .1)
-
-same-length-2 : tie.Need-same-length-2
-same-length-2 c = omega arith
 
 returns-3 : tie.Need-returns-3
 returns-3 c = let made = c .before .before in rw (made .before .before .before .tape-record3 .given .1) (made .judge-merge .ensures .0, made .judge-merge .ensures .1)
@@ -62,20 +38,5 @@ returns-6 c = search needs
 pub judge-version-spec : {M : Type 1} → statement M
 judge-version-spec =
     tie.close
-    (tie.spec
-    enum-known-tape-record
-    enum-known-tape-record-2
-    judge-entry-requires
-    enum-known-tape-record-3
-    judge-merge-requires
-    enum-known-tape-record-4
-    enum-told
-    enum-told-2
-    returns
-    same-length
-    returns-2
-    same-length-2
-    returns-3
-    returns-4
-    returns-5
-    returns-6)
+    (tie.spec (λ c. omega arith) (λ c. omega arith) judge-entry-requires (λ c. omega arith) judge-merge-requires (λ c. omega arith)
+    (λ c. omega arith) (λ c. omega arith) returns (λ c. omega arith) returns-2 (λ c. omega arith) returns-3 returns-4 returns-5 returns-6)

@@ -16,12 +16,6 @@ Inv-loop tape versions rows₀ at₀ based₀ k₀ rows at based k = Versioned (
 abbrev μ-loop : tie.MeasureT-loop
 μ-loop tape versions rows₀ at₀ based₀ k₀ rows at based k = versions - k
 
-put-root-requires : tie.Need-put-root-requires Inv-loop μ-loop
-put-root-requires c κs = omega arith
-
-place-past-requires : tie.Need-place-past-requires Inv-loop μ-loop
-place-past-requires c κs = omega arith
-
 loop-holds : tie.Need-loop-holds Inv-loop μ-loop
 loop-holds c =
     let root = c .before .before .before in
@@ -39,9 +33,6 @@ read-at-requires c κs =
     let p = start .pre in
     version-inside (a .tape .now) (contentIn (a .tape .now)) (λ i. known .shared-slice-known .given i .fits) (p .0) (p .1 .0) (omega arith) (turn .loop .inv) (omega arith)
 
-add-judge-version : tie.Need-add-judge-version Inv-loop μ-loop
-add-judge-version c = omega arith
-
 judge-version-requires : tie.Need-judge-version-requires Inv-loop μ-loop
 judge-version-requires c κs =
     let turn = c .before .before .before in
@@ -54,12 +45,6 @@ judge-version-requires c κs =
       version-below (a .tape .now) (contentIn (a .tape .now)) (λ i. known .shared-slice-known .given i .fits) (p .0) (p .1 .0) (omega arith) (turn .loop .inv) (omega arith) (c .before .read-at .ensures .0),
     )
 
-add-k : tie.Need-add-k Inv-loop μ-loop
-add-k c = omega arith
-
-loop-less : tie.Need-loop-less Inv-loop μ-loop
-loop-less c = omega arith
-
 loop-again : tie.Need-loop-again Inv-loop μ-loop
 loop-again c =
     let turn = c .before .before .before .before .before .before in
@@ -71,26 +56,11 @@ loop-again c =
     (c .before .before .before .before .read-at .ensures .0) (c .before .before .before .before .read-at .ensures .1) (c .before .before .judge-version .ensures .0)
     (c .before .before .judge-version .ensures .1)
 
-same-length : tie.Need-same-length Inv-loop μ-loop
-same-length c = omega arith
-
 returns : tie.Need-returns Inv-loop μ-loop
 returns c = versioned-all _ (c .before .loop .inv) (omega arith)
 
 pub judge-versions-spec : {M : Type 1} → statement M
 judge-versions-spec =
     tie.close
-    (tie.spec
-    Inv-loop
-    μ-loop
-    put-root-requires
-    place-past-requires
-    loop-holds
-    read-at-requires
-    add-judge-version
-    judge-version-requires
-    add-k
-    loop-less
-    loop-again
-    same-length
-    returns)
+    (tie.spec Inv-loop μ-loop (λ c κs. omega arith) (λ c κs. omega arith) loop-holds read-at-requires (λ c. omega arith)
+    judge-version-requires (λ c. omega arith) (λ c. omega arith) loop-again (λ c. omega arith) returns)

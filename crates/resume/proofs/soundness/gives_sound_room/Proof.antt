@@ -19,9 +19,6 @@ judge-versions-requires c κs =
     let small = range-small t (p .1 .0 .0) k in
     (p .0, (k .lower, ((p .1 .1 .0 .0, omega arith), p .1 .1 .1 .0)))
 
-same-length : tie.Need-same-length
-same-length c = omega arith
-
 returns : tie.Need-returns
 returns c =
     let made = c .before .before .before in
@@ -42,12 +39,6 @@ judge-heads-requires c κs =
     let k = in-range t (p .1 .0 .1) in
     let small = range-small t (p .1 .0 .0) k in
     (p .0, ((k .rise, k .named), ((small, p .1 .1 .0 .1, p .1 .1 .0 .2), (made .judge-versions .ensures .1, p .1 .1 .1 .1))))
-
-same-length-2 : tie.Need-same-length-2
-same-length-2 c = omega arith
-
-same-length-3 : tie.Need-same-length-3
-same-length-3 c = omega arith
 
 returns-2 : tie.Need-returns-2
 returns-2 c =
@@ -90,12 +81,6 @@ behind-right-requires c κs =
     let header = met .judge-heads .last .1 .1 .1 .1 .0 in
     (omega arith, rows-inside t (k .rise) (k .named) small shown header (omega arith) (met .judge-heads .ensures .1 ok))
 
-same-length-4 : tie.Need-same-length-4
-same-length-4 c = omega arith
-
-same-length-5 : tie.Need-same-length-5
-same-length-5 c = omega arith
-
 returns-3 : tie.Need-returns-3
 returns-3 c =
     let met = c .before .before .before .before .before .before in
@@ -116,16 +101,5 @@ returns-3 c =
 pub gives-sound-room-spec : {M : Type 1} → statement M
 gives-sound-room-spec =
     tie.close
-    (tie.spec
-    judge-versions-requires
-    same-length
-    returns
-    judge-heads-requires
-    same-length-2
-    same-length-3
-    returns-2
-    add-behind-right
-    behind-right-requires
-    same-length-4
-    same-length-5
-    returns-3)
+    (tie.spec judge-versions-requires (λ c. omega arith) returns judge-heads-requires (λ c. omega arith) (λ c. omega arith) returns-2
+    add-behind-right behind-right-requires (λ c. omega arith) (λ c. omega arith) returns-3)

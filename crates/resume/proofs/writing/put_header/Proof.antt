@@ -12,33 +12,6 @@ use Rattle.resume.specs.Writing.{withHeader}
 use Rattle.resume.proofs.write.put_header.Statement.{statement}
 use Rattle.resume.proofs.write.put_header.Tie as tie
 
-put-word-requires : tie.Need-put-word-requires
-put-word-requires c κs = omega arith
-
-sub-copy : tie.Need-sub-copy
-sub-copy c = omega arith
-
-part-copy-start : tie.Need-part-copy-start
-part-copy-start c = omega arith
-
-part-copy-end : tie.Need-part-copy-end
-part-copy-end c = omega arith
-
-sub-copy-2 : tie.Need-sub-copy-2
-sub-copy-2 c = omega arith
-
-part-copy-start-2 : tie.Need-part-copy-start-2
-part-copy-start-2 c = omega arith
-
-part-copy-end-2 : tie.Need-part-copy-end-2
-part-copy-end-2 c = omega arith
-
-copy-requires : tie.Need-copy-requires
-copy-requires c κs = omega arith
-
-same-length : tie.Need-same-length
-same-length c = omega arith
-
 returns : tie.Need-returns
 unfolding withHeader
 returns c =
@@ -52,14 +25,5 @@ returns c =
 pub put-header-spec : {M : Type 1} → statement M
 put-header-spec =
     tie.close
-    (tie.spec
-    put-word-requires
-    sub-copy
-    part-copy-start
-    part-copy-end
-    sub-copy-2
-    part-copy-start-2
-    part-copy-end-2
-    copy-requires
-    same-length
-    returns)
+    (tie.spec (λ c κs. omega arith) (λ c. omega arith) (λ c. omega arith) (λ c. omega arith) (λ c. omega arith) (λ c. omega arith)
+    (λ c. omega arith) (λ c κs. omega arith) (λ c. omega arith) returns)

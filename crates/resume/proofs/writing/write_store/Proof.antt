@@ -25,9 +25,6 @@ open-requires c κs =
     let k = ranges (roomOf (contentIn (start .args .tape .now))) (start .pre .1 .1 .0 .0) in
     omega arith
 
-place-past-requires : tie.Need-place-past-requires Inv-loop μ-loop
-place-past-requires c κs = omega arith
-
 loop-holds : tie.Need-loop-holds Inv-loop μ-loop
 loop-holds c =
     let opened = c .before .before .before in
@@ -52,9 +49,6 @@ read-at-requires c κs =
     (opened-fits t (p .1 .1 .0 .0) (a .store .now) (a .capacity) (p .1 .0 .0) (p .1 .1 .1 .1) (opened .«open» .ensures))
     (turn .loop .inv) (omega arith)
 
-add-append-version : tie.Need-add-append-version Inv-loop μ-loop
-add-append-version c = omega arith
-
 append-version-requires : tie.Need-append-version-requires Inv-loop μ-loop
 append-version-requires c κs =
     let turn = c .before .before .before in
@@ -75,12 +69,6 @@ append-version-requires c κs =
         next-based (a .tape .now) t bytes (p .0) ready fits (turn .loop .inv) (omega arith) read,
       ),
     )
-
-add-k : tie.Need-add-k Inv-loop μ-loop
-add-k c = omega arith
-
-loop-less : tie.Need-loop-less Inv-loop μ-loop
-loop-less c = omega arith
 
 loop-again : tie.Need-loop-again Inv-loop μ-loop
 loop-again c =
@@ -116,9 +104,6 @@ put-header-requires c κs =
       p .1 .1 .1 .0 .0,
     )
 
-same-length : tie.Need-same-length Inv-loop μ-loop
-same-length c = omega arith
-
 returns : tie.Need-returns Inv-loop μ-loop
 returns c =
     let ended = c .before .before in
@@ -134,19 +119,5 @@ returns c =
 pub write-store-spec : {M : Type 1} → statement M
 write-store-spec =
     tie.close
-    (tie.spec
-    Inv-loop
-    μ-loop
-    open-requires
-    place-past-requires
-    loop-holds
-    read-at-requires
-    add-append-version
-    append-version-requires
-    add-k
-    loop-less
-    loop-again
-    add-put-header
-    put-header-requires
-    same-length
-    returns)
+    (tie.spec Inv-loop μ-loop open-requires (λ c κs. omega arith) loop-holds read-at-requires (λ c. omega arith) append-version-requires
+    (λ c. omega arith) (λ c. omega arith) loop-again add-put-header put-header-requires (λ c. omega arith) returns)
