@@ -9,27 +9,6 @@ use Rattle.board.proofs.Entries.{entered-back}
 use Rattle.board.proofs.enter_board.Statement.{statement}
 use Rattle.board.proofs.enter_board.Tie as tie
 
-mul-at : tie.Need-mul-at
-mul-at c = omega arith
-
-add-end : tie.Need-add-end
-add-end c = omega arith
-
-sub-enter-strip : tie.Need-sub-enter-strip
-sub-enter-strip c = omega arith
-
-part-enter-strip-start : tie.Need-part-enter-strip-start
-part-enter-strip-start c = omega arith
-
-part-enter-strip-end : tie.Need-part-enter-strip-end
-part-enter-strip-end c = omega arith
-
-enter-strip-requires : tie.Need-enter-strip-requires
-enter-strip-requires c κs = search needs
-
-same-length : tie.Need-same-length
-same-length c = omega arith
-
 returns : tie.Need-returns
 returns c =
     let start = c .before .before .before .before .before .before in
@@ -40,12 +19,5 @@ returns c =
 pub enter-board-spec : {M : Type 1} → statement M
 enter-board-spec =
     tie.close
-    (tie.spec
-    mul-at
-    add-end
-    sub-enter-strip
-    part-enter-strip-start
-    part-enter-strip-end
-    enter-strip-requires
-    same-length
-    returns)
+    (tie.spec (λ c. omega arith) (λ c. omega arith) (λ c. omega arith) (λ c. omega arith) (λ c. omega arith) (λ c κs. search needs)
+    (λ c. omega arith) returns)

@@ -8,11 +8,9 @@ use Rattle.board.specs.Board.{markCount}
 use Rattle.board.proofs.mark_bit.Statement.{statement}
 use Rattle.board.proofs.mark_bit.Tie as tie
 
-shl-result : tie.Need-shl-result
-shl-result c = search needs
-
 returns : tie.Need-returns
 returns c = omega (arith, shl-exact {a = 1} 1 (c .args .mark % markCount) 64 (omega arith) (omega arith))
 
 pub mark-bit-spec : {M : Type 1} → statement M
-mark-bit-spec = tie.close (tie.spec shl-result returns)
+mark-bit-spec =
+    tie.close (tie.spec (λ c. search needs) returns)

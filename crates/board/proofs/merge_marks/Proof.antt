@@ -5,12 +5,6 @@ use Rattle.board.proofs.Marks.{marks-small}
 use Rattle.board.proofs.merge_marks.Statement.{statement}
 use Rattle.board.proofs.merge_marks.Tie as tie
 
-marks-without-requires : tie.Need-marks-without-requires
-marks-without-requires c κs = omega arith
-
-marks-without-requires-2 : tie.Need-marks-without-requires-2
-marks-without-requires-2 c κs = omega arith
-
 returns : tie.Need-returns
 returns c =
     let args = c .before .before .args in
@@ -20,4 +14,5 @@ returns c =
     )
 
 pub merge-marks-spec : {M : Type 1} → statement M
-merge-marks-spec = tie.close (tie.spec marks-without-requires marks-without-requires-2 returns)
+merge-marks-spec =
+    tie.close (tie.spec (λ c κs. omega arith) (λ c κs. omega arith) returns)

@@ -6,24 +6,6 @@ use Rattle.board.proofs.Strips.{strip-built}
 use Rattle.board.proofs.merge_strip.Statement.{statement}
 use Rattle.board.proofs.merge_strip.Tie as tie
 
-merge-setting-at-requires : tie.Need-merge-setting-at-requires
-merge-setting-at-requires c κs = search needs
-
-merge-setting-at-requires-2 : tie.Need-merge-setting-at-requires-2
-merge-setting-at-requires-2 c κs = search needs
-
-merge-marks-at-requires : tie.Need-merge-marks-at-requires
-merge-marks-at-requires c κs = search needs
-
-merge-count-at-requires : tie.Need-merge-count-at-requires
-merge-count-at-requires c κs = search needs
-
-merge-alerts-requires : tie.Need-merge-alerts-requires
-merge-alerts-requires c κs = search needs
-
-same-length : tie.Need-same-length
-same-length c = search needs
-
 returns : tie.Need-returns
 returns c =
     let alerts = c .before .before in
@@ -38,11 +20,5 @@ returns c =
 pub merge-strip-spec : {M : Type 1} → statement M
 merge-strip-spec =
     tie.close
-    (tie.spec
-    merge-setting-at-requires
-    merge-setting-at-requires-2
-    merge-marks-at-requires
-    merge-count-at-requires
-    merge-alerts-requires
-    same-length
-    returns)
+    (tie.spec (λ c κs. search needs) (λ c κs. search needs) (λ c κs. search needs) (λ c κs. search needs) (λ c κs. search needs)
+    (λ c. search needs) returns)

@@ -9,14 +9,9 @@ use borrow.Author.Needs.{needs}
 use Rattle.buffer.proofs.bit_of.Statement.{statement}
 use Rattle.buffer.proofs.bit_of.Tie as tie
 
-cast-result : tie.Need-cast-result
-cast-result c = search needs
-
-shl-result : tie.Need-shl-result
-shl-result c = search needs
-
 returns : tie.Need-returns
 returns c = shl-exact {a = 1} 1 (c .args .v % 8) 8 (omega arith) (omega arith) ∙ one-mul (2 ^ (c .args .v % 8))
 
 pub bit-of-spec : {M : Type 1} → statement M
-bit-of-spec = tie.close (tie.spec cast-result shl-result returns)
+bit-of-spec =
+    tie.close (tie.spec (λ c. search needs) (λ c. search needs) returns)

@@ -5,12 +5,6 @@ use Rattle.buffer.proofs.Ones.{word-members}
 use Rattle.buffer.proofs.common_in_word.Statement.{statement}
 use Rattle.buffer.proofs.common_in_word.Tie as tie
 
-word-of-requires : tie.Need-word-of-requires
-word-of-requires c κs = omega arith
-
-word-of-requires-2 : tie.Need-word-of-requires-2
-word-of-requires-2 c κs = omega arith
-
 cast-result : tie.Need-cast-result
 cast-result c =
     let a = c .before .before .before .before .args in
@@ -26,4 +20,5 @@ returns c =
     (word-members (a .s .now) (a .t .now) (λ k. c .before .before .before .shared-slice-known .given k .fits) (λ k. c .before .before .shared-slice-known2 .given k .fits) (p .0) (p .1))
 
 pub common-in-word-spec : {M : Type 1} → statement M
-common-in-word-spec = tie.close (tie.spec word-of-requires word-of-requires-2 cast-result returns)
+common-in-word-spec =
+    tie.close (tie.spec (λ c κs. omega arith) (λ c κs. omega arith) cast-result returns)

@@ -18,36 +18,6 @@ abbrev μ-loop : tie.MeasureT-loop
 loop-holds : tie.Need-loop-holds Inv-loop μ-loop
 loop-holds c = let p = c .before .before .pre in counted-none (c .before .before .args .s .now) (c .before .before .args .t .now) (p .0) (p .1 .0) (p .1 .1)
 
-add-end : tie.Need-add-end Inv-loop μ-loop
-add-end c = omega arith
-
-sub-common-in-word : tie.Need-sub-common-in-word Inv-loop μ-loop
-sub-common-in-word c = omega arith
-
-part-common-in-word-start : tie.Need-part-common-in-word-start Inv-loop μ-loop
-part-common-in-word-start c = omega arith
-
-part-common-in-word-end : tie.Need-part-common-in-word-end Inv-loop μ-loop
-part-common-in-word-end c = omega arith
-
-sub-common-in-word-2 : tie.Need-sub-common-in-word-2 Inv-loop μ-loop
-sub-common-in-word-2 c = omega arith
-
-part-common-in-word-start-2 : tie.Need-part-common-in-word-start-2 Inv-loop μ-loop
-part-common-in-word-start-2 c = omega arith
-
-part-common-in-word-end-2 : tie.Need-part-common-in-word-end-2 Inv-loop μ-loop
-part-common-in-word-end-2 c = omega arith
-
-common-in-word-requires : tie.Need-common-in-word-requires Inv-loop μ-loop
-common-in-word-requires c κs = omega arith
-
-add-count : tie.Need-add-count Inv-loop μ-loop
-add-count c = omega arith
-
-loop-less : tie.Need-loop-less Inv-loop μ-loop
-loop-less c = omega arith
-
 loop-again : tie.Need-loop-again Inv-loop μ-loop
 loop-again c =
     let l = c .before .before .before .before .loop in
@@ -60,19 +30,5 @@ returns c = counted-all (c .before .loop .inv) (omega arith)
 pub common-members-spec : {M : Type 1} → statement M
 common-members-spec =
     tie.close
-    (tie.spec
-    Inv-loop
-    μ-loop
-    loop-holds
-    add-end
-    sub-common-in-word
-    part-common-in-word-start
-    part-common-in-word-end
-    sub-common-in-word-2
-    part-common-in-word-start-2
-    part-common-in-word-end-2
-    common-in-word-requires
-    add-count
-    loop-less
-    loop-again
-    returns)
+    (tie.spec Inv-loop μ-loop loop-holds (λ c. omega arith) (λ c. omega arith) (λ c. omega arith) (λ c. omega arith) (λ c. omega arith)
+    (λ c. omega arith) (λ c. omega arith) (λ c κs. omega arith) (λ c. omega arith) (λ c. omega arith) loop-again returns)

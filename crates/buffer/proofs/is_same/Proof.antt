@@ -17,18 +17,6 @@ abbrev μ-loop : tie.MeasureT-loop
 loop-holds : tie.Need-loop-holds Inv-loop μ-loop
 loop-holds c = compared-none (c .args .s .now) (c .args .t .now) (c .pre)
 
-shared-slice-read-acc : tie.Need-shared-slice-read-acc Inv-loop μ-loop
-shared-slice-read-acc c = omega arith
-
-shared-slice-read-acc-2 : tie.Need-shared-slice-read-acc-2 Inv-loop μ-loop
-shared-slice-read-acc-2 c = omega arith
-
-add-i : tie.Need-add-i Inv-loop μ-loop
-add-i c = omega arith
-
-loop-less : tie.Need-loop-less Inv-loop μ-loop
-loop-less c = omega arith
-
 loop-again : tie.Need-loop-again Inv-loop μ-loop
 loop-again c = compared-more (c .before .before .before .loop .inv) (omega arith) refl
 
@@ -38,13 +26,4 @@ returns c = compared-all (c .before .loop .inv) (omega arith)
 pub is-same-spec : {M : Type 1} → statement M
 is-same-spec =
     tie.close
-    (tie.spec
-    Inv-loop
-    μ-loop
-    loop-holds
-    shared-slice-read-acc
-    shared-slice-read-acc-2
-    add-i
-    loop-less
-    loop-again
-    returns)
+    (tie.spec Inv-loop μ-loop loop-holds (λ c. omega arith) (λ c. omega arith) (λ c. omega arith) (λ c. omega arith) loop-again returns)

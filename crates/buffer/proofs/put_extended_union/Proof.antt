@@ -13,48 +13,6 @@ use Rattle.buffer.proofs.Patches.{changed-lent}
 use Rattle.buffer.proofs.put_extended_union.Statement.{statement}
 use Rattle.buffer.proofs.put_extended_union.Tie as tie
 
-add-q-end : tie.Need-add-q-end
-add-q-end c = omega arith
-
-slice-aggregate-copy : tie.Need-slice-aggregate-copy
-slice-aggregate-copy c = omega arith
-
-sub-copy : tie.Need-sub-copy
-sub-copy c = omega arith
-
-part-copy-start : tie.Need-part-copy-start
-part-copy-start c = omega arith
-
-part-copy-end : tie.Need-part-copy-end
-part-copy-end c = omega arith
-
-copy-requires : tie.Need-copy-requires
-copy-requires c κs = omega arith
-
-add-end : tie.Need-add-end
-add-end c = omega arith
-
-copy-within-requires : tie.Need-copy-within-requires
-copy-within-requires c κs = omega arith
-
-sub-add-extended : tie.Need-sub-add-extended
-sub-add-extended c = omega arith
-
-part-add-extended-start : tie.Need-part-add-extended-start
-part-add-extended-start c = omega arith
-
-part-add-extended-end : tie.Need-part-add-extended-end
-part-add-extended-end c = omega arith
-
-slice-aggregate-add-extended : tie.Need-slice-aggregate-add-extended
-slice-aggregate-add-extended c = omega arith
-
-add-extended-requires : tie.Need-add-extended-requires
-add-extended-requires c κs = omega arith
-
-same-length : tie.Need-same-length
-same-length c = omega arith
-
 returns : tie.Need-returns
 returns c =
     let copied = c .before .before .before .before .before .before .before in
@@ -72,19 +30,6 @@ returns c =
 pub put-extended-union-spec : {M : Type 1} → statement M
 put-extended-union-spec =
     tie.close
-    (tie.spec
-    add-q-end
-    slice-aggregate-copy
-    sub-copy
-    part-copy-start
-    part-copy-end
-    copy-requires
-    add-end
-    copy-within-requires
-    sub-add-extended
-    part-add-extended-start
-    part-add-extended-end
-    slice-aggregate-add-extended
-    add-extended-requires
-    same-length
-    returns)
+    (tie.spec (λ c. omega arith) (λ c. omega arith) (λ c. omega arith) (λ c. omega arith) (λ c. omega arith) (λ c κs. omega arith)
+    (λ c. omega arith) (λ c κs. omega arith) (λ c. omega arith) (λ c. omega arith) (λ c. omega arith) (λ c. omega arith)
+    (λ c κs. omega arith) (λ c. omega arith) returns)
