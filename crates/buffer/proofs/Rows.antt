@@ -4,10 +4,11 @@ use mathlib.Core.Path.{_≡_, refl, ap, _∙_}
 use mathlib.Core.Bool.{Bool, true, false}
 use mathlib.Core.List.{List}
 use Prim.Native.Nat.{ℕ, zero, suc, _+_, _*_, _/_, _%_, _^_, _≤_, _<_}
-use native.Mathlib.Nat.{not-suc-le-zero, le-of-suc-le-suc, add-zero}
+use native.Mathlib.Nat.{not-suc-le-zero, le-of-suc-le-suc, add-zero, one-mul}
 use native.Mathlib.Omega.{arith}
 use lib.Bits.{bitOr}
 use lib.Dec.{eqb}
+use lib.Pow.{shl-exact}
 use lib.ListN.{length, getD, length-set}
 use Rattle.buffer.specs.Row.{bit, rowByte, rowFrom, row, member, withMember}
 
@@ -65,3 +66,7 @@ member-row f n v h =
 
 pub withMember-length : (s : List ℕ) (v : ℕ) → length (withMember s v) ≡ length s
 withMember-length s v = length-set s (v / 8) (bitOr (getD s (v / 8) 0) (2 ^ (v % 8)))
+
+-- one bit that is not shifted out
+pub one-shifted : (w k : ℕ) → k < w → (1 * 2 ^ k) % 2 ^ w ≡ 2 ^ k
+one-shifted w k h = shl-exact {a = 1} 1 k w (omega arith) (omega arith) ∙ one-mul (2 ^ k)

@@ -84,13 +84,6 @@ pub fn is_intersection(s: &[u8], p: &[u8], q: &[u8]) -> bool
     acc == 0
 }
 
-// The bit of a member within its byte.
-fn bit_of(v: usize) -> u8
-    ensures { λ r. ⌜ r ≡ 2 ^ (v % 8) ⌝ }
-{
-    1u8 << (v % 8)
-}
-
 // Whether the row s is p with v as a member besides. The row that it should be is made and compared whole, as loops of a length
 // that is known run on many bytes at a time.
 pub fn is_extended(s: &[u8], p: &[u8], v: usize) -> bool
@@ -115,8 +108,7 @@ pub fn is_extended_union(s: &[u8], p: &[u8], q: &[u8], v: usize) -> bool
 {
     let mut extended = [0u8; ROW];
     copy(&mut extended, p);
-    add_union(&mut extended, q);
-    add_member(&mut extended, v);
+    add_extended(&mut extended, q, v);
     is_same(s, &extended)
 }
 
@@ -193,7 +185,7 @@ pub fn add_member(dst: &mut [u8], v: usize)
     ensures { λ _. ⌜ now (dst .exit) ≡ withMember (now (dst .entry)) v ⌝ }
 {
     let at = v / 8;
-    dst[at] = dst[at] | bit_of(v);
+    dst[at] = dst[at] | (1u8 << (v % 8));
 }
 
 // Writes at a place the row that stands before it, with v as a member besides.
@@ -222,8 +214,7 @@ pub fn put_extended_union(s: &mut [u8], p: usize, q: usize, to: usize, v: usize)
     ensures { λ _. ⌜ now (s .exit) ≡ withPart (now (s .entry)) to (withMember (union (part (now (s .entry)) p 128) (part (now (s .entry)) q 128)) v) ⌝ }
 {
     let mut other = [0u8; ROW];
-    let q_end = q + ROW;
-    copy(&mut other, &s[q..q_end]);
+    copy(&mut other, part_of(s, q, ROW));
     let end = to + ROW;
     copy_within(s, p, to, ROW);
     add_extended(&mut s[to..end], &other, v);
@@ -269,9 +260,8 @@ pub fn common_members(s: &[u8], t: &[u8]) -> usize
     let mut count = 0;
     let mut i = 0;
     while i < s.len() {
-        let end = i + 8;
-        count += common_in_word(&s[i..end], &t[i..end]);
-        i = end;
+        count += common_in_word(part_of(s, i, 8), part_of(t, i, 8));
+        i += 8;
     }
     count
 }

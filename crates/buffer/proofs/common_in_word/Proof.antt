@@ -5,20 +5,15 @@ use Rattle.buffer.proofs.Ones.{word-members}
 use Rattle.buffer.proofs.common_in_word.Statement.{statement}
 use Rattle.buffer.proofs.common_in_word.Tie as tie
 
-cast-result : tie.Need-cast-result
-cast-result c =
-    let a = c .before .before .before .before .args in
-    let p = c .before .before .before .before .pre in
-    let m = word-members (a .s .now) (a .t .now) (λ k. c .before .before .before .shared-slice-known .given k .fits) (λ k. c .before .before .shared-slice-known2 .given k .fits) (p .0) (p .1) in
-    rw (c .before .word-of .ensures, c .word-of2 .ensures) (omega arith)
-
 returns : tie.Need-returns
 returns c =
-    let a = c .before .before .before .before .args in
-    let p = c .before .before .before .before .pre in
+    let known = c .before .before in
+    let start = known .before .before in
     rw (c .before .word-of .ensures, c .word-of2 .ensures)
-    (word-members (a .s .now) (a .t .now) (λ k. c .before .before .before .shared-slice-known .given k .fits) (λ k. c .before .before .shared-slice-known2 .given k .fits) (p .0) (p .1))
+    (word-members (start .args .s .now) (start .args .t .now) (λ k. known .before .shared-slice-known .given k .fits)
+    (λ k. known .shared-slice-known2 .given k .fits) (start .pre .0) (start .pre .1))
 
 pub common-in-word-spec : {M : Type 1} → statement M
 common-in-word-spec =
-    tie.close (tie.spec (λ c κs. omega arith) (λ c κs. omega arith) cast-result returns)
+    tie.close
+    (tie.spec (λ c κs. omega arith) (λ c κs. omega arith) (λ c. omega (arith, returns c .1)) returns)

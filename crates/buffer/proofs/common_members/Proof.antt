@@ -1,8 +1,7 @@
 -- `buffer::common_members` meets its contract. The loop's invariant: the members before `i` have been counted, `i` being a whole number of words. The
 -- measure is what is left of the length.
 -- Assumes nothing.
-use Prim.Native.Nat.{_+_, _-_}
-use mathlib.Core.Path.{_≡_}
+use Prim.Native.Nat.{_-_}
 use native.Mathlib.Omega.{arith}
 use lib.ListN.{length}
 use Rattle.buffer.proofs.Ones.{Counted, counted-none, counted-more, counted-all}
@@ -20,9 +19,9 @@ loop-holds c = let p = c .before .before .pre in counted-none (c .before .before
 
 loop-again : tie.Need-loop-again Inv-loop μ-loop
 loop-again c =
-    let l = c .before .before .before .before .loop in
-    let e : l .i + 8 - l .i ≡ 8 = omega arith in
-    counted-more (l .inv) (omega arith) (rw e at (c .common-in-word .ensures .0)) (c .common-in-word .ensures .1)
+    let parts = c .before in
+    counted-more (parts .before .before .before .loop .inv) (omega arith)
+    (rw (parts .before .part-of .ensures .0, parts .part-of2 .ensures .0) at (c .common-in-word .ensures .0)) (c .common-in-word .ensures .1)
 
 returns : tie.Need-returns Inv-loop μ-loop
 returns c = counted-all (c .before .loop .inv) (omega arith)
@@ -30,5 +29,5 @@ returns c = counted-all (c .before .loop .inv) (omega arith)
 pub common-members-spec : {M : Type 1} → statement M
 common-members-spec =
     tie.close
-    (tie.spec Inv-loop μ-loop loop-holds (λ c. omega arith) (λ c. omega arith) (λ c. omega arith) (λ c. omega arith) (λ c. omega arith)
-    (λ c. omega arith) (λ c. omega arith) (λ c κs. omega arith) (λ c. omega arith) (λ c. omega arith) loop-again returns)
+    (tie.spec Inv-loop μ-loop loop-holds (λ c κs. omega arith) (λ c κs. omega arith) (λ c κs. omega arith) (λ c. omega arith)
+    (λ c. omega arith) (λ c. omega arith) loop-again returns)

@@ -11,4 +11,4 @@ pub is-extended-union-spec : {M : Type 1} → statement M
 is-extended-union-spec =
     tie.close
     (tie.spec (λ c. omega arith) (λ c κs. omega arith) (λ c. omega arith) (λ c κs. omega arith) (λ c. omega arith) (λ c κs. omega arith)
-    (λ c. omega arith) (λ c κs. omega arith) returns)
+    returns)

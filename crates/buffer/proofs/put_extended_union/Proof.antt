@@ -1,7 +1,6 @@
 -- `buffer::put_extended_union` meets its contract.
 -- Assumes nothing.
-use Prim.Native.Nat.{_+_, _-_}
-use mathlib.Core.Path.{_≡_, refl, sym, _∙_}
+use mathlib.Core.Path.{refl, sym, _∙_}
 use native.Mathlib.Omega.{arith}
 use lib.Bits.{bitOr}
 use Rattle.buffer.specs.Field.{part}
@@ -15,21 +14,19 @@ use Rattle.buffer.proofs.put_extended_union.Tie as tie
 
 returns : tie.Need-returns
 returns c =
-    let copied = c .before .before .before .before .before .before .before in
+    let added = c .before .before in
+    let copied = added .before .before .before .before .before in
     let kept = copied .before .before .before in
     let a = kept .before .before .before .before .before .args in
     let s = a .s .now in
     let other = part s (a .q) 128 in
-    let e : a .q + 128 - a .q ≡ 128 = omega arith in
-    let given = rw e at (kept .copy .ensures) in
     let long = part-length s (a .q) 128 (omega arith) in
     changed-lent s _ _ (λ x. withMember (union x other) (a .v)) (a .p) (a .p) (a .to) (a .to) 128 refl refl (omega arith) (omega arith)
     (λ x l. withMember-length (union x other) (a .v) ∙ bytewise-length bitOr x other (l ∙ sym long) ∙ l)
-    (copied .copy-within .ensures) (rw given at (c .before .before .add-extended .ensures))
+    (copied .copy-within .ensures) (rw (kept .copy .ensures, kept .before .part-of .ensures .0) at (added .add-extended .ensures))
 
 pub put-extended-union-spec : {M : Type 1} → statement M
 put-extended-union-spec =
     tie.close
-    (tie.spec (λ c. omega arith) (λ c. omega arith) (λ c. omega arith) (λ c. omega arith) (λ c. omega arith) (λ c κs. omega arith)
-    (λ c. omega arith) (λ c κs. omega arith) (λ c. omega arith) (λ c. omega arith) (λ c. omega arith) (λ c. omega arith)
-    (λ c κs. omega arith) (λ c. omega arith) returns)
+    (tie.spec (λ c. omega arith) (λ c κs. omega arith) (λ c κs. omega arith) (λ c. omega arith) (λ c κs. omega arith) (λ c. omega arith)
+    (λ c. omega arith) (λ c. omega arith) (λ c. omega arith) (λ c κs. omega arith) (λ c. omega arith) returns)
