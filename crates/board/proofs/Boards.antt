@@ -11,7 +11,7 @@ use lib.ListN.{length, getD, take}
 use lib.Seq.{take-all}
 use Rattle.laws.proofs.Lists.{part-at, take-put}
 use Rattle.buffer.specs.Field.{wordAt, part}
-use Rattle.board.specs.Board.{stripSize, stripCount, boardSize, flagOn, mergeStrip, mergeStrips, mergeBoard}
+use Rattle.board.specs.Board.{stripSize, stripCount, boardSize, levelAt, headingAt, marksAt, callsAt, alertsAt, flagOn, mergeStrip, mergeStrips, mergeBoard}
 use Rattle.board.proofs.Length.{mergeStrip-length}
 
 -- strip k of a board
@@ -25,34 +25,26 @@ strip-word s k o h =
     (part-at s (stripSize * k) stripSize o (omega arith))
     (part-at s (stripSize * k) stripSize (o + 1) h ∙ ap (λ (n : ℕ). getD s n 0) (omega arith))
 
-strip-level : (s : List ℕ) (k : ℕ) → wordAt (strip s k) 0 ≡ wordAt s (stripSize * k)
-strip-level s k = strip-word s k 0 (omega arith) ∙ ap (wordAt s) (omega arith)
+strip-words : (s : List ℕ) (k : ℕ) → (wordAt (strip s k) 0 ≡ wordAt s (levelAt k)) × (wordAt (strip s k) 2 ≡ wordAt s (headingAt k))
+    × (wordAt (strip s k) 4 ≡ wordAt s (marksAt k)) × (wordAt (strip s k) 6 ≡ wordAt s (callsAt k)) × (wordAt (strip s k) 8 ≡ wordAt s (alertsAt k))
+strip-words s k = (
+  strip-word s k 0 (omega arith) ∙ ap (wordAt s) (omega arith),
+  strip-word s k 2 (omega arith),
+  strip-word s k 4 (omega arith),
+  strip-word s k 6 (omega arith),
+  strip-word s k 8 (omega arith),
+)
 
 strip-flag : (s : List ℕ) (k : ℕ) → flagOn (strip s k) 0 ≡ flagOn s k
 strip-flag s k = ap (λ (x : ℕ). eqb x 1) (part-at s (stripSize * k) stripSize 10 (omega arith))
 
-pub strip-merged : (l a b : List ℕ) (k : ℕ) → mergeStrip (strip l k) (strip a k) (strip b k) 0 ≡ mergeStrip l a b k
+strip-merged : (l a b : List ℕ) (k : ℕ) → mergeStrip (strip l k) (strip a k) (strip b k) 0 ≡ mergeStrip l a b k
 unfolding mergeStrip
 strip-merged l a b k =
-    cc (
-      strip-level l k,
-      strip-level a k,
-      strip-level b k,
-      strip-word l k 2 (omega arith),
-      strip-word a k 2 (omega arith),
-      strip-word b k 2 (omega arith),
-      strip-word l k 4 (omega arith),
-      strip-word a k 4 (omega arith),
-      strip-word b k 4 (omega arith),
-      strip-word l k 6 (omega arith),
-      strip-word a k 6 (omega arith),
-      strip-word b k 6 (omega arith),
-      strip-word l k 8 (omega arith),
-      strip-word a k 8 (omega arith),
-      strip-word b k 8 (omega arith),
-      strip-flag a k,
-      strip-flag b k,
-    )
+    let base = strip-words l k in
+    let mine = strip-words a k in
+    let given = strip-words b k in
+    cc (strip-flag a k, strip-flag b k)
 
 -- the first k strips of a board are merged
 pub record Merging (l a b board : List ℕ) (k : ℕ) : Type 0 where

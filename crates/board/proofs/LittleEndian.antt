@@ -9,7 +9,7 @@ use native.Mathlib.Omega.{arith}
 use borrow.Author.Tests.{eq-eqb, ne-eqb}
 use lib.Dec.{eqb}
 use lib.ListN.{set}
-use Rattle.buffer.specs.Field.{byte, putWord}
+use Rattle.buffer.specs.Field.{byte, wordAt, putWord}
 use Rattle.buffer.proofs.Fields.{bytes-word}
 use Rattle.board.specs.Board.{mergeSetting, mergeMarks}
 use Rattle.board.specs.LittleEndian.{swapped}
@@ -29,14 +29,6 @@ put-swapped-twice : (s : List ℕ) (at x : ℕ) → putWord s at (swapped (swapp
 put-swapped-twice s at x =
     ap₂ (λ (p q : ℕ). set (set s at p) (at + 1) q) (swapped-high (swapped x) ∙ swapped-low x) (swapped-low (swapped x) ∙ swapped-high x)
 
--- a field that is written with what was made of three fields, all swapped, by a rule that is the same for swapped ones
-pub put-swapped-rule : (rule : ℕ → ℕ → ℕ → ℕ) (s : List ℕ) (at : ℕ) {t : List ℕ} {x u v w : ℕ} (u′ v′ w′ : ℕ)
-    → rule (swapped u′) (swapped v′) (swapped w′) ≡ swapped (rule u′ v′ w′)
-    → t ≡ putWord s at (swapped x) → x ≡ rule u v w → u ≡ swapped u′ → v ≡ swapped v′ → w ≡ swapped w′ → t ≡ putWord s at (rule u′ v′ w′)
-put-swapped-rule rule s at {x = x} u′ v′ w′ same p e a b c =
-    let made : x ≡ swapped (rule u′ v′ w′) = cc in
-    p ∙ ap (λ (y : ℕ). putWord s at (swapped y)) made ∙ put-swapped-twice s at (rule u′ v′ w′)
-
 swapped-back : (x y : ℕ) → x < 65536 → y < 65536 → swapped x ≡ swapped y → x ≡ y
 swapped-back x y p q e =
     let high = sym (swapped-low x) ∙ ap byte e ∙ swapped-low y in
@@ -54,12 +46,12 @@ choice-swapped : (t : Bool) (x y : ℕ) → cond t (swapped x) (swapped y) ≡ s
 choice-swapped true x y = refl
 choice-swapped false x y = refl
 
-pub setting-swapped : (l a b : ℕ) → l < 65536 → a < 65536 → mergeSetting (swapped l) (swapped a) (swapped b) ≡ swapped (mergeSetting l a b)
+setting-swapped : (l a b : ℕ) → l < 65536 → a < 65536 → mergeSetting (swapped l) (swapped a) (swapped b) ≡ swapped (mergeSetting l a b)
 setting-swapped l a b p q =
     ap (λ (t : Bool). cond t (swapped b) (swapped a)) (eqb-swapped a l q p) ∙ choice-swapped (eqb a l) b a
 
 -- the marks of the high bytes and those of the low ones, in either order
-pub marks-swapped : (l a b : ℕ) → l < 65536 → a < 65536 → b < 65536 → mergeMarks (swapped l) (swapped a) (swapped b) ≡ swapped (mergeMarks l a b)
+marks-swapped : (l a b : ℕ) → l < 65536 → a < 65536 → b < 65536 → mergeMarks (swapped l) (swapped a) (swapped b) ≡ swapped (mergeMarks l a b)
 marks-swapped l a b p q r =
     let l₁ = byte (l / 256) in
     let a₁ = byte (a / 256) in
@@ -72,3 +64,13 @@ marks-swapped l a b p q r =
     let small′ : low < 256 = marks-small 8 (byte l) (byte a) (byte b) (omega arith) (omega arith) in
     let swap : low * 256 + high ≡ swapped (high * 256 + low) = omega (arith, small, small′) in
     marks-bytes (byte l) (byte a) (byte b) l₁ a₁ b₁ (omega arith) (omega arith) (omega arith) ∙ swap ∙ sym (ap swapped whole)
+
+-- fields that were read low byte first, merged and written so
+module _ (s l a b : List ℕ) (at : ℕ) (p : wordAt l at < 65536) (q : wordAt a at < 65536) where
+  pub put-setting : putWord s at (swapped (mergeSetting (swapped (wordAt l at)) (swapped (wordAt a at)) (swapped (wordAt b at))))
+      ≡ putWord s at (mergeSetting (wordAt l at) (wordAt a at) (wordAt b at))
+  put-setting = rw (setting-swapped (wordAt l at) (wordAt a at) (wordAt b at) p q) (put-swapped-twice s at _)
+
+  pub put-marks : wordAt b at < 65536 → putWord s at (swapped (mergeMarks (swapped (wordAt l at)) (swapped (wordAt a at)) (swapped (wordAt b at))))
+      ≡ putWord s at (mergeMarks (wordAt l at) (wordAt a at) (wordAt b at))
+  put-marks r = rw (marks-swapped (wordAt l at) (wordAt a at) (wordAt b at) p q r) (put-swapped-twice s at _)

@@ -13,11 +13,6 @@ use Rattle.buffer.specs.Field.{word, wordAt, putWord}
 use Rattle.buffer.specs.Row.{bit}
 use Rattle.board.specs.Board.{stripSize, levelAt, headingAt, marksAt, callsAt, alertsAt, flagAt, flagOn, mergeSetting, mergeMarks, mergeCount, mergeFlag, mergeStrip}
 
--- a field that is written with what was made of three fields
-pub put-rule : (rule : ℕ → ℕ → ℕ → ℕ) (s : List ℕ) (at : ℕ) {t : List ℕ} {x u v w u′ v′ w′ : ℕ} → t ≡ putWord s at x → x ≡ rule u v w
-    → u ≡ u′ → v ≡ v′ → w ≡ w′ → t ≡ putWord s at (rule u′ v′ w′)
-put-rule rule s at p e a b c = cc
-
 -- the flag of a merge in one line
 pub flag-rule : (m n : Bool) (l a b : ℕ) → (m && (n || ltb l a)) || (n && ltb l b) ≡ mergeFlag m n l a b
 unfolding mergeFlag
@@ -26,16 +21,9 @@ flag-rule true false l a b = or-false (ltb l a)
 flag-rule false true l a b = refl
 flag-rule false false l a b = refl
 
-byte-bit : (b : Bool) → boolByte b ≡ bit b
+pub byte-bit : (b : Bool) → boolByte b ≡ bit b
 byte-bit true = refl
 byte-bit false = refl
-
--- the alert cells, with the flags m and n of receiver and giver
-pub put-alerts : (s : List ℕ) (m n : Bool) {t : List ℕ} {f : Bool} {x u v w u′ v′ w′ : ℕ} → t ≡ putWord s (alertsAt 0) x → x ≡ mergeCount u v w
-    → f ≡ mergeFlag m n u v w → u ≡ u′ → v ≡ v′ → w ≡ w′
-    → set (set t (flagAt 0) (boolByte f)) (flagAt 0 + 1) 0
-    ≡ set (set (putWord s (alertsAt 0) (mergeCount u′ v′ w′)) (flagAt 0) (bit (mergeFlag m n u′ v′ w′))) (flagAt 0 + 1) 0
-put-alerts s m n {f = f} p e g a b c = cc (byte-bit f)
 
 -- the 12 bytes, whatever stood there before
 cells-written : (s : List ℕ) (u v w x y z : ℕ) → length s ≡ stripSize

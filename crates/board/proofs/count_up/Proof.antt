@@ -1,6 +1,6 @@
 -- `board::count_up` meets its contract. What is written is what was read and 1.
 -- Assumes nothing.
-use borrow.Author.Needs.{needs}
+use native.Mathlib.Omega.{arith}
 use Rattle.board.proofs.count_up.Statement.{statement}
 use Rattle.board.proofs.count_up.Tie as tie
 
@@ -8,6 +8,4 @@ returns : tie.Need-returns
 returns c = cc
 
 pub count-up-spec : {M : Type 1} → statement M
-count-up-spec =
-    tie.close
-    (tie.spec (λ c κs. search needs) (λ c. search needs) (λ c κs. search needs) (λ c. search needs) returns)
+count-up-spec = tie.close (tie.spec (λ c κs. omega arith) (λ c. omega arith) (λ c κs. omega arith) (λ c. omega arith) returns)

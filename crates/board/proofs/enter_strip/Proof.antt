@@ -2,7 +2,7 @@
 -- Assumes nothing.
 use mathlib.Core.Path.{sym}
 use native.Mathlib.Omega.{arith}
-use borrow.Author.Needs.{needs}
+use lib.ListN.{length-set}
 use Rattle.board.specs.Board.{enter}
 use Rattle.board.proofs.Entries.{enter-none}
 use Rattle.board.proofs.enter_strip.Statement.{statement}
@@ -46,5 +46,5 @@ enter-strip-spec =
     tie.close
     (tie.spec (λ c κs. omega arith) (λ c κs. omega arith) (λ c κs. omega arith) (λ c κs. omega arith) (λ c κs. omega arith)
     (λ c κs. omega arith) (λ c. omega arith) (λ c. omega arith) (λ c. omega arith) returns (λ c. omega arith) returns-2 (λ c. omega arith)
-    returns-3 (λ c. omega arith) returns-4 (λ c. omega arith) returns-5 (λ c. search needs) returns-6 (λ c. search needs) returns-7
+    returns-3 (λ c. omega arith) returns-4 (λ c. omega arith) returns-5 (λ c. simp length-set (omega arith)) returns-6 (λ c. simp length-set) returns-7
     returns-8)

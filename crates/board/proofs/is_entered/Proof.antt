@@ -1,7 +1,6 @@
 -- `board::is_entered` meets its contract. The entry is made on a copy of the parent's board and compared.
 -- Assumes nothing.
 use native.Mathlib.Omega.{arith}
-use borrow.Author.Needs.{needs}
 use Rattle.board.proofs.is_entered.Statement.{statement}
 use Rattle.board.proofs.is_entered.Tie as tie
 
@@ -11,5 +10,5 @@ returns c = cc
 pub is-entered-spec : {M : Type 1} → statement M
 is-entered-spec =
     tie.close
-    (tie.spec (λ c. omega arith) (λ c κs. omega arith) (λ c. omega arith) (λ c κs. search needs) (λ c. omega arith) (λ c κs. omega arith)
+    (tie.spec (λ c. omega arith) (λ c κs. omega arith) (λ c. omega arith) (λ c κs. omega arith) (λ c. omega arith) (λ c κs. omega arith)
     returns)

@@ -8,6 +8,4 @@ returns : tie.Need-returns
 returns c = cc
 
 pub is-merged-spec : {M : Type 1} → statement M
-is-merged-spec =
-    tie.close
-    (tie.spec (λ c. omega arith) (λ c κs. omega arith) (λ c. omega arith) (λ c κs. omega arith) returns)
+is-merged-spec = tie.close (tie.spec (λ c. omega arith) (λ c κs. omega arith) (λ c. omega arith) (λ c κs. omega arith) returns)

@@ -1,6 +1,6 @@
 -- `board::merge_count_at` meets its contract. What is written is made of the three words that were read.
 -- Assumes nothing.
-use borrow.Author.Needs.{needs}
+use native.Mathlib.Omega.{arith}
 use Rattle.board.proofs.merge_count_at.Statement.{statement}
 use Rattle.board.proofs.merge_count_at.Tie as tie
 
@@ -10,5 +10,5 @@ returns c = cc
 pub merge-count-at-spec : {M : Type 1} → statement M
 merge-count-at-spec =
     tie.close
-    (tie.spec (λ c κs. search needs) (λ c κs. search needs) (λ c κs. search needs) (λ c κs. search needs) (λ c κs. search needs)
-    (λ c. search needs) returns)
+    (tie.spec (λ c κs. omega arith) (λ c κs. omega arith) (λ c κs. omega arith) (λ c κs. omega arith) (λ c κs. omega arith)
+    (λ c. omega arith) returns)

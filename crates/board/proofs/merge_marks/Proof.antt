@@ -14,5 +14,4 @@ returns c =
     )
 
 pub merge-marks-spec : {M : Type 1} → statement M
-merge-marks-spec =
-    tie.close (tie.spec (λ c κs. omega arith) (λ c κs. omega arith) returns)
+merge-marks-spec = tie.close (tie.spec (λ c κs. omega arith) (λ c κs. omega arith) returns)

@@ -1,10 +1,7 @@
 -- `board::merge_marks_at` meets its contract. What is written is made of the three words that were read, all of them with their bytes swapped.
 -- Assumes nothing.
 use native.Mathlib.Omega.{arith}
-use denote.Ref.{now}
-use Rattle.buffer.specs.Field.{wordAt}
-use Rattle.board.specs.Board.{mergeMarks}
-use Rattle.board.proofs.LittleEndian.{put-swapped-rule, marks-swapped}
+use Rattle.board.proofs.LittleEndian.{put-marks}
 use Rattle.board.proofs.merge_marks_at.Statement.{statement}
 use Rattle.board.proofs.merge_marks_at.Tie as tie
 
@@ -16,8 +13,7 @@ returns c =
     let l = words .before .before .le-word-at .ensures in
     let a = words .before .le-word-at2 .ensures in
     let b = words .le-word-at3 .ensures in
-    put-swapped-rule mergeMarks (now (args .s)) (args .at) (wordAt (now (args .l)) (args .at)) (wordAt (now (args .a)) (args .at)) (wordAt (now (args .b)) (args .at))
-    (marks-swapped _ _ _ (l .1) (a .1) (b .1)) (c .before .before .put-le-word .ensures) (rule .merge-marks .ensures .0) (l .0) (a .0) (b .0)
+    cc (put-marks (args .s .now) (args .l .now) (args .a .now) (args .b .now) (args .at) (l .1) (a .1) (b .1))
 
 pub merge-marks-at-spec : {M : Type 1} → statement M
 merge-marks-at-spec =

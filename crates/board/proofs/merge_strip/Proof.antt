@@ -1,7 +1,6 @@
 -- `board::merge_strip` meets its contract. Its calls write the cells from the first to the last.
 -- Assumes nothing.
-use borrow.Author.Needs.{needs}
-use denote.Ref.{now}
+use native.Mathlib.Omega.{arith}
 use Rattle.board.proofs.Strips.{strip-built}
 use Rattle.board.proofs.merge_strip.Statement.{statement}
 use Rattle.board.proofs.merge_strip.Tie as tie
@@ -14,11 +13,12 @@ returns c =
     let heading = marks .before .before .before .before in
     let level = heading .before .before .before .before in
     let start = level .before .before .before .before .before .before in
-    strip-built (now (start .args .l)) (now (start .args .a)) (now (start .args .b)) (now (start .args .s)) (start .pre .0)
-    (level .merge-setting-at .ensures) (heading .merge-setting-at2 .ensures) (marks .merge-marks-at .ensures) (calls .merge-count-at .ensures) (alerts .merge-alerts .ensures)
+    let a = start .args in
+    strip-built (a .l .now) (a .a .now) (a .b .now) (a .s .now) (start .pre .0) (level .merge-setting-at .ensures) (heading .merge-setting-at2 .ensures)
+    (marks .merge-marks-at .ensures) (calls .merge-count-at .ensures) (alerts .merge-alerts .ensures)
 
 pub merge-strip-spec : {M : Type 1} → statement M
 merge-strip-spec =
     tie.close
-    (tie.spec (λ c κs. search needs) (λ c κs. search needs) (λ c κs. search needs) (λ c κs. search needs) (λ c κs. search needs)
-    (λ c. search needs) returns)
+    (tie.spec (λ c κs. omega arith) (λ c κs. omega arith) (λ c κs. omega arith) (λ c κs. omega arith) (λ c κs. omega arith)
+    (λ c. omega arith) returns)

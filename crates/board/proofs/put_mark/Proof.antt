@@ -1,6 +1,6 @@
 -- `board::put_mark` meets its contract. What is written are the marks that were read, with one put.
 -- Assumes nothing.
-use borrow.Author.Needs.{needs}
+use native.Mathlib.Omega.{arith}
 use Rattle.board.proofs.put_mark.Statement.{statement}
 use Rattle.board.proofs.put_mark.Tie as tie
 
@@ -8,6 +8,4 @@ returns : tie.Need-returns
 returns c = cc
 
 pub put-mark-spec : {M : Type 1} → statement M
-put-mark-spec =
-    tie.close
-    (tie.spec (λ c κs. search needs) (λ c κs. search needs) (λ c κs. search needs) (λ c. search needs) returns)
+put-mark-spec = tie.close (tie.spec (λ c κs. omega arith) (λ c κs. omega arith) (λ c κs. omega arith) (λ c. omega arith) returns)

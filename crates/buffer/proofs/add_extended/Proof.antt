@@ -8,5 +8,4 @@ returns : tie.Need-returns
 returns c = cc
 
 pub add-extended-spec : {M : Type 1} → statement M
-add-extended-spec =
-    tie.close (tie.spec (λ c κs. omega arith) (λ c κs. omega arith) (λ c. omega arith) returns)
+add-extended-spec = tie.close (tie.spec (λ c κs. omega arith) (λ c κs. omega arith) (λ c. omega arith) returns)

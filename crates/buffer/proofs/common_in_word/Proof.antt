@@ -14,6 +14,4 @@ returns c =
     (λ k. known .shared-slice-known2 .given k .fits) (start .pre .0) (start .pre .1))
 
 pub common-in-word-spec : {M : Type 1} → statement M
-common-in-word-spec =
-    tie.close
-    (tie.spec (λ c κs. omega arith) (λ c κs. omega arith) (λ c. omega (arith, returns c .1)) returns)
+common-in-word-spec = tie.close (tie.spec (λ c κs. omega arith) (λ c κs. omega arith) (λ c. omega (arith, returns c .1)) returns)

@@ -31,6 +31,4 @@ returns : tie.Need-returns Inv-loop μ-loop
 returns c = compared-all (c .before .loop .inv) (omega arith) ∙ sym (zero-same (c .before .before .args .s .now))
 
 pub is-zero-spec : {M : Type 1} → statement M
-is-zero-spec =
-    tie.close
-    (tie.spec Inv-loop μ-loop loop-holds (λ c. omega arith) (λ c. omega arith) (λ c. omega arith) loop-again returns)
+is-zero-spec = tie.close (tie.spec Inv-loop μ-loop loop-holds (λ c. omega arith) (λ c. omega arith) (λ c. omega arith) loop-again returns)

@@ -14,5 +14,4 @@ returns c =
     rw count (refl, part-length (a .s .now) (a .at) (a .n) (omega arith))
 
 pub part-of-spec : {M : Type 1} → statement M
-part-of-spec =
-    tie.close (tie.spec (λ c. omega arith) (λ c. omega arith) (λ c. omega arith) (λ c. omega arith) returns)
+part-of-spec = tie.close (tie.spec (λ c. omega arith) (λ c. omega arith) (λ c. omega arith) (λ c. omega arith) returns)
