@@ -7,7 +7,7 @@ pub mod RoundTrip
 pub mod Places
 pub mod Sorts
 pub mod Grown
-pub mod PlaceCell
+pub mod Lent
 pub mod Walk
 pub mod Scans
 pub mod Located

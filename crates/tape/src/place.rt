@@ -90,7 +90,7 @@ fn record_length(t: &[u8]) -> usize
 }
 
 // The record at a place.
-fn record_at(tape: &[u8], place: Place) -> Record
+pub fn record_at(tape: &[u8], place: Place) -> Record
     requires { ⌜ place .at ≤ length (now tape) ⌝ }
     ensures { λ r. ⌜ r ≡ recordIn (drop (place .at) (now (tape .entry))) ⌝ }
 {
@@ -99,7 +99,7 @@ fn record_at(tape: &[u8], place: Place) -> Record
 }
 
 // The place past the record at a place.
-fn next_at(tape: &[u8], place: Place) -> Place
+pub fn next_at(tape: &[u8], place: Place) -> Place
     requires { ⌜ place .at ≤ length (now tape) ⌝ }
     ensures { λ r. ⌜ (r .at ≡ placeAfter (now (tape .entry)) (place .at)) × (r .at ≤ length (now (tape .entry))) ⌝ }
 {
@@ -113,7 +113,7 @@ fn next_at(tape: &[u8], place: Place) -> Place
 }
 
 // Moves the reading place past the record that stands there.
-fn skip_record(tape: &[u8], place: &mut Place)
+pub fn skip_record(tape: &[u8], place: &mut Place)
     requires { ⌜ now place .at ≤ length (now tape) ⌝ }
     ensures { λ _. ⌜ (now (place .exit) .at ≡ placeAfter (now (tape .entry)) (now (place .entry) .at)) × (now (place .exit) .at ≤ length (now (tape .entry))) ⌝ }
 {
@@ -121,7 +121,7 @@ fn skip_record(tape: &[u8], place: &mut Place)
 }
 
 // Reads the record at the reading place and moves the place past it.
-fn read_record(tape: &[u8], place: &mut Place) -> Record
+pub fn read_record(tape: &[u8], place: &mut Place) -> Record
     requires { ⌜ now place .at ≤ length (now tape) ⌝ }
     ensures { λ r. ⌜ (r ≡ recordIn (drop (now (place .entry) .at) (now (tape .entry)))) × (now (place .exit) .at ≡ placeAfter (now (tape .entry)) (now (place .entry) .at)) × (now (place .exit) .at ≤ length (now (tape .entry))) ⌝ }
 {
