@@ -5,7 +5,7 @@ use mathlib.Core.Path.{_≡_, refl, sym, _∙_, ap}
 use mathlib.Core.List.{List, [], _∷_, _++_, append-assoc, append-nil}
 use mathlib.Core.Option.{some}
 use native.Mathlib.Omega.{arith}
-use native.Mathlib.Nat.{add-zero, not-suc-le-zero}
+use native.Mathlib.Nat.{not-suc-le-zero}
 use lib.ListN.{length, getD, take, drop, length-append, length-drop}
 use lib.Seq.{drop-at}
 use borrow.Author.Tests.{le-ltb}
@@ -77,10 +77,10 @@ unfolding shapeOf lengthOf
 head-bytes-length [] = refl
 head-bytes-length (h ∷ before) = simp length-append (omega (arith, head-bytes-length before))
 
--- the record of version 1 stands behind the start
-pub first-place : (g : Graph) → versionPlace g 0 ≡ lengthOf (shapeOf startRecord)
-unfolding versionRecords
-first-place g = rw (none-first g, add-zero)
+-- the record of version 1 stands behind the start, at `START_LENGTH`
+pub first-place : (g : Graph) → 3 ≡ versionPlace g 0
+unfolding versionRecords shapeOf lengthOf
+first-place g = rw (none-first g)
 
 -- what stands at the place of version suc k
 pub record VersionAt (tape : List ℕ) (g : Graph) (k : ℕ) (n : Node) : Type 0 where

@@ -15,15 +15,9 @@ use Rattle.tape.specs.declared.Record.the-variants.{Broken}
 use Rattle.tape.specs.Record.{recordLength, recordFrom, recordIn}
 use Rattle.tape.specs.Reader.{placeAfter}
 
-pub record-empty : (t : List ℕ) → length t ≡ 0 → Broken ≡ recordIn t
-unfolding recordIn recordFrom shapeOf lengthOf
-record-empty [] h = refl
-record-empty (x ∷ t) h = absurd (omega arith)
-
-pub length-empty : (t : List ℕ) → length t ≡ 0 → 0 ≡ recordLength t
-unfolding shapeOf lengthOf
-length-empty [] h = refl
-length-empty (x ∷ t) h = absurd (omega arith)
+pub no-code : (t : List ℕ) → length t ≡ 0 → 0 ≡ getD t 0 0
+no-code [] h = refl
+no-code (x ∷ t) h = absurd (omega arith)
 
 -- with the code at the front, its shape and its length in hand
 module _ (t : List ℕ) (code : ℕ) (e : code ≡ getD t 0 0) (shape : Shape) (widths : shape ≡ shapeOf code) (n : ℕ) (long : n ≡ lengthOf shape) where

@@ -88,29 +88,23 @@ unfolding afterRecord
 read-head k c v inVersions t rest hc hv = read-one k inVersions inHeads t (withHead t c v) (Head (record { 0 = c }) (record { 0 = v })) rest (hc, hv) refl
 read-head k c v inHeads t rest hc hv = read-one k inHeads inHeads t (withHead t c v) (Head (record { 0 = c }) (record { 0 = v })) rest (hc, hv) refl
 
--- the heads from console c on are read up to the end
-read-heads : (k c : ℕ) (later : List (Option ℕ)) (t : Content) → length (headRecords c later) < k → Named (t .versions) later
-    → length (t .versions) < 65535 → c + length later ≤ consoleCount
-    → readOn k inHeads t (headRecords c later ++ recordBytes End) ≡ some (withHeads t (headsFrom c later (t .heads)))
-unfolding headRecords
-read-heads zero c later t fuel named l fit = absurd (not-suc-le-zero fuel)
-read-heads (suc k) c [] t fuel named l fit = read-end k t
-read-heads (suc k) c (none ∷ later) t fuel named l fit =
-    read-heads (suc k) (suc c) later t fuel (named-tail (t .versions) none later named) l (omega arith)
-read-heads (suc k) c (some v ∷ later) t fuel named l fit =
-    let version = ltb-true v (versionCount (t .versions)) (named 0 (omega arith)) in
-    read-head k c v inHeads t _ (omega arith) (omega arith)
-    ∙ read-heads k (suc c) later (withHead t c v) (omega arith) (named-tail (t .versions) (some v) later named) l (omega arith)
+-- a tape may begin with these heads: console 0 is there; behind a head any may stand
+abbrev MayStand : Stage → List (Option ℕ) → Type 0
+MayStand inVersions heads = isSome (getD heads 0 none) ≡ true
+MayStand inHeads heads = Unit {0}
 
--- and so are all heads after the versions, where console 0 is there
-pub read-all-heads : (k : ℕ) (heads : List (Option ℕ)) (t : Content) → length (headRecords 0 heads) < k
-    → isSome (getD heads 0 none) ≡ true → Named (t .versions) heads → length (t .versions) < 65535 → length heads ≤ consoleCount
-    → readOn k inVersions t (headRecords 0 heads ++ recordBytes End) ≡ some (withHeads t (headsFrom 0 heads (t .heads)))
+-- the heads from console c on are read up to the end
+pub read-heads : (k c : ℕ) (stage : Stage) (heads : List (Option ℕ)) (t : Content) → length (headRecords c heads) < k → MayStand stage heads
+    → Named (t .versions) heads → length (t .versions) < 65535 → c + length heads ≤ consoleCount
+    → readOn k stage t (headRecords c heads ++ recordBytes End) ≡ some (withHeads t (headsFrom c heads (t .heads)))
 unfolding headRecords
-read-all-heads zero heads t fuel first named l fit = absurd (not-suc-le-zero fuel)
-read-all-heads (suc k) [] t fuel first named l fit = clash first refl
-read-all-heads (suc k) (none ∷ later) t fuel first named l fit = clash first refl
-read-all-heads (suc k) (some v ∷ later) t fuel first named l fit =
+read-heads zero c stage heads t fuel may named l fit = absurd (not-suc-le-zero fuel)
+read-heads (suc k) c inVersions [] t fuel may named l fit = clash may refl
+read-heads (suc k) c inHeads [] t fuel may named l fit = read-end k t
+read-heads (suc k) c inVersions (none ∷ later) t fuel may named l fit = clash may refl
+read-heads (suc k) c inHeads (none ∷ later) t fuel may named l fit =
+    read-heads (suc k) (suc c) inHeads later t fuel tt (named-tail (t .versions) none later named) l (omega arith)
+read-heads (suc k) c stage (some v ∷ later) t fuel may named l fit =
     let version = ltb-true v (versionCount (t .versions)) (named 0 (omega arith)) in
-    read-head k 0 v inVersions t _ (omega arith) (omega arith)
-    ∙ read-heads k 1 later (withHead t 0 v) (omega arith) (named-tail (t .versions) (some v) later named) l (omega arith)
+    read-head k c v stage t _ (omega arith) (omega arith)
+    ∙ read-heads k (suc c) inHeads later (withHead t c v) (omega arith) tt (named-tail (t .versions) (some v) later named) l (omega arith)

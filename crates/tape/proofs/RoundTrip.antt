@@ -21,7 +21,7 @@ use Rattle.tape.proofs.Records.{Bytes, record-read, record-rest}
 use Rattle.tape.proofs.Accepted.{accepted, accepts}
 use Rattle.tape.proofs.Heads.{headsFrom, Named, slots-forth, all-named, slots-back, rises}
 use Rattle.tape.proofs.Written.{tape-written}
-use Rattle.tape.proofs.Reading.{read-versions, versions-long, read-all-heads}
+use Rattle.tape.proofs.Reading.{read-versions, versions-long, read-heads}
 
 -- what the tape of a room says
 abbrev pub contentIn : Room → Content
@@ -51,7 +51,7 @@ module _ (r : Room) (s : soundRoom r ≡ true) where
       let split : fuel ≡ length (r .versions) + (fuel - length (r .versions)) = omega arith in
       rw split
       (read-versions (r .versions) (fuel - length (r .versions)) (r .settings) _ (k .lower) (k .ranged) (omega (arith, small))
-      ∙ read-all-heads _ (r .heads) _ (omega arith) (k .first) named-heads (omega (arith, small)) (omega (arith, k .sixteen)))
+      ∙ read-heads _ 0 inVersions (r .heads) _ (omega arith) (k .first) named-heads (omega (arith, small)) (omega (arith, k .sixteen)))
 
   pub tape-content : contentOf (tapeOf r) ≡ some (contentIn r)
   unfolding contentOf

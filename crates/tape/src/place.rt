@@ -18,7 +18,7 @@ use room::Settings;
 ghost use mathlib.Core.Path.{_≡_};
 ghost use mathlib.Core.List.{_++_};
 ghost use Prim.Native.Nat.{_+_, _≤_, _<_};
-ghost use lib.ListN.{length, drop};
+ghost use lib.ListN.{length, getD, drop};
 ghost use Rattle.tape.specs.Record.{recordLength, recordFrom, recordIn, recordBytes, recordRefusal};
 ghost use Rattle.tape.specs.Reader.{placeAfter};
 
@@ -64,14 +64,21 @@ fn record_from(code: usize, o: Operands) -> Record
     }
 }
 
+// The code at the front of a tape; 0, which is no record's, where there is none.
+fn front_code(t: &[u8]) -> usize
+    ensures { λ r. ⌜ r ≡ getD (now (t .entry)) 0 0 ⌝ }
+{
+    if t.len() == 0 {
+        return 0;
+    }
+    wide(t[0])
+}
+
 // The record at the front of a tape, where it is there whole: the tape begins with the paper's bytes of it and goes on behind them.
 fn record_in(t: &[u8]) -> Record
     ensures { λ r. ⌜ (r ≡ recordIn (now (t .entry))) × (recordRefusal r ≡ 0 → now (t .entry) ≡ recordBytes r ++ drop (recordLength (now (t .entry))) (now (t .entry))) ⌝ }
 {
-    if t.len() == 0 {
-        return Record::Broken;
-    }
-    let code = wide(t[0]);
+    let code = front_code(t);
     let shape = widths_of(code);
     if t.len() < length_of(shape) {
         return Record::Broken;
@@ -83,10 +90,7 @@ fn record_in(t: &[u8]) -> Record
 fn record_length(t: &[u8]) -> usize
     ensures { λ r. ⌜ r ≡ recordLength (now (t .entry)) ⌝ }
 {
-    if t.len() == 0 {
-        return 0;
-    }
-    length_of(widths_of(wide(t[0])))
+    length_of(widths_of(front_code(t)))
 }
 
 // The record at a place.
