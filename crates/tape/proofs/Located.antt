@@ -13,7 +13,7 @@ use Rattle.laws.proofs.Logic.{cond-false}
 use Rattle.laws.proofs.Lists.{all-first, none-first, one-more}
 use Rattle.graph.specs.declared.Node.{Node}
 use Rattle.graph.specs.Graph.{Graph, merge}
-use Rattle.command.specs.Code.{startRecord, headRecord, shapeOf, lengthOf}
+use Rattle.command.specs.Code.{headRecord, shapeOf, lengthOf}
 use Rattle.tape.specs.declared.Record.{Record}
 use Rattle.tape.specs.declared.Record.the-variants.{Start, Version, End}
 use Rattle.tape.specs.Record.{recordIn, recordBytes}

@@ -111,7 +111,7 @@ whole-tape t c bytes e = at (recordIn t) refl e
         let whole = record-whole (Start settings) t bytes q refl in
         let start : Content = record { settings = settings; versions = []; heads = [] } in
         let rest = kept (length t) inVersions start c (drop (recordLength t) t) refl (bytes-drop (recordLength t) t bytes) e in (
-          cc (whole .0, rest .0, append-nil (recordBytes (Start settings))),
+          cc (whole .0, rest .0),
           rest .1 (record { capacity = whole .1; versions = tt; heads = tt }),
         )
     at (Version node) q e = nothing-read e
