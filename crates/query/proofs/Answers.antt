@@ -6,6 +6,7 @@ use mathlib.Core.List.{List}
 use Prim.Native.Nat.{ℕ, pred, _≤_, _<_}
 use native.Mathlib.Omega.{arith}
 use lib.Dec.{eqb}
+use lib.ListN.{length}
 use Rattle.buffer.specs.Field.{wordAt}
 use Rattle.buffer.specs.Row.{member}
 use Rattle.buffer.proofs.Rows.{member-row}
@@ -15,12 +16,12 @@ use Rattle.command.specs.Code.{consoleCount}
 use Rattle.room.specs.Room.{present, head, common}
 use Rattle.room.specs.Boards.{boardOf}
 use Rattle.room.proofs.Steps.{common-meet}
-use Rattle.store.specs.Layout.{rowSize, capacityAt, countAt, settingsIn, roomIn, holdsStore}
+use Rattle.store.specs.Layout.{rowSize, blockAt, capacityAt, countAt, settingsIn, roomIn, holdsStore}
 use Rattle.store.specs.Check.{rowPart, boardPart, commonIn}
 use Rattle.store.proofs.Commons.{head-is, present-is}
 use Rattle.store.proofs.Reading.{count-read}
 use Rattle.store.proofs.Checks.{own-heads}
-use Rattle.store.proofs.Whole.{whole-ranges, whole-front, whole-small, whole-held, whole-fields, whole-low}
+use Rattle.store.proofs.Whole.{whole-ranges, whole-front, whole-long, whole-small, whole-held, whole-fields, whole-low}
 
 module _ (s : List ℕ) (t : holdsStore s ≡ true) where
   pub settings-answer : (settingsIn s ≡ roomIn s .settings) × (wordAt s capacityAt ≤ 1024)
@@ -31,6 +32,10 @@ module _ (s : List ℕ) (t : holdsStore s ≡ true) where
   count-answer =
       let e = count-read s (roomIn s) (whole-front s t) (whole-ranges s t) in
       (e, omega (arith, whole-small s t))
+
+  -- the blocks of its versions lie in the bytes
+  pub versions-inside : blockAt (versionCount (roomIn s .versions)) ≤ length s
+  versions-inside = let k = whole-ranges s t in omega (arith, whole-long s t)
 
   -- consoles
   pub present-answer : (c : ℕ) → c < consoleCount → not (eqb (commonIn s c c) 0) ≡ present (roomIn s) c

@@ -55,9 +55,12 @@ abbrev pub Versions : Content → (Graph → Type 0) → ℕ → ℕ → Type 0
 Versions t = Along (t .versions) (versionPlace (t .versions))
 
 -- the first stands behind the three bytes of the start
-pub versions-none : (t : Content) (Built : Graph → Type 0) → Built [] → Versions t Built 0 3
+first-at : (t : Content) → 3 ≡ versionPlace (t .versions) 0
 unfolding shapeOf lengthOf
-versions-none t Built b = along-none (t .versions) (versionPlace (t .versions)) Built (sym (first-place (t .versions))) b
+first-at t = first-place (t .versions)
+
+pub versions-none : (t : Content) (Built : Graph → Type 0) → Built [] → Versions t Built 0 3
+versions-none t Built b = along-none (t .versions) (versionPlace (t .versions)) Built (first-at t) b
 
 module _ (tape : List ℕ) (t : Content) (bytes : Bytes tape) (says : contentOf tape ≡ some t) {Old : Graph → Type 0} {k at : ℕ}
     (a : Versions t Old k at) (l : k < length (t .versions)) where

@@ -3,7 +3,7 @@
 use mathlib.Core.Path.{_≡_, refl, sym, ap, ap₂, _∙_}
 use mathlib.Core.Bool.{Bool, true, not, _&&_, _||_}
 use mathlib.Core.List.{List}
-use Prim.Native.Nat.{ℕ, zero, suc, _+_, _-_, _*_, _/_, _≤_, _<_}
+use Prim.Native.Nat.{ℕ, zero, suc, pred, _+_, _-_, _*_, _/_, _≤_, _<_}
 use native.Mathlib.Numerals.{add-one}
 use native.Mathlib.Omega.{arith}
 use lib.Dec.{eqb, eqb·suc-zero}
@@ -139,11 +139,10 @@ pub pair-none-right : (rows : List ℕ) (x y : ℕ) → y ≡ 0 → 0 ≡ pairFi
 pair-none-right rows zero y e = refl
 pair-none-right rows (suc u) y e = rw e
 
-pub pair-both : (rows : List ℕ) (x y : ℕ) → (x ≡ 0 → ⊥) → (y ≡ 0 → ⊥) → meetField rows (x - 1) (y - 1) ≡ pairField rows x y
+pub pair-both : (rows : List ℕ) (x y : ℕ) → (x ≡ 0 → ⊥) → (y ≡ 0 → ⊥) → meetField rows (pred x) (pred y) ≡ pairField rows x y
 pair-both rows zero y p q = absurd (p refl)
 pair-both rows (suc u) zero p q = absurd (q refl)
-pair-both rows (suc u) (suc v) p q =
-    ap₂ (meetField rows) (omega arith) (omega arith)
+pair-both rows (suc u) (suc v) p q = refl
 
 pub pair-answer : (rows : List ℕ) (x y : ℕ) {z : ℕ} → z ≡ pairField rows x y → (eqb x 0 || eqb y 0) || not (eqb z 0) ≡ pairMeets rows x y
 pair-answer rows zero y e = refl

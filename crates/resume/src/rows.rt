@@ -16,7 +16,7 @@ ghost use mathlib.Core.Bool.{true};
 ghost use Prim.Native.Nat.{_+_, _*_, _/_, _^_, _<_, _≤_};
 ghost use lib.ListN.{length};
 ghost use Rattle.buffer.specs.Field.{zeros, withPart};
-ghost use Rattle.buffer.specs.Row.{withMember};
+ghost use Rattle.buffer.specs.Row.{withMember, union};
 ghost use Rattle.graph.specs.Graph.{servesAsBase};
 ghost use Rattle.room.specs.Sound.{maxCapacity};
 ghost use Rattle.store.specs.Layout.{rowSize, headFrom};
@@ -97,6 +97,22 @@ pub fn put_root(rows: &mut [u8])
     make_root(&mut rows[at..end]);
 }
 
+// Writes the row of version v, an entry on p.
+fn put_extended_row(rows: &mut [u8], v: Version, p: Version)
+    requires { ⌜ (length (now rows) ≡ rowsSize) × (p .0 < v .0) × (v .0 < maxCapacity) ⌝ }
+    ensures { λ _. ⌜ now (rows .exit) ≡ withPart (now (rows .entry)) (rowSize * v .0) (withMember (ownRow (now (rows .entry)) (p .0)) (v .0)) ⌝ }
+{
+    put_extended(rows, ROW * p.0, ROW * v.0, v.0);
+}
+
+// Writes the row of version v, a merge of q into p.
+fn put_joined_row(rows: &mut [u8], v: Version, p: Version, q: Version)
+    requires { ⌜ (length (now rows) ≡ rowsSize) × (p .0 < v .0) × (q .0 < v .0) × (v .0 < maxCapacity) ⌝ }
+    ensures { λ _. ⌜ now (rows .exit) ≡ withPart (now (rows .entry)) (rowSize * v .0) (withMember (union (ownRow (now (rows .entry)) (p .0)) (ownRow (now (rows .entry)) (q .0))) (v .0)) ⌝ }
+{
+    put_extended_union(rows, ROW * p.0, ROW * q.0, ROW * v.0, v.0);
+}
+
 // Writes the row of version v, whose parents are below it.
 pub fn put_row(rows: &mut [u8], v: Version, node: Node)
     requires { ⌜ (length (now rows) ≡ rowsSize) × (v .0 < maxCapacity) × (nodeInRange (v .0) node ≡ true) ⌝ }
@@ -108,14 +124,8 @@ pub fn put_row(rows: &mut [u8], v: Version, node: Node)
             code: _,
             strip: _,
             operand: _,
-        } => put_extended(rows, ROW * parent.0, ROW * v.0, v.0),
-        Node::Merge { receiver, giver } => put_extended_union(
-            rows,
-            ROW * receiver.0,
-            ROW * giver.0,
-            ROW * v.0,
-            v.0,
-        ),
+        } => put_extended_row(rows, v, parent),
+        Node::Merge { receiver, giver } => put_joined_row(rows, v, receiver, giver),
     }
 }
 

@@ -54,13 +54,13 @@ pub fn merge(s: &mut [u8], c: Console, d: Console)
     requires { ⌜ versionCount (roomIn (now s) .versions) < roomIn (now s) .settings .capacity ⌝ }
     ensures { λ _. ⌜ now (s .exit) ≡ overwrite (encode (grown (roomIn (now (s .entry))) (c .0) (merge (head (roomIn (now (s .entry))) (c .0)) (head (roomIn (now (s .entry))) (d .0))))) (now (s .entry)) ⌝ }
 {
-    let n = Version(version_count(s));
+    let next = Version(version_count(s));
     let node = Node::Merge {
         receiver: head_of(s, c),
         giver: head_of(s, d),
     };
-    append_version(s, n, node, common_of(s, c, d));
-    put_word(s, COUNT, n.0 + 1);
+    append_version(s, next, node, common_of(s, c, d));
+    put_word(s, COUNT, next.0 + 1);
     join_commons(s, c, d);
-    put_head(s, c, field_of(n));
+    put_head(s, c, field_of(next));
 }

@@ -1,8 +1,10 @@
 -- `query::heard_count` meets its contract.
 -- Assumes nothing.
 use mathlib.Core.Path.{_∙_}
+use native.Mathlib.Omega.{arith}
 use borrow.Author.Needs.{needs}
-use Rattle.store.proofs.Whole.{whole-header, whole-block}
+use Rattle.store.proofs.Whole.{whole-header}
+use Rattle.query.proofs.Answers.{versions-inside}
 use Rattle.query.proofs.Heard.{heard-answer}
 use Rattle.query.proofs.heard_count.Statement.{statement}
 use Rattle.query.proofs.heard_count.Tie as tie
@@ -13,7 +15,7 @@ entries-part-requires c κs = whole-header (c .before .before .args .s .now) (c 
 row-part-requires : tie.Need-row-part-requires
 row-part-requires c κs =
     let start = c .before .before .before in
-    whole-block (start .args .s .now) (start .pre .0) (c .before .head-of .result .0) (c .before .head-of .ensures .1)
+    omega (arith, versions-inside (start .args .s .now) (start .pre .0))
 
 returns : tie.Need-returns
 returns c =

@@ -1,16 +1,16 @@
--- `resume::heads::judge_heads` meets its contract: the heads are put onto the diagonal, and the table is filled and judged.
+-- `resume::commons::build_commons` meets its contract: the heads are put onto the diagonal, and the table is filled and judged.
 -- Assumes nothing.
 use native.Mathlib.Omega.{arith}
 use Rattle.resume.specs.Content.{contentIn}
 use Rattle.resume.proofs.HeadsJudged.{heads-long, heads-low, heads-judged}
-use Rattle.resume.proofs.heads.judge_heads.Statement.{statement}
-use Rattle.resume.proofs.heads.judge_heads.Tie as tie
+use Rattle.resume.proofs.commons.build_commons.Statement.{statement}
+use Rattle.resume.proofs.commons.build_commons.Tie as tie
 
 put-heads-requires : tie.Need-put-heads-requires
 put-heads-requires c κs = let p = c .before .before .before .before .pre in (p .0, (p .1 .0, (p .1 .1 .0, p .1 .1 .1 .1)))
 
-judge-table-requires : tie.Need-judge-table-requires
-judge-table-requires c κs =
+build-pairs-requires : tie.Need-build-pairs-requires
+build-pairs-requires c κs =
     let put = c .before .before .before in
     let start = put .before .before .before .before .before in
     let p = start .pre in
@@ -27,7 +27,7 @@ returns c =
     let start = put .before .before .before .before .before in
     let p = start .pre in
     heads-judged (contentIn (start .args .tape .now)) (p .1 .0 .0) (p .1 .0 .1) (p .1 .1 .0 .0) (put .put-heads .ensures) (p .1 .1 .1 .0)
-    (judged .judge-table .ensures .0) (judged .judge-table .ensures .1)
+    (judged .build-pairs .ensures .0) (judged .build-pairs .ensures .1)
 
-pub judge-heads-spec : {M : Type 1} → statement M
-judge-heads-spec = tie.close (tie.spec put-heads-requires judge-table-requires (λ c. omega arith) returns)
+pub build-commons-spec : {M : Type 1} → statement M
+build-commons-spec = tie.close (tie.spec put-heads-requires build-pairs-requires (λ c. omega arith) returns)

@@ -1,14 +1,15 @@
--- `resume::heads::put_heads` meets its contract. The loop's invariant: the first `j` heads stand on the diagonal.
+-- `resume::commons::put_heads` meets its contract. The loop's invariant: the first `j` heads stand in the header.
 -- Assumes nothing.
 use Prim.Native.Nat.{_-_}
-use native.Mathlib.Omega.{arith}
 use Rattle.resume.specs.Content.{contentIn}
-use Rattle.resume.proofs.Reread.{Headed, headed-none, head-inside, head-within, headed-more, headed-all}
-use Rattle.resume.proofs.heads.put_heads.Statement.{statement}
-use Rattle.resume.proofs.heads.put_heads.Tie as tie
+use Rattle.resume.proofs.Along.{Heads, head-inside}
+use Rattle.resume.proofs.Reread.{Headed, headed-none, headed-all, headed-more, head-bounds}
+use native.Mathlib.Omega.{arith}
+use Rattle.resume.proofs.commons.put_heads.Statement.{statement}
+use Rattle.resume.proofs.commons.put_heads.Tie as tie
 
 abbrev Inv-loop : tie.InvT-loop
-Inv-loop tape from heads header₀ at₀ j₀ header at j = Headed (contentIn tape) j at header
+Inv-loop tape from heads header₀ at₀ j₀ header at j = Heads (contentIn tape) (Headed header) j at
 
 abbrev μ-loop : tie.MeasureT-loop
 μ-loop tape from heads header₀ at₀ j₀ header at j = heads - j
@@ -16,41 +17,46 @@ abbrev μ-loop : tie.MeasureT-loop
 loop-holds : tie.Need-loop-holds Inv-loop μ-loop
 loop-holds c = let p = c .before .before .pre in headed-none _ (p .1 .1 .0 .1) (p .1 .1 .1 .0) (p .1 .1 .1 .1)
 
-read-at-requires : tie.Need-read-at-requires Inv-loop μ-loop
-read-at-requires c κs =
-    let turn = c .before in
-    let known = turn .before .before in
+read-head-requires : tie.Need-read-head-requires Inv-loop μ-loop
+read-head-requires c κs =
+    let known = c .before .before .before in
     let start = known .before in
-    let a = start .args in
-    let p = start .pre in
-    head-inside (a .tape .now) (contentIn (a .tape .now)) (λ k. known .shared-slice-known .given k .fits) (p .0) (p .1 .0 .0) (p .1 .0 .1) (p .1 .1 .0 .0) (turn .loop .inv) (omega arith)
+    head-inside (start .args .tape .now) _ (λ k. known .shared-slice-known .given k .fits) (start .pre .0) (c .before .loop .inv) (omega arith)
 
-put-head-requires : tie.Need-put-head-requires Inv-loop μ-loop
-put-head-requires c κs =
+field-of-requires : tie.Need-field-of-requires Inv-loop μ-loop
+field-of-requires c κs =
+    let read = c .before .read-head .ensures in
     let turn = c .before .before .before in
     let known = turn .before .before in
     let start = known .before in
-    let a = start .args in
-    let p = start .pre in (
-      turn .loop .inv .long,
-      head-within (a .tape .now) (contentIn (a .tape .now)) (λ k. known .shared-slice-known .given k .fits) (p .0) (p .1 .0 .0) (p .1 .0 .1) (p .1 .1 .0 .0) (turn .loop .inv) (omega arith) (c .before .read-at .ensures .0),
-    )
+    let p = start .pre in
+    let bounds = head-bounds (start .args .tape .now) (contentIn (start .args .tape .now)) (λ k. known .shared-slice-known .given k .fits) (p .0) (turn .loop .inv) (omega arith) (read .0) (read .1) (p .1 .0 .0) (p .1 .0 .1) in
+    omega arith
+
+put-head-requires : tie.Need-put-head-requires Inv-loop μ-loop
+put-head-requires c κs =
+    let read = c .before .before .read-head .ensures in
+    let turn = c .before .before .before .before in
+    let known = turn .before .before in
+    let start = known .before in
+    let p = start .pre in
+    let bounds = head-bounds (start .args .tape .now) (contentIn (start .args .tape .now)) (λ k. known .shared-slice-known .given k .fits) (p .0) (turn .loop .inv) (omega arith) (read .0) (read .1) (p .1 .0 .0) (p .1 .0 .1) in
+    let long = turn .loop .inv .built .0 in
+    (omega arith, bounds .0)
 
 loop-again : tie.Need-loop-again Inv-loop μ-loop
 loop-again c =
-    let turn = c .before .before .before .before .before .before in
+    let put = c .before .before in
+    let read = c .before .before .before .before .before .read-head .ensures in
+    let turn = c .before .before .before .before .before .before .before in
     let known = turn .before .before in
     let start = known .before in
-    let a = start .args in
-    let p = start .pre in
-    headed-more (a .tape .now) (contentIn (a .tape .now)) (λ k. known .shared-slice-known .given k .fits) (p .0) (p .1 .0 .0) (p .1 .0 .1) (p .1 .1 .0 .0) (turn .loop .inv) (omega arith)
-    (c .before .before .before .before .read-at .ensures .0) (c .before .before .before .before .read-at .ensures .1) (c .before .before .put-head .ensures)
+    headed-more (start .args .tape .now) _ (λ k. known .shared-slice-known .given k .fits) (start .pre .0) (turn .loop .inv) (omega arith) (read .0) (read .1)
+    (rw (put .before .field-of .ensures) at (put .put-head .ensures)) (read .2)
 
 returns : tie.Need-returns Inv-loop μ-loop
 returns c = headed-all _ (c .before .loop .inv) (omega arith)
 
 pub put-heads-spec : {M : Type 1} → statement M
 put-heads-spec =
-    tie.close
-    (tie.spec Inv-loop μ-loop loop-holds read-at-requires put-head-requires (λ c. omega arith) (λ c. omega arith) loop-again
-    (λ c. omega arith) returns)
+    tie.close (tie.spec Inv-loop μ-loop loop-holds read-head-requires field-of-requires put-head-requires (λ c. omega arith) (λ c. omega arith) loop-again (λ c. omega arith) returns)

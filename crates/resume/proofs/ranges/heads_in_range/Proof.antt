@@ -1,14 +1,15 @@
--- `resume::ranges::heads_in_range` meets its contract. The loop's invariant: the first `j` heads were read up to `at`. The measure is what is left of them.
+-- `resume::ranges::heads_in_range` meets its contract. The loop's invariant: the first `j` heads were read, `last` is the console of the last of them, and `ok` says whether they are in range.
 -- Assumes nothing.
 use Prim.Native.Nat.{_-_}
-use native.Mathlib.Omega.{arith}
 use Rattle.resume.specs.Content.{contentIn}
-use Rattle.resume.proofs.Passed.{HeadsPassed, heads-start, head-inside, heads-more, heads-done, no-heads}
+use Rattle.resume.proofs.Along.{Heads, head-inside}
+use Rattle.resume.proofs.Passed.{Followed, followed-none, followed-all, followed-more, no-heads}
+use native.Mathlib.Omega.{arith}
 use Rattle.resume.proofs.ranges.heads_in_range.Statement.{statement}
 use Rattle.resume.proofs.ranges.heads_in_range.Tie as tie
 
 abbrev Inv-loop : tie.InvT-loop
-Inv-loop tape first count heads j₀ at₀ last₀ ok₀ j at last ok = HeadsPassed (contentIn tape) j at last ok
+Inv-loop tape first count heads j₀ at₀ last₀ ok₀ j at last ok = Heads (contentIn tape) (Followed (contentIn tape .versions) (last .0) ok) j at
 
 abbrev μ-loop : tie.MeasureT-loop
 μ-loop tape first count heads j₀ at₀ last₀ ok₀ j at last ok = heads - j
@@ -17,24 +18,26 @@ returns : tie.Need-returns Inv-loop μ-loop
 returns c = no-heads (contentIn (c .before .before .args .tape .now)) (omega arith)
 
 loop-holds : tie.Need-loop-holds Inv-loop μ-loop
-loop-holds c = heads-start _ _ (c .before .before .pre .1 .0)
+loop-holds c = followed-none _ (c .before .before .pre .1 .0)
 
-see-head-requires : tie.Need-see-head-requires Inv-loop μ-loop
-see-head-requires c κs =
-    let s = c .before .before .before .before in
-    head-inside (s .args .tape .now) _ (λ k. c .before .before .before .shared-slice-known .given k .fits) (s .pre .0) _ _ _ _ (c .before .loop .inv) (omega arith)
+read-head-requires : tie.Need-read-head-requires Inv-loop μ-loop
+read-head-requires c κs =
+    let known = c .before .before .before in
+    let start = known .before in
+    head-inside (start .args .tape .now) _ (λ k. known .shared-slice-known .given k .fits) (start .pre .0) (c .before .loop .inv) (omega arith)
 
 loop-again : tie.Need-loop-again Inv-loop μ-loop
 loop-again c =
-    let l = c .before .before .before in
-    let s = l .before .before .before in
-    let seen = c .before .see-head .ensures in
-    heads-more (s .args .tape .now) _ (λ k. l .before .before .shared-slice-known .given k .fits) (s .pre .0) _ _ _ _ _ _ _ _ (l .loop .inv) (omega arith) (s .pre .1 .1) (seen .0) (seen .1) (seen .2)
+    let read = c .before .before .read-head .ensures in
+    let turn = c .before .before .before .before in
+    let known = turn .before .before in
+    let start = known .before in
+    followed-more (start .args .tape .now) _ (λ k. known .shared-slice-known .given k .fits) (start .pre .0) (turn .loop .inv) (omega arith) (start .pre .1 .1)
+    (read .0) (read .1) (c .before .head-in-range .ensures) (read .2)
 
 returns-2 : tie.Need-returns-2 Inv-loop μ-loop
-returns-2 c = heads-done _ _ _ _ _ (c .before .loop .inv) (omega arith) (omega arith)
+returns-2 c = followed-all _ (c .before .loop .inv) (omega arith) (omega arith)
 
 pub heads-in-range-spec : {M : Type 1} → statement M
 heads-in-range-spec =
-    tie.close
-    (tie.spec Inv-loop μ-loop returns loop-holds see-head-requires (λ c. omega arith) (λ c. omega arith) loop-again returns-2)
+    tie.close (tie.spec Inv-loop μ-loop returns loop-holds read-head-requires (λ c κs. tt) (λ c. omega arith) (λ c. omega arith) loop-again returns-2)

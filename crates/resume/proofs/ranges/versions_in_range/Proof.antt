@@ -1,42 +1,41 @@
--- `resume::ranges::see_versions` meets its contract. The loop's invariant: the first `k` versions were read up to `at`. The measure is what is left of them.
+-- `resume::ranges::versions_in_range` meets its contract. The loop's invariant: the first `k` versions were read, and `ok` says whether they are in range.
 -- Assumes nothing.
 use Prim.Native.Nat.{_-_}
-use mathlib.Core.Path.{_∙_}
-use native.Mathlib.Omega.{arith}
-use Rattle.tape.proofs.Located.{start-past}
 use Rattle.resume.specs.Content.{contentIn}
-use Rattle.resume.proofs.Passed.{VersionsPassed, versions-start, version-inside, versions-more, versions-done}
-use Rattle.resume.proofs.ranges.see_versions.Statement.{statement}
-use Rattle.resume.proofs.ranges.see_versions.Tie as tie
+use Rattle.resume.proofs.Along.{Versions, version-inside}
+use Rattle.resume.proofs.Passed.{Ranged, ranged-none, ranged-all, ranged-more}
+use native.Mathlib.Omega.{arith}
+use borrow.Author.Needs.{needs}
+use Rattle.resume.proofs.ranges.versions_in_range.Statement.{statement}
+use Rattle.resume.proofs.ranges.versions_in_range.Tie as tie
 
 abbrev Inv-loop : tie.InvT-loop
-Inv-loop tape versions k₀ at₀ ok₀ k at ok = VersionsPassed (contentIn tape) k at ok
+Inv-loop tape versions k₀ at₀ ok₀ k at ok = Versions (contentIn tape) (Ranged ok) k at
 
 abbrev μ-loop : tie.MeasureT-loop
 μ-loop tape versions k₀ at₀ ok₀ k at ok = versions - k
 
 loop-holds : tie.Need-loop-holds Inv-loop μ-loop
-loop-holds c =
-    let s = c .before .before in
-    versions-start _ _ (c .place-past .ensures .0 ∙ start-past (s .args .tape .now) _ (λ k. c .before .shared-slice-known .given k .fits) (s .pre .0))
+loop-holds c = ranged-none _
 
-see-version-requires : tie.Need-see-version-requires Inv-loop μ-loop
-see-version-requires c κs =
-    let s = c .before .before .before .before in
-    version-inside (s .args .tape .now) _ (λ k. c .before .before .before .shared-slice-known .given k .fits) (s .pre .0) _ _ _ (c .before .loop .inv) (omega arith)
+read-version-requires : tie.Need-read-version-requires Inv-loop μ-loop
+read-version-requires c κs =
+    let known = c .before .before in
+    let start = known .before in
+    version-inside (start .args .tape .now) _ (λ k. known .shared-slice-known .given k .fits) (start .pre .0) (c .before .loop .inv) (omega arith)
 
 loop-again : tie.Need-loop-again Inv-loop μ-loop
 loop-again c =
-    let l = c .before .before .before in
-    let s = l .before .before .before in
-    let seen = c .before .see-version .ensures in
-    versions-more (s .args .tape .now) _ (λ k. l .before .before .shared-slice-known .given k .fits) (s .pre .0) _ _ _ _ _ (l .loop .inv) (omega arith) (seen .0) (seen .1)
+    let turn = c .before .before .before in
+    let known = turn .before in
+    let start = known .before in
+    let read = c .before .read-version .ensures in
+    ranged-more (start .args .tape .now) _ (λ k. known .shared-slice-known .given k .fits) (start .pre .0) (turn .loop .inv) (omega arith) (read .0)
+    (c .node-in-range .ensures) (read .1)
 
 returns : tie.Need-returns Inv-loop μ-loop
-returns c = versions-done _ _ _ _ (c .before .loop .inv) (omega arith)
+returns c = ranged-all _ (c .before .loop .inv) (omega arith)
 
-pub see-versions-spec : {M : Type 1} → statement M
-see-versions-spec =
-    tie.close
-    (tie.spec Inv-loop μ-loop (λ c κs. omega arith) loop-holds (λ c. omega arith) see-version-requires (λ c. omega arith)
-    (λ c. omega arith) loop-again returns)
+pub versions-in-range-spec : {M : Type 1} → statement M
+versions-in-range-spec =
+    tie.close (tie.spec Inv-loop μ-loop loop-holds read-version-requires (λ c. omega arith) (λ c κs. search needs) (λ c. omega arith) (λ c. omega arith) loop-again returns)

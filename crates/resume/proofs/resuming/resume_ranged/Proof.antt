@@ -7,6 +7,7 @@ use lib.ListN.{length}
 use borrow.Author.Tests.{ltb-false}
 use Rattle.buffer.proofs.Fields.{zeros-length}
 use Rattle.command.proofs.Limits.{within-true}
+use Rattle.room.specs.declared.Settings.{Settings}
 use Rattle.room.specs.Sound.{maxCapacity}
 use Rattle.store.specs.Layout.{headerSize, storeSize}
 use Rattle.resume.specs.Content.{contentIn}
@@ -20,10 +21,11 @@ gives-sound-room-requires c κs =
     let p = c .before .before .before .before .pre in
     (p .0, ((p .1 .1 .0, p .1 .1 .1), ((p .1 .0 .1, p .1 .0 .2, p .1 .0 .3), (zeros-length rowsSize, (zeros-length headerSize, refl)))))
 
-block-at-requires : tie.Need-block-at-requires
-block-at-requires c κs =
+store-size-requires : tie.Need-store-size-requires
+store-size-requires c κs =
     let start = c .before .before .before .before .before .before .before in
-    let size = within-true 1 maxCapacity (contentIn (start .args .tape .now) .capacity) (start .pre .1 .1 .0) in
+    let size = within-true 1 maxCapacity (contentIn (start .args .tape .now) .settings .capacity) (start .pre .1 .1 .0) in
+    let capacity = ap (λ (x : Settings). x .capacity) (start .pre .1 .0 .0) in
     omega arith
 
 last-refusal-requires : tie.Need-last-refusal-requires
@@ -39,7 +41,7 @@ write-store-requires c κs =
     let p = start .pre in
     let told = judged .gives-sound-room .ensures in
     let fits = none-left (judged .gives-sound-room .result) _ (sym (answered .last-refusal .ensures) ∙ then .if1 .taken) in
-    let long = ltb-false (length (start .args .store .now)) (sized .block-at .result) (fits .1) in
+    let long = ltb-false (length (start .args .store .now)) (sized .store-size .result) (fits .1) in
     (p .0, ((p .1 .0 .0, p .1 .0 .1), ((sym (told .0) ∙ fits .0, told .1), ((omega arith, told .2 (fits .0)), omega (arith, long)))))
 
 returns : tie.Need-returns
@@ -52,7 +54,7 @@ returns c =
     let start = judged .before .before .before .before .before in
     let p = start .pre in
     resumed (contentIn (start .args .tape .now)) (start .args .store .now) (p .1 .1 .0) (p .1 .1 .1) (judged .gives-sound-room .ensures .0)
-    (ap (ltb (length (start .args .store .now))) (sized .block-at .ensures ∙ ap storeSize (p .1 .0 .0))) (answered .last-refusal .ensures) (then .if1 .taken) (written .write-store .ensures)
+    (ap (ltb (length (start .args .store .now))) (sized .store-size .ensures ∙ ap (λ (x : Settings). storeSize (x .capacity)) (p .1 .0 .0))) (answered .last-refusal .ensures) (then .if1 .taken) (written .write-store .ensures)
 
 returns-2 : tie.Need-returns-2
 returns-2 c =
@@ -62,10 +64,10 @@ returns-2 c =
     let start = judged .before .before .before .before .before in
     let p = start .pre in
     last-refused (contentIn (start .args .tape .now)) (start .args .store .now) (p .1 .1 .0) (p .1 .1 .1) (judged .gives-sound-room .ensures .0)
-    (ap (ltb (length (start .args .store .now))) (sized .block-at .ensures ∙ ap storeSize (p .1 .0 .0))) (answered .last-refusal .ensures) (c .if1 .left)
+    (ap (ltb (length (start .args .store .now))) (sized .store-size .ensures ∙ ap (λ (x : Settings). storeSize (x .capacity)) (p .1 .0 .0))) (answered .last-refusal .ensures) (c .if1 .left)
 
 pub resume-ranged-spec : {M : Type 1} → statement M
 resume-ranged-spec =
     tie.close
-    (tie.spec (λ c. omega arith) (λ c. omega arith) gives-sound-room-requires block-at-requires last-refusal-requires (λ c. omega arith)
+    (tie.spec (λ c. omega arith) (λ c. omega arith) gives-sound-room-requires store-size-requires last-refusal-requires (λ c. omega arith)
     (λ c. omega arith) write-store-requires (λ c. omega arith) returns returns-2)

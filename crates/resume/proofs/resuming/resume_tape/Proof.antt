@@ -20,7 +20,7 @@ resume-whole-requires c κs =
     let found = c .before .before in
     let scanned = found .before .before in
     let read = scan-read (contentOf (scanned .before .before .before .args .tape .now)) (scanned .scan .ensures) (found .scanned .given .1) in
-    (read .whole, (read .capacity-is, read .versions-are, read .heads-are))
+    (read .whole, (read .settings-are, read .versions-are, read .heads-are))
 
 returns-2 : tie.Need-returns-2
 returns-2 c =

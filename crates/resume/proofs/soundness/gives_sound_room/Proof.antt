@@ -1,23 +1,23 @@
--- `resume::sound::gives_sound_room` meets its contract: the first of the three tests that fails answers, or else the last.
+-- `resume::soundness::gives_sound_room` meets its contract: the first of the three tests that fails answers, or else the last.
 -- Assumes nothing.
 use native.Mathlib.Omega.{arith}
 use mathlib.Core.Path.{refl}
 use borrow.Author.Tests.{not-true, not-false}
-use Rattle.laws.proofs.Logic.{clash}
+use Rattle.laws.proofs.Logic.{and-i, clash}
 use Rattle.resume.specs.Content.{contentIn}
 use Rattle.resume.proofs.HeadsJudged.{rows-inside, behind-told}
 use Rattle.resume.proofs.RoomJudged.{in-range, range-small, versions-fail, heads-fail, behind-decides}
-use Rattle.resume.proofs.sound.gives_sound_room.Statement.{statement}
-use Rattle.resume.proofs.sound.gives_sound_room.Tie as tie
+use Rattle.resume.proofs.soundness.gives_sound_room.Statement.{statement}
+use Rattle.resume.proofs.soundness.gives_sound_room.Tie as tie
 
-judge-versions-requires : tie.Need-judge-versions-requires
-judge-versions-requires c κs =
+build-rows-requires : tie.Need-build-rows-requires
+build-rows-requires c κs =
     let start = c .before .before .before .before in
     let p = start .pre in
     let t = contentIn (start .args .tape .now) in
     let k = in-range t (p .1 .0 .1) in
     let small = range-small t (p .1 .0 .0) k in
-    (p .0, (k .lower, ((p .1 .1 .0 .0, omega arith), p .1 .1 .1 .0)))
+    (p .0, (and-i _ _ (k .lower) (k .ranged), ((p .1 .1 .0 .0, omega arith), p .1 .1 .1 .0)))
 
 returns : tie.Need-returns
 returns c =
@@ -27,18 +27,18 @@ returns c =
     let t = contentIn (start .args .tape .now) in
     let k = in-range t (p .1 .0 .1) in
     let small = range-small t (p .1 .0 .0) k in
-    let told = made .judge-versions .ensures in
-    (versions-fail t (p .1 .0 .0) (p .1 .0 .1) (told .0) (not-true (made .judge-versions .result) (c .if1 .taken)), told .1, λ h. clash h refl)
+    let told = made .build-rows .ensures in
+    (versions-fail t (p .1 .0 .0) (p .1 .0 .1) (told .0) (not-true (made .build-rows .result) (c .if1 .taken)), told .1, λ h. clash h refl)
 
-judge-heads-requires : tie.Need-judge-heads-requires
-judge-heads-requires c κs =
+build-commons-requires : tie.Need-build-commons-requires
+build-commons-requires c κs =
     let made = c .before .before .before .before .before in
     let start = made .before .before .before .before .before in
     let p = start .pre in
     let t = contentIn (start .args .tape .now) in
     let k = in-range t (p .1 .0 .1) in
     let small = range-small t (p .1 .0 .0) k in
-    (p .0, ((k .rise, k .named), ((small, p .1 .1 .0 .1, p .1 .1 .0 .2), (made .judge-versions .ensures .1, p .1 .1 .1 .1))))
+    (p .0, ((k .rise, k .named), ((small, p .1 .1 .0 .1, p .1 .1 .0 .2), (made .build-rows .ensures .1, p .1 .1 .1 .1))))
 
 returns-2 : tie.Need-returns-2
 returns-2 c =
@@ -49,15 +49,15 @@ returns-2 c =
     let t = contentIn (start .args .tape .now) in
     let k = in-range t (p .1 .0 .1) in
     let small = range-small t (p .1 .0 .0) k in
-    let told = made .judge-versions .ensures in
-    let based = not-false (made .judge-versions .result) (met .before .before .before .if1 .left) in (
-      heads-fail t (p .1 .0 .0) (p .1 .0 .1) (told .0) based (met .judge-heads .ensures .0) (not-true (met .judge-heads .result) (c .if2 .taken)),
+    let told = made .build-rows .ensures in
+    let based = not-false (made .build-rows .result) (met .before .before .before .if1 .left) in (
+      heads-fail t (p .1 .0 .0) (p .1 .0 .1) (told .0) based (met .build-commons .ensures .0) (not-true (met .build-commons .result) (c .if2 .taken)),
       told .1,
       λ h. clash h refl,
     )
 
-add-behind-right : tie.Need-add-behind-right
-add-behind-right c =
+add-heads-reach-all : tie.Need-add-heads-reach-all
+add-heads-reach-all c =
     let met = c .before .before .before .before .before in
     let made = met .before .before .before .before .before .before in
     let start = made .before .before .before .before .before in
@@ -67,8 +67,8 @@ add-behind-right c =
     let small = range-small t (p .1 .0 .0) k in
     omega arith
 
-behind-right-requires : tie.Need-behind-right-requires
-behind-right-requires c κs =
+heads-reach-all-requires : tie.Need-heads-reach-all-requires
+heads-reach-all-requires c κs =
     let met = c .before .before .before .before .before in
     let made = met .before .before .before .before .before .before in
     let start = made .before .before .before .before .before in
@@ -76,10 +76,10 @@ behind-right-requires c κs =
     let t = contentIn (start .args .tape .now) in
     let k = in-range t (p .1 .0 .1) in
     let small = range-small t (p .1 .0 .0) k in
-    let shown = made .judge-versions .ensures .1 in
-    let ok = not-false (met .judge-heads .result) (c .before .before .if2 .left) in
-    let header = met .judge-heads .last .1 .1 .1 .1 .0 in
-    (omega arith, rows-inside t (k .rise) (k .named) small shown header (omega arith) (met .judge-heads .ensures .1 ok))
+    let shown = made .build-rows .ensures .1 in
+    let ok = not-false (met .build-commons .result) (c .before .before .if2 .left) in
+    let header = met .build-commons .last .1 .1 .1 .1 .0 in
+    (omega arith, rows-inside t (k .rise) (k .named) small shown header (omega arith) (met .build-commons .ensures .1 ok))
 
 returns-3 : tie.Need-returns-3
 returns-3 c =
@@ -90,16 +90,16 @@ returns-3 c =
     let t = contentIn (start .args .tape .now) in
     let k = in-range t (p .1 .0 .1) in
     let small = range-small t (p .1 .0 .0) k in
-    let told = made .judge-versions .ensures in
-    let based = not-false (made .judge-versions .result) (met .before .before .before .if1 .left) in
-    let ok = not-false (met .judge-heads .result) (c .before .before .before .if2 .left) in
-    let written = met .judge-heads .ensures .1 ok in
-    let header = met .judge-heads .last .1 .1 .1 .1 .0 in
-    let last = behind-told t (k .rise) (k .named) small (told .1) header (omega arith) written (omega arith) (c .behind-right .ensures) in
-    (behind-decides t (p .1 .0 .0) (p .1 .0 .1) (told .0) based (met .judge-heads .ensures .0) ok last, told .1, λ _. written)
+    let told = made .build-rows .ensures in
+    let based = not-false (made .build-rows .result) (met .before .before .before .if1 .left) in
+    let ok = not-false (met .build-commons .result) (c .before .before .before .if2 .left) in
+    let written = met .build-commons .ensures .1 ok in
+    let header = met .build-commons .last .1 .1 .1 .1 .0 in
+    let last = behind-told t (k .rise) (k .named) small (told .1) header (omega arith) written (omega arith) (c .heads-reach-all .ensures) in
+    (behind-decides t (p .1 .0 .0) (p .1 .0 .1) (told .0) based (met .build-commons .ensures .0) ok last, told .1, λ _. written)
 
 pub gives-sound-room-spec : {M : Type 1} → statement M
 gives-sound-room-spec =
     tie.close
-    (tie.spec judge-versions-requires (λ c. omega arith) returns judge-heads-requires (λ c. omega arith) (λ c. omega arith) returns-2
-    add-behind-right behind-right-requires (λ c. omega arith) (λ c. omega arith) returns-3)
+    (tie.spec build-rows-requires (λ c. omega arith) returns build-commons-requires (λ c. omega arith) (λ c. omega arith) returns-2
+    add-heads-reach-all heads-reach-all-requires (λ c. omega arith) (λ c. omega arith) returns-3)

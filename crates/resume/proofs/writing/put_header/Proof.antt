@@ -1,4 +1,4 @@
--- `resume::write::put_header` meets its contract: the count was written, and the table's part that was lent comes back as the header's.
+-- `resume::writing::put_header` meets its contract: the count was written, and the table's part that was lent comes back as the header's.
 -- Assumes nothing.
 use mathlib.Core.Path.{refl, ap, _∙_}
 use mathlib.Core.List.{List}
@@ -9,8 +9,8 @@ use Rattle.buffer.proofs.Fields.{part-length}
 use Rattle.buffer.proofs.Patches.{put-lent}
 use Rattle.store.specs.Layout.{commonsAt, commonsSize}
 use Rattle.resume.specs.Writing.{withHeader}
-use Rattle.resume.proofs.write.put_header.Statement.{statement}
-use Rattle.resume.proofs.write.put_header.Tie as tie
+use Rattle.resume.proofs.writing.put_header.Statement.{statement}
+use Rattle.resume.proofs.writing.put_header.Tie as tie
 
 returns : tie.Need-returns
 unfolding withHeader

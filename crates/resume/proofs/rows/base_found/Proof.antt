@@ -1,0 +1,26 @@
+-- `resume::rows::base_found` meets its contract.
+-- Assumes nothing.
+use Rattle.store.proofs.VersionTests.{range-mine, range-given}
+use native.Mathlib.Omega.{arith}
+use borrow.Author.Needs.{needs}
+use Rattle.resume.proofs.rows.base_found.Statement.{statement}
+use Rattle.resume.proofs.rows.base_found.Tie as tie
+
+has-base-requires : tie.Need-has-base-requires
+has-base-requires c κs =
+    let start = c .before .before .before .before in
+    let n = c .before .node .given in
+    let t = rw (n .1) at (start .pre .2) in
+    let mine = range-mine (start .args .v .0) (n .0 .0 .0) (n .0 .1 .0 .0) t in
+    let given = range-given (start .args .v .0) (n .0 .0 .0) (n .0 .1 .0 .0) t in
+    omega arith
+
+returns : tie.Need-returns
+returns c = search needs
+
+returns-2 : tie.Need-returns-2
+returns-2 c = rw (c .before .before .node .given .1) (c .has-base .ensures)
+
+pub base-found-spec : {M : Type 1} → statement M
+base-found-spec =
+    tie.close (tie.spec (λ c. search needs) (λ c. search needs) has-base-requires returns returns-2)
