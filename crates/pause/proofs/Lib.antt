@@ -1,4 +1,3 @@
-pub mod Grown
 pub mod Piled
 pub mod Pieces
 pub mod Tapes

@@ -7,13 +7,25 @@ use native.Mathlib.Decide.{ℕ-discrete}
 use native.Mathlib.Numerals.{add-one}
 use native.Mathlib.Omega.{arith}
 use lib.ListN.{length, length-append}
-use Rattle.buffer.specs.Field.{withPart}
-use Rattle.pause.proofs.Grown.{Grown, grown-none, grown-more}
+use Rattle.tape.specs.Record.{longestRecord}
+use Rattle.tape.proofs.Grown.{Put, Grown, grown-none, grown-more}
 
 -- w k is the first k pieces, one behind the other
 pub record Pieces (w piece : ℕ → List ℕ) : Type 0 where
   pub none : w 0 ≡ []
   pub more : (k : ℕ) → w (k + 1) ≡ w k ++ piece k
+
+-- the first k of n pieces stand in t from a place on, and end at another; the rest of s has room for all
+pub record Piled (w : ℕ → List ℕ) (s : List ℕ) (from n k at : ℕ) (t : List ℕ) : Type 0 where
+  pub within : k ≤ n
+  pub room : from + length (w n) ≤ length s
+  pub grown : Grown s from (w k) t at
+
+-- the first k of n pieces have this many bytes; none has more than the longest record
+pub record Counted (w : ℕ → List ℕ) (n k sum : ℕ) : Type 0 where
+  pub within : k ≤ n
+  pub total : sum ≡ length (w k)
+  pub small : sum ≤ longestRecord * k
 
 module _ {w piece : ℕ → List ℕ} (p : Pieces w piece) where
   more-length : (k : ℕ) → length (w (k + 1)) ≡ length (w k) + length (piece k)
@@ -28,57 +40,30 @@ module _ {w piece : ℕ → List ℕ} (p : Pieces w piece) where
         | no d ↦ omega (arith, pieces-rise k n (omega arith), rw add-one at (more-length n))
       ]
 
--- the first k of n pieces stand in t from a place on, and end at another; the rest of s has room for all
-pub record Piled (w : ℕ → List ℕ) (s : List ℕ) (from n k at : ℕ) (t : List ℕ) : Type 0 where
-  pub within : k ≤ n
-  pub room : from + length (w n) ≤ length s
-  pub ends : at ≡ from + length (w k)
-  pub grown : Grown s from (w k) t
-
--- the first k of n pieces have this many bytes; no piece has more than 7
-pub record Counted (w : ℕ → List ℕ) (n k sum : ℕ) : Type 0 where
-  pub within : k ≤ n
-  pub total : sum ≡ length (w k)
-  pub small : sum ≤ 7 * k
-
-module _ {w piece : ℕ → List ℕ} (p : Pieces w piece) where
   pub piled-none : (s : List ℕ) (from n : ℕ) → from + length (w n) ≤ length s → Piled w s from n 0 from s
-  piled-none s from n room =
-      let e = p .none in
-      record { within = omega arith; room = room; ends = rw e (omega arith); grown = rw e (grown-none s from (omega arith)) }
+  piled-none s from n room = record { within = omega arith; room = room; grown = rw (p .none) (grown-none s from (omega arith)) }
 
   -- where the next piece goes it has room
   pub piled-fits : {s t : List ℕ} {from n k at : ℕ} → Piled w s from n k at t → k < n → at + length (piece k) ≤ length t
-  piled-fits {s} {t} {from} {n} {k} {at} q l = let g = q .grown in omega (arith, pieces-rise p (k + 1) n (omega arith), more-length p k)
+  piled-fits {s} {t} {from} {n} {k} {at} q l =
+      let g = q .grown in omega (arith, g .put .0, pieces-rise (k + 1) n (omega arith), more-length k)
 
-  pub piled-more : {s t t′ : List ℕ} {from n k at to : ℕ} → Piled w s from n k at t → k < n
-      → to ≡ at + length (piece k) → t′ ≡ withPart t at (piece k) → Piled w s from n (k + 1) to t′
-  piled-more {s} {t} {t′} {from} {n} {k} {at} {to} q l here e =
+  pub piled-more : {s t t′ : List ℕ} {from n k at to : ℕ} → Piled w s from n k at t → k < n → Put t at (piece k) t′ to
+      → Piled w s from n (k + 1) to t′
+  piled-more {k = k} q l put =
       let fits = piled-fits q l in
       let g = q .grown in
-      record {
-        within = omega arith;
-        room = q .room;
-        ends = omega (arith, more-length p k);
-        grown = rw (p .more k) (grown-more (piece k) g e (omega arith) (omega arith));
-      }
+      record { within = omega arith; room = q .room; grown = rw (p .more k) (grown-more (piece k) g (omega arith) put) }
 
   pub counted-none : (n : ℕ) → Counted w n 0 0
   counted-none n = record { within = omega arith; total = rw (p .none); small = omega arith }
 
-  pub counted-more : {n k sum r : ℕ} → Counted w n k sum → k < n → r ≡ length (piece k) → r ≤ 7
+  pub counted-more : {n k sum r : ℕ} → Counted w n k sum → k < n → r ≡ length (piece k) → r ≤ longestRecord
       → Counted w n (k + 1) (sum + r)
-  counted-more {n} {k} {sum} {r} q l e small =
-      record {
-        within = omega arith;
-        total = omega (arith, more-length p k);
-        small = omega arith;
-      }
+  counted-more {k = k} q l e small = record { within = omega arith; total = omega (arith, more-length k); small = omega arith }
 
-pub piled-all : {w : ℕ → List ℕ} {s t : List ℕ} {from n k at : ℕ} → Piled w s from n k at t → n ≤ k
-    → (at ≡ from + length (w n)) × (t ≡ withPart s from (w n))
-piled-all {w} {s} {t} {from} {n} {k} q l =
-    let e : k ≡ n = omega (arith, q .within) in (rw e at (q .ends), rw e at (q .grown .reads))
+pub piled-all : {w : ℕ → List ℕ} {s t : List ℕ} {from n k at : ℕ} → Piled w s from n k at t → n ≤ k → Put s from (w n) t at
+piled-all {n = n} {k = k} q l = let e : k ≡ n = omega (arith, q .within) in rw e at (q .grown .put)
 
-pub counted-all : {w : ℕ → List ℕ} {n k sum : ℕ} → Counted w n k sum → n ≤ k → (sum ≡ length (w n)) × (sum ≤ 7 * n)
-counted-all {w} {n} {k} q l = let e : k ≡ n = omega (arith, q .within) in (rw e at (q .total), rw e at (q .small))
+pub counted-all : {w : ℕ → List ℕ} {n k sum : ℕ} → Counted w n k sum → n ≤ k → (sum ≡ length (w n)) × (sum ≤ longestRecord * n)
+counted-all {n = n} {k = k} q l = let e : k ≡ n = omega (arith, q .within) in (rw e at (q .total), rw e at (q .small))

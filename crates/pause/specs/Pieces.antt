@@ -1,24 +1,25 @@
--- "one record per version from 1 upward; one head record per present console, consoles rising": the records of a tape as they are read off a
--- store's bytes, one version and one console at a time.
+-- "one record per version from 1 upward; one head record per present console, consoles rising": the records of a store's tape, one version and
+-- one console at a time.
 use Prim.Native.Nat.{ℕ}
 use mathlib.Core.List.{List, [], _∷_}
-use Rattle.buffer.specs.Field.{wordAt}
-use Rattle.store.specs.Layout.{headAt, nodeIn, versionsIn, headFrom, headsIn}
-use Rattle.tape.specs.Record.{recordBytes}
-use Rattle.tape.specs.Tape.{versionRecord, versionRecords, headRecords}
+use lib.ListN.{take}
+use Rattle.room.specs.Room.{Room, headOf}
+use Rattle.store.specs.Layout.{nodeIn, versionsIn}
+use Rattle.tape.specs.Record.{versionBytes}
+use Rattle.tape.specs.Tape.{versionRecords, headRecords}
 
--- the record of version v
-unfoldable pub versionPiece : List ℕ → ℕ → List ℕ
-versionPiece s v = recordBytes (versionRecord (nodeIn s v))
+-- the record of version v of a store's bytes
+abbrev pub versionPiece : List ℕ → ℕ → List ℕ
+versionPiece s v = versionBytes (nodeIn s v)
 
 -- the records of versions 1 to n
 unfoldable pub versionPieces : List ℕ → ℕ → List ℕ
 versionPieces s n = versionRecords (versionsIn s n)
 
 -- the head record of console c; nothing where it is absent
-unfoldable pub headPiece : List ℕ → ℕ → List ℕ
-headPiece s c = headRecords c (headFrom (wordAt s (headAt c)) ∷ [])
+unfoldable pub headPiece : Room → ℕ → List ℕ
+headPiece r c = headRecords c (headOf r c ∷ [])
 
 -- the head records of the first n consoles
-unfoldable pub headPieces : List ℕ → ℕ → List ℕ
-headPieces s n = headRecords 0 (headsIn s 0 n)
+unfoldable pub headPieces : Room → ℕ → List ℕ
+headPieces r n = headRecords 0 (take n (r .heads))

@@ -1,11 +1,14 @@
 // Pause: the tape of a store, its length and its bytes. A store is read version by version and console by console, and each record is
 // written behind the one before.
 mod measure;
-mod record;
 mod write;
 
-use query::capacity_of;
+use query::settings_of;
 use query::version_count;
+use tape::END_LENGTH;
+use tape::START_LENGTH;
+use tape::writer::put_end;
+use tape::writer::put_start;
 ghost use mathlib.Core.Path.{_≡_};
 ghost use mathlib.Core.Bool.{true};
 ghost use Prim.Native.Nat.{_≤_};
@@ -14,15 +17,15 @@ ghost use Rattle.buffer.specs.Field.{overwrite};
 ghost use Rattle.store.specs.Layout.{roomIn, holdsStore};
 ghost use Rattle.tape.specs.Tape.{tapeOf};
 
-// The bytes of the first record.
-const START: usize = 3;
-
 // How many bytes the tape of a store takes.
 pub fn tape_length(s: &[u8]) -> usize
     requires { ⌜ holdsStore (now s) ≡ true ⌝ }
     ensures { λ r. ⌜ (r ≡ length (tapeOf (roomIn (now (s .entry))))) × (r ≤ 8192) ⌝ }
 {
-    START + measure::versions_length(s, version_count(s) - 1) + measure::heads_length(s) + 1
+    START_LENGTH
+        + measure::versions_length(s, version_count(s) - 1)
+        + measure::heads_length(s)
+        + END_LENGTH
 }
 
 // Writes the tape of a store over the front of an output buffer.
@@ -31,8 +34,8 @@ pub fn write_tape(s: &[u8], tape: &mut [u8])
     requires { ⌜ length (tapeOf (roomIn (now s))) ≤ length (now tape) ⌝ }
     ensures { λ _. ⌜ now (tape .exit) ≡ overwrite (tapeOf (roomIn (now (s .entry)))) (now (tape .entry)) ⌝ }
 {
-    record::put_start(tape, capacity_of(s));
-    let heads = write::put_versions(s, version_count(s) - 1, tape, START);
+    let versions = put_start(tape, settings_of(s));
+    let heads = write::put_versions(s, version_count(s) - 1, tape, versions);
     let end = write::put_heads(s, tape, heads);
-    record::put_end(tape, end);
+    put_end(tape, end);
 }

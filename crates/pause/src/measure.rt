@@ -1,62 +1,55 @@
 // How many bytes the records of a store's versions and heads take.
-use buffer::wide;
-use store::places::CONSOLES;
-use store::places::MERGE_CODE;
-use store::places::block_at;
-use store::places::common_in;
+use command::numbers::CONSOLES;
+use graph::Console;
+use graph::Version;
+use query::is_present;
+use store::nodes::read_node;
+use tape::HEAD_LENGTH;
+use tape::writer::version_length;
 ghost use mathlib.Core.Path.{_≡_};
+ghost use mathlib.Core.Bool.{true};
 ghost use Prim.Native.Nat.{suc, _*_, _<_, _≤_};
 ghost use lib.ListN.{length};
 ghost use Rattle.command.specs.Code.{consoleCount};
-ghost use Rattle.store.specs.Layout.{headerSize, blockAt};
-ghost use Rattle.pause.specs.Pieces.{versionPiece, versionPieces, headPiece, headPieces};
-
-// The length of the record of a version.
-fn version_length(s: &[u8], v: usize) -> usize
-    requires { ⌜ (v < 1024) × (blockAt (suc v) ≤ length (now s)) ⌝ }
-    ensures { λ r. ⌜ (r ≡ length (versionPiece (now (s .entry)) v)) × (r ≤ 7) ⌝ }
-{
-    let node = block_at(v);
-    if wide(s[node]) == MERGE_CODE {
-        return 5;
-    }
-    7
-}
+ghost use Rattle.store.specs.Layout.{blockAt, roomIn, holdsStore};
+ghost use Rattle.tape.specs.Record.{longestRecord};
+ghost use Rattle.pause.specs.Pieces.{versionPieces, headPiece, headPieces};
 
 // The length of the records of versions 1 to n.
 pub fn versions_length(s: &[u8], n: usize) -> usize
     requires { ⌜ (n < 1024) × (blockAt (suc n) ≤ length (now s)) ⌝ }
-    ensures { λ r. ⌜ (r ≡ length (versionPieces (now (s .entry)) n)) × (r ≤ 7 * n) ⌝ }
+    ensures { λ r. ⌜ (r ≡ length (versionPieces (now (s .entry)) n)) × (r ≤ longestRecord * n) ⌝ }
 {
     let mut sum = 0;
     let mut k = 0;
     while k < n {
-        sum += version_length(s, k + 1);
         k += 1;
+        sum += version_length(read_node(s, Version(k)));
     }
     sum
 }
 
 // The length of the head record of a console; 0 where it is absent.
-fn head_length(s: &[u8], c: usize) -> usize
-    requires { ⌜ (c < consoleCount) × (headerSize ≤ length (now s)) ⌝ }
-    ensures { λ r. ⌜ (r ≡ length (headPiece (now (s .entry)) c)) × (r ≤ 7) ⌝ }
+fn head_length(s: &[u8], c: Console) -> usize
+    requires { ⌜ holdsStore (now s) ≡ true ⌝ }
+    requires { ⌜ c .0 < consoleCount ⌝ }
+    ensures { λ r. ⌜ (r ≡ length (headPiece (roomIn (now (s .entry))) (c .0))) × (r ≤ longestRecord) ⌝ }
 {
-    if common_in(s, c, c) == 0 {
-        return 0;
+    if is_present(s, c) {
+        return HEAD_LENGTH;
     }
-    4
+    0
 }
 
 // The length of the head records.
 pub fn heads_length(s: &[u8]) -> usize
-    requires { ⌜ headerSize ≤ length (now s) ⌝ }
-    ensures { λ r. ⌜ (r ≡ length (headPieces (now (s .entry)) consoleCount)) × (r ≤ 7 * consoleCount) ⌝ }
+    requires { ⌜ holdsStore (now s) ≡ true ⌝ }
+    ensures { λ r. ⌜ (r ≡ length (headPieces (roomIn (now (s .entry))) consoleCount)) × (r ≤ longestRecord * consoleCount) ⌝ }
 {
     let mut sum = 0;
     let mut c = 0;
     while c < CONSOLES {
-        sum += head_length(s, c);
+        sum += head_length(s, Console(c));
         c += 1;
     }
     sum

@@ -47,6 +47,10 @@ recordBytes (Head console version) = headRecord ∷ byte (console .0) ∷ word (
 recordBytes End = endRecord ∷ []
 recordBytes Broken = []
 
+-- no record takes more bytes than an entry's
+abbrev pub longestRecord : ℕ
+longestRecord = length (versionBytes (entry 0 0 0 0))
+
 -- the paper's number for each record: what is none is why a tape "isn't such a sequence of whole records", 7
 abbrev pub recordRefusal : Record → ℕ
 recordRefusal (Start settings) = 0

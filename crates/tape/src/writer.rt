@@ -19,7 +19,7 @@ ghost use lib.ListN.{length};
 ghost use Rattle.buffer.specs.Field.{byte, word, withPart};
 ghost use Rattle.graph.specs.declared.Node.the-variants.{Entry, Merge};
 ghost use Rattle.tape.specs.declared.Record.the-variants.{Start, Head, End};
-ghost use Rattle.tape.specs.Record.{versionBytes, recordBytes};
+ghost use Rattle.tape.specs.Record.{versionBytes, recordBytes, longestRecord};
 
 // Writes a number's 8 bits at a place, and says where they end.
 fn put_byte(tape: &mut [u8], at: usize, x: usize) -> usize
@@ -79,7 +79,7 @@ fn put_merge(tape: &mut [u8], at: usize, receiver: Version, giver: Version) -> u
 
 // How many bytes the record of a version takes.
 pub fn version_length(node: Node) -> usize
-    ensures { λ r. ⌜ (r ≡ length (versionBytes node)) × (r ≤ 7) ⌝ }
+    ensures { λ r. ⌜ (r ≡ length (versionBytes node)) × (r ≤ longestRecord) ⌝ }
 {
     match node {
         Node::Entry {

@@ -2,7 +2,7 @@
 -- Assumes nothing.
 use native.Mathlib.Omega.{arith}
 use Prim.Native.Nat.{_-_}
-use Rattle.store.proofs.Whole.{whole-header, whole-block}
+use Rattle.store.proofs.Whole.{whole-block}
 use Rattle.pause.proofs.Tapes.{tape-size}
 use Rattle.pause.proofs.tape_length.Statement.{statement}
 use Rattle.pause.proofs.tape_length.Tie as tie
@@ -15,14 +15,14 @@ sub-versions-length c = omega arith
 
 versions-length-requires : tie.Need-versions-length-requires
 versions-length-requires c κs =
-    let s = c .before .before .args .s .now in
-    (omega arith, whole-block s (c .before .before .pre) (c .version-count .result - 1) (omega arith))
+    let start = c .before .before in
+    (omega arith, whole-block (start .args .s .now) (start .pre) (c .version-count .result - 1) (omega arith))
 
 add-result : tie.Need-add-result
 add-result c = omega arith
 
 heads-length-requires : tie.Need-heads-length-requires
-heads-length-requires c κs = whole-header (c .before .before .before .args .s .now) (c .before .before .before .pre)
+heads-length-requires c κs = c .before .before .before .pre
 
 add-result-2 : tie.Need-add-result-2
 add-result-2 c = omega arith
@@ -32,9 +32,8 @@ add-result-3 c = omega arith
 
 returns : tie.Need-returns
 returns c =
-    let s = c .before .before .before .before .args .s .now in
-    let n = c .before .before .version-count .result - 1 in
-    omega (arith, tape-size s n (omega arith))
+    let count = c .before .before in
+    omega (arith, tape-size (count .before .before .args .s .now) (count .version-count .result - 1) (omega arith))
 
 pub tape-length-spec : {M : Type 1} → statement M
 tape-length-spec =

@@ -5,18 +5,17 @@ use mathlib.Core.Path.{refl}
 use Prim.Native.Nat.{_-_}
 use lib.ListN.{length}
 use Rattle.store.specs.Layout.{roomIn}
-use Rattle.store.proofs.Whole.{whole-header, whole-block}
+use Rattle.store.proofs.Whole.{whole-block}
 use Rattle.pause.proofs.Tapes.{tape-size, tape-written}
 use Rattle.pause.proofs.write_tape.Statement.{statement}
 use Rattle.pause.proofs.write_tape.Tie as tie
 
-capacity-of-requires : tie.Need-capacity-of-requires
-capacity-of-requires c κs = c .before .before .before .pre .0
+settings-of-requires : tie.Need-settings-of-requires
+settings-of-requires c κs = c .before .before .before .pre .0
 
 put-start-requires : tie.Need-put-start-requires
 put-start-requires c κs =
-    let s = c .before .before .before .before .args .s .now in
-    omega (arith, tape-size s (length (roomIn s .versions)) refl)
+    let s = c .before .before .before .before .args .s .now in omega (arith, tape-size s (length (roomIn s .versions)) refl)
 
 version-count-requires : tie.Need-version-count-requires
 version-count-requires c κs = c .before .before .before .before .before .before .before .pre .0
@@ -26,37 +25,42 @@ sub-put-versions c = omega arith
 
 put-versions-requires : tie.Need-put-versions-requires
 put-versions-requires c κs =
-    let s = c .before .before .before .before .before .before .before .before .before .args .s .now in
-    let n = c .before .version-count .result - 1 in
-    ((omega arith, whole-block s (c .before .before .before .before .before .before .before .before .before .pre .0) n (omega arith)), omega (arith, tape-size s n (omega arith)))
+    let count = c .before in
+    let start = count .before .before .before .before .before .before .before .before in
+    let n = count .version-count .result - 1 in
+    ((omega arith, whole-block (start .args .s .now) (start .pre .0) n (omega arith)), omega (arith, tape-size (start .args .s .now) n (omega arith)))
 
 put-heads-requires : tie.Need-put-heads-requires
 put-heads-requires c κs =
-    let s = c .before .before .before .before .before .before .before .before .before .before .before .before .before .args .s .now in
-    let n = c .before .before .before .before .before .version-count .result - 1 in
-    (whole-header s (c .before .before .before .before .before .before .before .before .before .before .before .before .before .pre .0), omega (arith, tape-size s n (omega arith)))
+    let count = c .before .before .before .before .before in
+    let start = count .before .before .before .before .before .before .before .before in
+    (start .pre .0, omega (arith, tape-size (start .args .s .now) (count .version-count .result - 1) (omega arith)))
 
 put-end-requires : tie.Need-put-end-requires
 put-end-requires c κs =
-    let s = c .before .before .before .before .before .before .before .before .before .before .before .before .before .before .before .before .before .args .s .now in
-    let n = c .before .before .before .before .before .before .before .before .before .version-count .result - 1 in
-    omega (arith, tape-size s n (omega arith))
+    let count = c .before .before .before .before .before .before .before .before .before in
+    let start = count .before .before .before .before .before .before .before .before in
+    omega (arith, tape-size (start .args .s .now) (count .version-count .result - 1) (omega arith))
 
 same-length : tie.Need-same-length
 same-length c = omega arith
 
 returns : tie.Need-returns
 returns c =
-    let start = c .before .before .before .before .before .before .before .before .before .before .before .before .before .before .before .before .before .before .before .before in
-    let s = start .args .s .now in
-    tape-written s (c .before .before .before .before .before .before .before .before .before .before .before .before .version-count .result - 1) (omega arith) (start .args .tape .now) (start .pre .1) (c .before .before .before .before .before .before .before .before .before .before .before .before .before .before .before .before .capacity-of .ensures .0) (c .before .before .before .before .before .before .before .before .before .before .before .before .before .before .before .put-start .ensures)
-    (c .before .before .before .before .before .before .before .before .before .before .put-versions .ensures) (c .before .before .before .before .before .before .put-heads .ensures) (c .before .before .put-end .ensures)
+    let end = c .before .before in
+    let heads = end .before .before .before .before in
+    let versions = heads .before .before .before .before in
+    let count = versions .before .before in
+    let first = count .before .before .before in
+    let start = first .before .before .before .before .before in
+    tape-written (start .args .s .now) (count .version-count .result - 1) (omega arith) (start .args .tape .now) (start .pre .1)
+    (rw (first .before .settings-of .ensures .0) at (first .put-start .ensures)) (versions .put-versions .ensures) (heads .put-heads .ensures) (end .put-end .ensures)
 
 pub write-tape-spec : {M : Type 1} → statement M
 write-tape-spec =
     tie.close
     (tie.spec
-    capacity-of-requires
+    settings-of-requires
     put-start-requires
     version-count-requires
     sub-put-versions

@@ -3,6 +3,7 @@
 use native.Mathlib.Omega.{arith}
 use Prim.Native.Nat.{_-_}
 use Rattle.command.specs.Code.{consoleCount}
+use Rattle.store.specs.Layout.{roomIn}
 use Rattle.pause.specs.Pieces.{headPieces}
 use Rattle.pause.proofs.Piled.{Counted, counted-none, counted-more, counted-all}
 use Rattle.pause.proofs.Pieces.{head-pieces}
@@ -10,16 +11,16 @@ use Rattle.pause.proofs.measure.heads_length.Statement.{statement}
 use Rattle.pause.proofs.measure.heads_length.Tie as tie
 
 abbrev Inv-loop : tie.InvT-loop
-Inv-loop s sum₀ c₀ sum c = Counted (headPieces s) consoleCount c sum
+Inv-loop s sum₀ c₀ sum c = Counted (headPieces (roomIn s)) consoleCount c sum
 
 abbrev μ-loop : tie.MeasureT-loop
 μ-loop s sum₀ c₀ sum c = consoleCount - c
 
 loop-holds : tie.Need-loop-holds Inv-loop μ-loop
-loop-holds c = counted-none (head-pieces (c .before .args .s .now)) consoleCount
+loop-holds c = counted-none (head-pieces (roomIn (c .before .args .s .now))) consoleCount
 
 head-length-requires : tie.Need-head-length-requires Inv-loop μ-loop
-head-length-requires c κs = omega arith
+head-length-requires c κs = (c .before .before .before .pre, omega arith)
 
 add-sum : tie.Need-add-sum Inv-loop μ-loop
 add-sum c = omega arith
@@ -32,7 +33,8 @@ loop-less c = omega arith
 
 loop-again : tie.Need-loop-again Inv-loop μ-loop
 loop-again c =
-    counted-more (head-pieces (c .before .before .before .before .args .s .now)) (c .before .before .loop .inv) (c .before .loop-test .taken) (c .head-length .ensures .0) (c .head-length .ensures .1)
+    let loop = c .before in
+    counted-more (head-pieces (roomIn (loop .before .before .before .args .s .now))) (loop .before .loop .inv) (loop .loop-test .taken) (c .head-length .ensures .0) (c .head-length .ensures .1)
 
 returns : tie.Need-returns Inv-loop μ-loop
 returns c = counted-all (c .before .loop .inv) (omega arith)

@@ -1,7 +1,11 @@
 -- `pause::measure::versions_length` meets its contract. The loop's invariant is `Counted`: the sum is the length of the first k records.
 -- Assumes nothing.
 use native.Mathlib.Omega.{arith}
+use mathlib.Core.Path.{_∙_, ap}
 use Prim.Native.Nat.{_-_}
+use lib.ListN.{length}
+use Rattle.graph.specs.declared.Node.{Node}
+use Rattle.tape.specs.Record.{versionBytes}
 use Rattle.pause.specs.Pieces.{versionPieces}
 use Rattle.pause.proofs.Piled.{Counted, counted-none, counted-more, counted-all}
 use Rattle.pause.proofs.Pieces.{version-pieces}
@@ -17,24 +21,26 @@ abbrev μ-loop : tie.MeasureT-loop
 loop-holds : tie.Need-loop-holds Inv-loop μ-loop
 loop-holds c = counted-none (version-pieces (c .before .args .s .now)) _
 
-add-version-length : tie.Need-add-version-length Inv-loop μ-loop
-add-version-length c = omega arith
+add-k : tie.Need-add-k Inv-loop μ-loop
+add-k c = omega arith
+
+read-node-requires : tie.Need-read-node-requires Inv-loop μ-loop
+read-node-requires c κs = omega arith
 
 version-length-requires : tie.Need-version-length-requires Inv-loop μ-loop
-version-length-requires c κs = omega arith
+version-length-requires c κs = tt
 
 add-sum : tie.Need-add-sum Inv-loop μ-loop
 add-sum c = omega arith
-
-add-k : tie.Need-add-k Inv-loop μ-loop
-add-k c = omega arith
 
 loop-less : tie.Need-loop-less Inv-loop μ-loop
 loop-less c = omega arith
 
 loop-again : tie.Need-loop-again Inv-loop μ-loop
 loop-again c =
-    counted-more (version-pieces (c .before .before .before .before .args .s .now)) (c .before .before .loop .inv) (c .before .loop-test .taken) (c .version-length .ensures .0) (c .version-length .ensures .1)
+    let loop = c .before .before in
+    let found = ap (λ (x : Node). length (versionBytes x)) (c .before .read-node .ensures) in
+    counted-more (version-pieces (loop .before .before .before .args .s .now)) (loop .before .loop .inv) (loop .loop-test .taken) (c .version-length .ensures .0 ∙ found) (c .version-length .ensures .1)
 
 returns : tie.Need-returns Inv-loop μ-loop
 returns c = counted-all (c .before .loop .inv) (omega arith)
@@ -46,10 +52,10 @@ versions-length-spec =
     Inv-loop
     μ-loop
     loop-holds
-    add-version-length
+    add-k
+    read-node-requires
     version-length-requires
     add-sum
-    add-k
     loop-less
     loop-again
     returns)

@@ -1,58 +1,42 @@
 -- `pause::write::put_console` meets its contract.
 -- Assumes nothing.
 use native.Mathlib.Omega.{arith}
-use mathlib.Core.Path.{sym}
-use native.Mathlib.Nat.{add-zero}
-use Prim.Native.Nat.{_-_}
-use Rattle.pause.proofs.Grown.{grown-none}
-use Rattle.pause.proofs.Pieces.{absent-piece, present-piece, present-length}
+use mathlib.Core.Path.{_∙_, sym}
+use Rattle.store.specs.Layout.{roomIn}
+use Rattle.tape.proofs.Grown.{grown-none}
+use Rattle.pause.proofs.Pieces.{present-piece, absent-piece}
 use Rattle.pause.proofs.write.put_console.Statement.{statement}
 use Rattle.pause.proofs.write.put_console.Tie as tie
 
-common-in-requires : tie.Need-common-in-requires
-common-in-requires c κs = omega arith
+is-present-requires : tie.Need-is-present-requires
+is-present-requires c κs = (c .before .before .pre .0, omega arith)
 
-returns : tie.Need-returns
-returns c =
-    let a = c .before .before .before .before .args in
-    let f = c .before .common-in in
-    let none = absent-piece (a .s .now) (a .c) (f .result) (f .ensures .0) (c .if1 .taken) in
-    rw none (sym (add-zero (a .at)), grown-none (a .tape .now) (a .at) (omega arith) .reads)
-
-sub-head : tie.Need-sub-head
-sub-head c = omega arith
+head-of-requires : tie.Need-head-of-requires
+head-of-requires c κs = (c .before .before .before .before .before .pre .0, omega arith)
 
 put-head-requires : tie.Need-put-head-requires
 put-head-requires c κs =
-    let a = c .before .before .before .before .before .args in
-    let f = c .before .before .common-in in
-    omega (arith, present-length (a .s .now) (a .c) (f .result) (f .ensures .0) (c .before .if1 .left))
-
-add-result : tie.Need-add-result
-add-result c =
-    let a = c .before .before .before .before .before .before .before .before .args in
-    let f = c .before .before .before .before .before .common-in in
-    omega (arith, present-length (a .s .now) (a .c) (f .result) (f .ensures .0) (c .before .before .before .before .if1 .left))
+    let found = c .before .before .before in
+    let start = found .before .before .before in
+    let piece = present-piece (roomIn (start .args .s .now)) (start .args .c .0) (sym (found .is-present .ensures) ∙ c .before .before .if1 .taken) in
+    rw (← piece) at (start .pre .1 .1)
 
 same-length : tie.Need-same-length
 same-length c = omega arith
 
+returns : tie.Need-returns
+returns c =
+    let call = c .before .before in
+    let found = call .before .before .before .before in
+    let start = found .before .before .before in
+    let piece = present-piece (roomIn (start .args .s .now)) (start .args .c .0) (sym (found .is-present .ensures) ∙ call .before .before .before .if1 .taken) in
+    rw (← piece, ← call .before .head-of .ensures .0) (call .put-head .ensures)
+
 returns-2 : tie.Need-returns-2
 returns-2 c =
-    let a = c .before .before .before .before .before .before .before .before .args in
-    let f = c .before .before .before .before .before .common-in in (
-      omega (arith, present-length (a .s .now) (a .c) (f .result) (f .ensures .0) (c .before .before .before .before .if1 .left)),
-      rw (← present-piece (a .s .now) (a .c) (f .result) (f .ensures .0) (f .result - 1) (omega arith)) (c .before .before .put-head .ensures),
-    )
+    let a = c .before .before .before .before .args in
+    rw (← absent-piece (roomIn (a .s .now)) (a .c .0) (sym (c .before .is-present .ensures) ∙ c .if1 .left)) (grown-none (a .tape .now) (a .at) (omega arith) .put)
 
 pub put-console-spec : {M : Type 1} → statement M
 put-console-spec =
-    tie.close
-    (tie.spec
-    common-in-requires
-    returns
-    sub-head
-    put-head-requires
-    add-result
-    same-length
-    returns-2)
+    tie.close (tie.spec is-present-requires head-of-requires put-head-requires same-length returns returns-2)

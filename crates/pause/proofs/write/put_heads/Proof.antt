@@ -3,6 +3,7 @@
 use native.Mathlib.Omega.{arith}
 use Prim.Native.Nat.{_-_}
 use Rattle.command.specs.Code.{consoleCount}
+use Rattle.store.specs.Layout.{roomIn}
 use Rattle.pause.specs.Pieces.{headPieces}
 use Rattle.pause.proofs.Piled.{Piled, piled-none, piled-fits, piled-more, piled-all}
 use Rattle.pause.proofs.Pieces.{head-pieces}
@@ -10,17 +11,19 @@ use Rattle.pause.proofs.write.put_heads.Statement.{statement}
 use Rattle.pause.proofs.write.put_heads.Tie as tie
 
 abbrev Inv-loop : tie.InvT-loop
-Inv-loop s tape₀ from at₀ c₀ tape at c = Piled (headPieces s) tape₀ from consoleCount c at tape
+Inv-loop s tape₀ from at₀ c₀ tape at c = Piled (headPieces (roomIn s)) tape₀ from consoleCount c at tape
 
 abbrev μ-loop : tie.MeasureT-loop
 μ-loop s tape₀ from at₀ c₀ tape at c = consoleCount - c
 
 loop-holds : tie.Need-loop-holds Inv-loop μ-loop
-loop-holds c = piled-none (head-pieces (c .before .before .args .s .now)) _ _ consoleCount (c .before .before .pre .1)
+loop-holds c = piled-none (head-pieces (roomIn (c .before .before .args .s .now))) _ _ consoleCount (c .before .before .pre .1)
 
 put-console-requires : tie.Need-put-console-requires Inv-loop μ-loop
 put-console-requires c κs =
-    ((omega arith, omega arith), piled-fits (head-pieces (c .before .before .before .before .before .args .s .now)) (c .before .before .loop .inv) (c .before .loop-test .taken))
+    let loop = c .before in
+    let start = loop .before .before .before .before in
+    (start .pre .0, (omega arith, piled-fits (head-pieces (roomIn (start .args .s .now))) (loop .before .loop .inv) (loop .loop-test .taken)))
 
 add-c : tie.Need-add-c Inv-loop μ-loop
 add-c c = omega arith
@@ -31,7 +34,8 @@ loop-less c = omega arith
 loop-again : tie.Need-loop-again Inv-loop μ-loop
 loop-again c =
     let call = c .before .before in
-    piled-more (head-pieces (call .before .before .before .before .before .before .args .s .now)) (call .before .before .before .loop .inv) (call .before .before .loop-test .taken) (call .put-console .ensures .0) (call .put-console .ensures .1)
+    let loop = call .before .before in
+    piled-more (head-pieces (roomIn (loop .before .before .before .before .args .s .now))) (loop .before .loop .inv) (loop .loop-test .taken) (call .put-console .ensures)
 
 same-length : tie.Need-same-length Inv-loop μ-loop
 same-length c = c .before .loop .inv .grown .kept

@@ -17,15 +17,16 @@ abbrev μ-loop : tie.MeasureT-loop
 loop-holds : tie.Need-loop-holds Inv-loop μ-loop
 loop-holds c = piled-none (version-pieces (c .before .before .args .s .now)) _ _ _ (c .before .before .pre .1)
 
-add-put-version : tie.Need-add-put-version Inv-loop μ-loop
-add-put-version c = omega arith
+add-k : tie.Need-add-k Inv-loop μ-loop
+add-k c = omega arith
+
+read-node-requires : tie.Need-read-node-requires Inv-loop μ-loop
+read-node-requires c κs = omega arith
 
 put-version-requires : tie.Need-put-version-requires Inv-loop μ-loop
 put-version-requires c κs =
-    ((omega arith, omega arith), piled-fits (version-pieces (c .before .before .before .before .before .args .s .now)) (c .before .before .loop .inv) (c .before .loop-test .taken))
-
-add-k : tie.Need-add-k Inv-loop μ-loop
-add-k c = omega arith
+    let loop = c .before .before in
+    rw (c .read-node .ensures) (piled-fits (version-pieces (loop .before .before .before .before .args .s .now)) (loop .before .loop .inv) (loop .loop-test .taken))
 
 loop-less : tie.Need-loop-less Inv-loop μ-loop
 loop-less c = omega arith
@@ -33,7 +34,9 @@ loop-less c = omega arith
 loop-again : tie.Need-loop-again Inv-loop μ-loop
 loop-again c =
     let call = c .before .before in
-    piled-more (version-pieces (call .before .before .before .before .before .before .args .s .now)) (call .before .before .before .loop .inv) (call .before .before .loop-test .taken) (call .put-version .ensures .0) (call .put-version .ensures .1)
+    let loop = call .before .before .before in
+    piled-more (version-pieces (loop .before .before .before .before .args .s .now)) (loop .before .loop .inv) (loop .loop-test .taken)
+    (rw (call .before .read-node .ensures) at (call .put-version .ensures))
 
 same-length : tie.Need-same-length Inv-loop μ-loop
 same-length c = c .before .loop .inv .grown .kept
@@ -48,9 +51,9 @@ put-versions-spec =
     Inv-loop
     μ-loop
     loop-holds
-    add-put-version
-    put-version-requires
     add-k
+    read-node-requires
+    put-version-requires
     loop-less
     loop-again
     same-length
