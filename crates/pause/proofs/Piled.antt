@@ -8,7 +8,7 @@ use native.Mathlib.Numerals.{add-one}
 use native.Mathlib.Omega.{arith}
 use lib.ListN.{length, length-append}
 use Rattle.tape.specs.Record.{longestRecord}
-use Rattle.tape.proofs.Grown.{Put, Grown, grown-none, grown-more}
+use Rattle.tape.proofs.Laid.{Put, Laid, laid-none, laid-more}
 
 -- w k is the first k pieces, one behind the other
 pub record Pieces (w piece : ℕ → List ℕ) : Type 0 where
@@ -19,10 +19,10 @@ pub record Pieces (w piece : ℕ → List ℕ) : Type 0 where
 pub record Piled (w : ℕ → List ℕ) (s : List ℕ) (from n k at : ℕ) (t : List ℕ) : Type 0 where
   pub within : k ≤ n
   pub room : from + length (w n) ≤ length s
-  pub grown : Grown s from (w k) t at
+  pub laid : Laid s from (w k) t at
 
 -- the first k of n pieces have this many bytes; none has more than the longest record
-pub record Counted (w : ℕ → List ℕ) (n k sum : ℕ) : Type 0 where
+pub record Measured (w : ℕ → List ℕ) (n k sum : ℕ) : Type 0 where
   pub within : k ≤ n
   pub total : sum ≡ length (w k)
   pub small : sum ≤ longestRecord * k
@@ -41,29 +41,29 @@ module _ {w piece : ℕ → List ℕ} (p : Pieces w piece) where
       ]
 
   pub piled-none : (s : List ℕ) (from n : ℕ) → from + length (w n) ≤ length s → Piled w s from n 0 from s
-  piled-none s from n room = record { within = omega arith; room = room; grown = rw (p .none) (grown-none s from (omega arith)) }
+  piled-none s from n room = record { within = omega arith; room = room; laid = rw (p .none) (laid-none s from (omega arith)) }
 
   -- where the next piece goes it has room
   pub piled-fits : {s t : List ℕ} {from n k at : ℕ} → Piled w s from n k at t → k < n → at + length (piece k) ≤ length t
   piled-fits {s} {t} {from} {n} {k} {at} q l =
-      let g = q .grown in omega (arith, g .put .0, pieces-rise (k + 1) n (omega arith), more-length k)
+      let g = q .laid in omega (arith, g .put .0, pieces-rise (k + 1) n (omega arith), more-length k)
 
   pub piled-more : {s t t′ : List ℕ} {from n k at to : ℕ} → Piled w s from n k at t → k < n → Put t at (piece k) t′ to
       → Piled w s from n (k + 1) to t′
   piled-more {k = k} q l put =
       let fits = piled-fits q l in
-      let g = q .grown in
-      record { within = omega arith; room = q .room; grown = rw (p .more k) (grown-more (piece k) g (omega arith) put) }
+      let g = q .laid in
+      record { within = omega arith; room = q .room; laid = rw (p .more k) (laid-more (piece k) g (omega arith) put) }
 
-  pub counted-none : (n : ℕ) → Counted w n 0 0
-  counted-none n = record { within = omega arith; total = rw (p .none); small = omega arith }
+  pub measured-none : (n : ℕ) → Measured w n 0 0
+  measured-none n = record { within = omega arith; total = rw (p .none); small = omega arith }
 
-  pub counted-more : {n k sum r : ℕ} → Counted w n k sum → k < n → r ≡ length (piece k) → r ≤ longestRecord
-      → Counted w n (k + 1) (sum + r)
-  counted-more {k = k} q l e small = record { within = omega arith; total = omega (arith, more-length k); small = omega arith }
+  pub measured-more : {n k sum r : ℕ} → Measured w n k sum → k < n → r ≡ length (piece k) → r ≤ longestRecord
+      → Measured w n (k + 1) (sum + r)
+  measured-more {k = k} q l e small = record { within = omega arith; total = omega (arith, more-length k); small = omega arith }
 
 pub piled-all : {w : ℕ → List ℕ} {s t : List ℕ} {from n k at : ℕ} → Piled w s from n k at t → n ≤ k → Put s from (w n) t at
-piled-all {n = n} {k = k} q l = let e : k ≡ n = omega (arith, q .within) in rw e at (q .grown .put)
+piled-all {n = n} {k = k} q l = let e : k ≡ n = omega (arith, q .within) in rw e at (q .laid .put)
 
-pub counted-all : {w : ℕ → List ℕ} {n k sum : ℕ} → Counted w n k sum → n ≤ k → (sum ≡ length (w n)) × (sum ≤ longestRecord * n)
-counted-all {n = n} {k = k} q l = let e : k ≡ n = omega (arith, q .within) in (rw e at (q .total), rw e at (q .small))
+pub measured-all : {w : ℕ → List ℕ} {n k sum : ℕ} → Measured w n k sum → n ≤ k → (sum ≡ length (w n)) × (sum ≤ longestRecord * n)
+measured-all {n = n} {k = k} q l = let e : k ≡ n = omega (arith, q .within) in (rw e at (q .total), rw e at (q .small))

@@ -15,7 +15,7 @@ use Rattle.store.proofs.Checks.{own-versions, own-sixteen}
 use Rattle.tape.specs.declared.Record.the-variants.{Start, End}
 use Rattle.tape.specs.Record.{recordBytes}
 use Rattle.tape.specs.Tape.{tapeOf}
-use Rattle.tape.proofs.Grown.{Put, grown-one, grown-more}
+use Rattle.tape.proofs.Laid.{Put, laid-one, laid-more}
 use Rattle.pause.specs.Pieces.{versionPieces, headPieces}
 
 module _ (s : List ℕ) (n : ℕ) (count : n ≡ length (roomIn s .versions)) where
@@ -35,8 +35,8 @@ module _ (s : List ℕ) (n : ℕ) (count : n ≡ length (roomIn s .versions)) wh
       → t₄ ≡ overwrite (tapeOf (roomIn s)) old
   tape-written old fits one two three four =
       let size = tape-size in
-      let g₁ = grown-one start (omega arith) one in
-      let g₂ = grown-more (versionPieces s n) g₁ (omega arith) two in
-      let g₃ = grown-more (headPieces (roomIn s) consoleCount) g₂ (omega arith) three in
-      let g₄ = grown-more (recordBytes End) g₃ (omega arith) four in
+      let g₁ = laid-one start (omega arith) one in
+      let g₂ = laid-more (versionPieces s n) g₁ (omega arith) two in
+      let g₃ = laid-more (headPieces (roomIn s) consoleCount) g₂ (omega arith) three in
+      let g₄ = laid-more (recordBytes End) g₃ (omega arith) four in
       g₄ .put .1 ∙ front-part old _ ∙ ap (λ (x : List ℕ). overwrite x old) (sym own-pieces)

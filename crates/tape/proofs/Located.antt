@@ -14,12 +14,13 @@ use Rattle.laws.proofs.Lists.{all-first, none-first, one-more}
 use Rattle.graph.specs.declared.Node.{Node}
 use Rattle.graph.specs.Graph.{Graph, merge}
 use Rattle.command.specs.Code.{headRecord, shapeOf, lengthOf}
+use Rattle.buffer.proofs.Parts.{Bytes}
 use Rattle.tape.specs.declared.Record.{Record}
 use Rattle.tape.specs.declared.Record.the-variants.{Start, Version, End}
 use Rattle.tape.specs.Record.{recordIn, recordBytes}
 use Rattle.tape.specs.Tape.{Content, contentOf, versionRecords}
 use Rattle.tape.specs.Reader.{placeAfter, nodeOn, headOn, firstVersions, nextNode, firstHeads, nextHead, versionPlace, headPlace}
-use Rattle.tape.proofs.Records.{Bytes, Fits, record-read, record-length}
+use Rattle.tape.proofs.Records.{Fits, record-read, record-length}
 use Rattle.tape.proofs.Heads.{headBytes}
 use Rattle.tape.proofs.Written.{recordOfHead, AllFit, tape-written, tape-fits}
 

@@ -14,6 +14,7 @@ use lib.Seq.{drop-cons, drop-append-seam}
 use borrow.Author.Tests.{ltb-false, le-ltb, ne-eqb}
 use Rattle.laws.proofs.Logic.{decide, cond-true, cond-false}
 use Rattle.buffer.specs.Field.{byte, wordAt}
+pub use Rattle.buffer.proofs.Parts.{Bytes}
 use Rattle.graph.specs.declared.Node.{Node}
 use Rattle.graph.specs.declared.Node.the-variants.{Entry, Merge}
 use Rattle.command.specs.declared.Operands.{Operands}
@@ -21,10 +22,6 @@ use Rattle.command.specs.Code.{startRecord, entryRecord, mergeRecord, headRecor
 use Rattle.tape.specs.declared.Record.{Record}
 use Rattle.tape.specs.declared.Record.the-variants.{Start, Version, Head, End, Broken}
 use Rattle.tape.specs.Record.{recordIn, recordLength, recordFrom, versionBytes, recordBytes, recordRefusal}
-
--- every element is a byte; what lies past the end reads as 0
-abbrev pub Bytes : List ℕ → Type 0
-Bytes t = (k : ℕ) → getD t k 0 < 256
 
 -- each number of a version, and of a record, fits its field
 abbrev pub NodeFits : Node → Type 0

@@ -14,10 +14,11 @@ use Rattle.command.proofs.Limits.{within-true}
 use Rattle.room.specs.Room.{Room}
 use Rattle.room.specs.Sound.{soundRoom, maxCapacity}
 use Rattle.room.proofs.Sound.{Sound, sound-facts, heads-named}
+use Rattle.buffer.proofs.Parts.{Bytes}
 use Rattle.tape.specs.declared.Record.the-variants.{Start, End}
 use Rattle.tape.specs.Record.{recordBytes}
 use Rattle.tape.specs.Tape.{Content, inVersions, readOn, contentOf, contentRefusal, roomOf, tapeOf, versionRecords, headRecords, consolesRise}
-use Rattle.tape.proofs.Records.{Bytes, record-read, record-rest}
+use Rattle.tape.proofs.Records.{record-read, record-rest}
 use Rattle.tape.proofs.Accepted.{accepted, accepts}
 use Rattle.tape.proofs.Heads.{headsFrom, Named, slots-forth, all-named, slots-back, rises}
 use Rattle.tape.proofs.Written.{tape-written}

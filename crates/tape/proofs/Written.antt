@@ -11,11 +11,12 @@ use lib.Dec.{eqb}
 use lib.ListN.{length, drop, drop-of-length-le}
 use lib.Seq.{getD-drop}
 use borrow.Author.Tests.{eqb-true}
+use Rattle.buffer.proofs.Parts.{Bytes}
 use Rattle.tape.specs.declared.Record.{Record}
 use Rattle.tape.specs.declared.Record.the-variants.{Start, Version, Head, End, Broken}
 use Rattle.tape.specs.Record.{recordIn, recordLength, recordBytes, recordRefusal}
 use Rattle.tape.specs.Tape.{Content, Stage, inVersions, inHeads, Follow, goOn, finish, refuse, afterRecord, readOn, readFrom, contentOf, versionRecords}
-use Rattle.tape.proofs.Records.{Bytes, Fits, record-whole}
+use Rattle.tape.proofs.Records.{Fits, record-whole}
 use Rattle.tape.proofs.Heads.{headBytes}
 use Rattle.tape.proofs.Reading.{read-step}
 

@@ -3,7 +3,7 @@
 use native.Mathlib.Omega.{arith}
 use mathlib.Core.Path.{_∙_, sym}
 use Rattle.store.specs.Layout.{roomIn}
-use Rattle.tape.proofs.Grown.{grown-none}
+use Rattle.tape.proofs.Laid.{laid-none}
 use Rattle.pause.proofs.Pieces.{present-piece, absent-piece}
 use Rattle.pause.proofs.write.put_console.Statement.{statement}
 use Rattle.pause.proofs.write.put_console.Tie as tie
@@ -35,7 +35,7 @@ returns c =
 returns-2 : tie.Need-returns-2
 returns-2 c =
     let a = c .before .before .before .before .args in
-    rw (← absent-piece (roomIn (a .s .now)) (a .c .0) (sym (c .before .is-present .ensures) ∙ c .if1 .left)) (grown-none (a .tape .now) (a .at) (omega arith) .put)
+    rw (← absent-piece (roomIn (a .s .now)) (a .c .0) (sym (c .before .is-present .ensures) ∙ c .if1 .left)) (laid-none (a .tape .now) (a .at) (omega arith) .put)
 
 pub put-console-spec : {M : Type 1} → statement M
 put-console-spec =

@@ -38,7 +38,7 @@ loop-again c =
     piled-more (head-pieces (roomIn (loop .before .before .before .before .args .s .now))) (loop .before .loop .inv) (loop .loop-test .taken) (call .put-console .ensures)
 
 same-length : tie.Need-same-length Inv-loop μ-loop
-same-length c = c .before .loop .inv .grown .kept
+same-length c = c .before .loop .inv .laid .kept
 
 returns : tie.Need-returns Inv-loop μ-loop
 returns c = piled-all (c .before .loop .inv) (omega arith)

@@ -39,7 +39,7 @@ loop-again c =
     (rw (call .before .read-node .ensures) at (call .put-version .ensures))
 
 same-length : tie.Need-same-length Inv-loop μ-loop
-same-length c = c .before .loop .inv .grown .kept
+same-length c = c .before .loop .inv .laid .kept
 
 returns : tie.Need-returns Inv-loop μ-loop
 returns c = piled-all (c .before .loop .inv) (omega arith)

@@ -4,7 +4,7 @@ use native.Mathlib.Omega.{arith}
 use mathlib.Core.List.{[], _∷_}
 use Rattle.buffer.specs.Field.{byte, word}
 use Rattle.command.specs.Code.{entryRecord}
-use Rattle.tape.proofs.Grown.{grown-one, grown-more}
+use Rattle.tape.proofs.Laid.{laid-one, laid-more}
 use Rattle.tape.proofs.writer.put_entry.Statement.{statement}
 use Rattle.tape.proofs.writer.put_entry.Tie as tie
 
@@ -34,11 +34,11 @@ returns c =
     let second = third .before .before .before .before in
     let first = second .before .before .before .before in
     let a = first .before .before .before .args in
-    let g₁ = grown-one (entryRecord ∷ []) (omega arith) (first .put-byte .ensures) in
-    let g₂ = grown-more (word (a .parent .0)) g₁ (omega arith) (second .put-field .ensures) in
-    let g₃ = grown-more (byte (a .code) ∷ []) g₂ (omega arith) (third .put-byte2 .ensures) in
-    let g₄ = grown-more (byte (a .strip .0) ∷ []) g₃ (omega arith) (fourth .put-byte3 .ensures) in
-    grown-more (word (a .operand)) g₄ (omega arith) (fifth .put-field2 .ensures) .put
+    let g₁ = laid-one (entryRecord ∷ []) (omega arith) (first .put-byte .ensures) in
+    let g₂ = laid-more (word (a .parent .0)) g₁ (omega arith) (second .put-field .ensures) in
+    let g₃ = laid-more (byte (a .code) ∷ []) g₂ (omega arith) (third .put-byte2 .ensures) in
+    let g₄ = laid-more (byte (a .strip .0) ∷ []) g₃ (omega arith) (fourth .put-byte3 .ensures) in
+    laid-more (word (a .operand)) g₄ (omega arith) (fifth .put-field2 .ensures) .put
 
 pub put-entry-spec : {M : Type 1} → statement M
 put-entry-spec =

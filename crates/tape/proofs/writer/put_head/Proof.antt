@@ -4,7 +4,7 @@ use native.Mathlib.Omega.{arith}
 use mathlib.Core.List.{[], _∷_}
 use Rattle.buffer.specs.Field.{byte, word}
 use Rattle.command.specs.Code.{headRecord}
-use Rattle.tape.proofs.Grown.{grown-one, grown-more}
+use Rattle.tape.proofs.Laid.{laid-one, laid-more}
 use Rattle.tape.proofs.writer.put_head.Statement.{statement}
 use Rattle.tape.proofs.writer.put_head.Tie as tie
 
@@ -26,9 +26,9 @@ returns c =
     let next = last .before .before .before .before in
     let first = next .before .before .before .before in
     let a = first .before .before .before .args in
-    let coded = grown-one (headRecord ∷ []) (omega arith) (first .put-byte .ensures) in
-    let named = grown-more (byte (a .console .0) ∷ []) coded (omega arith) (next .put-byte2 .ensures) in
-    grown-more (word (a .version .0)) named (omega arith) (last .put-field .ensures) .put
+    let coded = laid-one (headRecord ∷ []) (omega arith) (first .put-byte .ensures) in
+    let named = laid-more (byte (a .console .0) ∷ []) coded (omega arith) (next .put-byte2 .ensures) in
+    laid-more (word (a .version .0)) named (omega arith) (last .put-field .ensures) .put
 
 pub put-head-spec : {M : Type 1} → statement M
 put-head-spec =

@@ -4,7 +4,7 @@ use native.Mathlib.Omega.{arith}
 use mathlib.Core.List.{[], _∷_}
 use Rattle.buffer.specs.Field.{word}
 use Rattle.command.specs.Code.{mergeRecord}
-use Rattle.tape.proofs.Grown.{grown-one, grown-more}
+use Rattle.tape.proofs.Laid.{laid-one, laid-more}
 use Rattle.tape.proofs.writer.put_merge.Statement.{statement}
 use Rattle.tape.proofs.writer.put_merge.Tie as tie
 
@@ -26,9 +26,9 @@ returns c =
     let next = last .before .before .before .before in
     let first = next .before .before .before .before in
     let a = first .before .before .before .args in
-    let coded = grown-one (mergeRecord ∷ []) (omega arith) (first .put-byte .ensures) in
-    let received = grown-more (word (a .receiver .0)) coded (omega arith) (next .put-field .ensures) in
-    grown-more (word (a .giver .0)) received (omega arith) (last .put-field2 .ensures) .put
+    let coded = laid-one (mergeRecord ∷ []) (omega arith) (first .put-byte .ensures) in
+    let received = laid-more (word (a .receiver .0)) coded (omega arith) (next .put-field .ensures) in
+    laid-more (word (a .giver .0)) received (omega arith) (last .put-field2 .ensures) .put
 
 pub put-merge-spec : {M : Type 1} → statement M
 put-merge-spec =

@@ -4,7 +4,7 @@ use native.Mathlib.Omega.{arith}
 use mathlib.Core.List.{[], _∷_}
 use Rattle.buffer.specs.Field.{word}
 use Rattle.command.specs.Code.{startRecord}
-use Rattle.tape.proofs.Grown.{grown-one, grown-more}
+use Rattle.tape.proofs.Laid.{laid-one, laid-more}
 use Rattle.tape.proofs.writer.put_start.Statement.{statement}
 use Rattle.tape.proofs.writer.put_start.Tie as tie
 
@@ -21,8 +21,8 @@ returns : tie.Need-returns
 returns c =
     let last = c .before .before in
     let first = last .before .before .before .before in
-    let coded = grown-one (startRecord ∷ []) (omega arith) (first .put-byte .ensures) in
-    grown-more (word (first .before .before .before .args .settings .capacity)) coded (omega arith) (last .put-field .ensures) .put
+    let coded = laid-one (startRecord ∷ []) (omega arith) (first .put-byte .ensures) in
+    laid-more (word (first .before .before .before .args .settings .capacity)) coded (omega arith) (last .put-field .ensures) .put
 
 pub put-start-spec : {M : Type 1} → statement M
 put-start-spec = tie.close (tie.spec put-byte-requires put-field-requires same-length returns)

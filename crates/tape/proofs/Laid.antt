@@ -14,25 +14,25 @@ abbrev pub Put : List ℕ → ℕ → List ℕ → List ℕ → ℕ → Type 0
 Put s at new t end = (end ≡ at + length new) × (t ≡ withPart s at new)
 
 -- the same, where the piece had room there
-pub record Grown (s : List ℕ) (at : ℕ) (new t : List ℕ) (end : ℕ) : Type 0 where
+pub record Laid (s : List ℕ) (at : ℕ) (new t : List ℕ) (end : ℕ) : Type 0 where
   pub fits : at + length new ≤ length s
   pub kept : length t ≡ length s
   pub put : Put s at new t end
 
-pub grown-none : (s : List ℕ) (at : ℕ) → at ≤ length s → Grown s at [] s at
+pub laid-none : (s : List ℕ) (at : ℕ) → at ≤ length s → Laid s at [] s at
 unfolding withPart
-grown-none s at l =
+laid-none s at l =
     record { fits = omega arith; kept = refl; put = (sym (add-zero at), rw (add-zero at) (sym (take-append-drop at s))) }
 
-pub grown-one : {s t : List ℕ} {at end : ℕ} (new : List ℕ) → at + length new ≤ length s → Put s at new t end → Grown s at new t end
-grown-one {s} {t} {at} new l p = record { fits = l; kept = rw (p .1) (with-length s new at l); put = p }
+pub laid-one : {s t : List ℕ} {at end : ℕ} (new : List ℕ) → at + length new ≤ length s → Put s at new t end → Laid s at new t end
+laid-one {s} {t} {at} new l p = record { fits = l; kept = rw (p .1) (with-length s new at l); put = p }
 
-pub grown-more : {s new t t′ : List ℕ} {at to end : ℕ} (next : List ℕ) → Grown s at new t to → to + length next ≤ length s → Put t to next t′ end
-    → Grown s at (new ++ next) t′ end
-grown-more {s} {new} {t} {t′} {at} {to} next g l p =
+pub laid-more : {s new t t′ : List ℕ} {at to end : ℕ} (next : List ℕ) → Laid s at new t to → to + length next ≤ length s → Put t to next t′ end
+    → Laid s at (new ++ next) t′ end
+laid-more {s} {new} {t} {t′} {at} {to} next g l p =
     let there = g .put .0 in
     let long = length-append new next in
-    grown-one (new ++ next) (omega arith)
+    laid-one (new ++ next) (omega arith)
     (omega arith, p .1 ∙ ap (λ (u : List ℕ). withPart u to next) (g .put .1) ∙ with-next s new at (g .fits) to next (sym there))
 
 -- a 16-bit field is the part of its two bytes
