@@ -9,7 +9,7 @@ use borrow.Author.Tests.{lt-ltb, le-ltb}
 use Rattle.laws.proofs.Lists.{rest-all}
 use Rattle.command.specs.declared.Shape.{Shape}
 use Rattle.command.specs.declared.Operands.{Operands}
-use Rattle.command.specs.Code.{shapeOf, lengthOf, operandsOf}
+use Rattle.command.specs.Code.{shapeOf, operandsOf}
 use Rattle.tape.specs.declared.Record.{Record}
 use Rattle.tape.specs.declared.Record.the-variants.{Broken}
 use Rattle.tape.specs.Record.{recordLength, recordFrom, recordIn}
@@ -19,19 +19,16 @@ pub no-code : (t : List ℕ) → length t ≡ 0 → 0 ≡ getD t 0 0
 no-code [] h = refl
 no-code (x ∷ t) h = absurd (omega arith)
 
--- with the code at the front, its shape and its length in hand
-module _ (t : List ℕ) (code : ℕ) (e : code ≡ getD t 0 0) (shape : Shape) (widths : shape ≡ shapeOf code) (n : ℕ) (long : n ≡ lengthOf shape) where
-  pub length-found : n ≡ recordLength t
-  length-found = cc
-
+module _ (t : List ℕ) (n : ℕ) (long : n ≡ recordLength t) where
   pub record-short : length t < n → Broken ≡ recordIn t
   unfolding recordIn
-  record-short h = rw (lt-ltb (length t) (recordLength t) (omega (arith, length-found)))
+  record-short h = rw (lt-ltb (length t) (recordLength t) (omega arith))
 
-  pub record-found : n ≤ length t → (o : Operands) → o ≡ operandsOf shape t → (x : Record) → x ≡ recordFrom code o → x ≡ recordIn t
+  pub record-found : n ≤ length t → (code : ℕ) → code ≡ getD t 0 0 → (shape : Shape) → shape ≡ shapeOf code → (o : Operands) → o ≡ operandsOf shape t
+      → (x : Record) → x ≡ recordFrom code o → x ≡ recordIn t
   unfolding recordIn
-  record-found h o in-place x made =
-      rw (le-ltb (length t) (recordLength t) (omega (arith, length-found)))
+  record-found h code e shape widths o in-place x made =
+      rw (le-ltb (length t) (recordLength t) (omega arith))
       (let same : recordFrom code o ≡ recordFrom (getD t 0 0) (operandsOf (shapeOf (getD t 0 0)) t) = cc in made ∙ same)
 
 -- what the reader answers of a place: the record that stands there, the place past it, and both

@@ -74,23 +74,22 @@ fn front_code(t: &[u8]) -> usize
     wide(t[0])
 }
 
-// The record at the front of a tape, where it is there whole: the tape begins with the paper's bytes of it and goes on behind them.
-fn record_in(t: &[u8]) -> Record
-    ensures { λ r. ⌜ (r ≡ recordIn (now (t .entry))) × (recordRefusal r ≡ 0 → now (t .entry) ≡ recordBytes r ++ drop (recordLength (now (t .entry))) (now (t .entry))) ⌝ }
-{
-    let code = front_code(t);
-    let shape = widths_of(code);
-    if t.len() < length_of(shape) {
-        return Record::Broken;
-    }
-    record_from(code, operands_of(shape, t))
-}
-
 // How many bytes the record at the front of a tape takes.
 fn record_length(t: &[u8]) -> usize
     ensures { λ r. ⌜ r ≡ recordLength (now (t .entry)) ⌝ }
 {
     length_of(widths_of(front_code(t)))
+}
+
+// The record at the front of a tape, where it is there whole: the tape begins with the paper's bytes of it and goes on behind them.
+fn record_in(t: &[u8]) -> Record
+    ensures { λ r. ⌜ (r ≡ recordIn (now (t .entry))) × (recordRefusal r ≡ 0 → now (t .entry) ≡ recordBytes r ++ drop (recordLength (now (t .entry))) (now (t .entry))) ⌝ }
+{
+    if t.len() < record_length(t) {
+        return Record::Broken;
+    }
+    let code = front_code(t);
+    record_from(code, operands_of(widths_of(code), t))
 }
 
 // The record at a place.

@@ -1,7 +1,9 @@
 -- `tape::place::record_length` meets its contract.
 -- Assumes nothing.
+use mathlib.Core.Path.{_∙_, ap}
+use Prim.Native.Nat.{ℕ}
+use Rattle.command.specs.Code.{shapeOf, lengthOf}
 use Rattle.command.proofs.Shapes.{narrow-shape}
-use Rattle.tape.proofs.Places.{length-found}
 use Rattle.tape.proofs.place.record_length.Statement.{statement}
 use Rattle.tape.proofs.place.record_length.Tie as tie
 
@@ -16,8 +18,7 @@ length-of-requires c κs = rw (c .widths-of .ensures .0) (narrow-shape _)
 
 returns : tie.Need-returns
 returns c =
-    let read = c .before .before in
-    length-found (read .before .before .args .t .now) _ (read .front-code .ensures) _ (c .before .widths-of .ensures .0) _ (c .length-of .ensures)
+    c .length-of .ensures ∙ ap lengthOf (c .before .widths-of .ensures .0) ∙ ap (λ (k : ℕ). lengthOf (shapeOf k)) (c .before .before .front-code .ensures)
 
 pub record-length-spec : {M : Type 1} → statement M
 record-length-spec =
