@@ -1,6 +1,7 @@
 -- `resume::commons::build_console` meets its contract. The loop's invariant: the pairs of `c` with the consoles before `d` are written.
 -- Assumes nothing.
 use Prim.Native.Nat.{_-_}
+use mathlib.Core.Path.{_≡_, refl}
 use native.Mathlib.Omega.{arith}
 use Rattle.resume.proofs.TableSteps.{Paired, paired-none, paired-own, paired-more, paired-all}
 use Rattle.resume.proofs.commons.build_console.Statement.{statement}
@@ -13,7 +14,7 @@ abbrev μ-loop : tie.MeasureT-loop
 μ-loop rows header₀ c ok₀ k₀ end header ok k = end - k
 
 loop-holds : tie.Need-loop-holds Inv-loop μ-loop
-loop-holds c = paired-none _ _ _ (c .before .before .pre .1 .0)
+loop-holds c = (refl, paired-none _ _ _ (c .before .before .pre .1 .0))
 
 build-pair-requires : tie.Need-build-pair-requires Inv-loop μ-loop
 build-pair-requires c κs =
@@ -22,7 +23,7 @@ build-pair-requires c κs =
     let a = start .args in
     let own = start .pre .1 .1 .1 in
     let n = start .pre .1 .1 .0 in
-    let p = turn .loop .inv in
+    let p = turn .loop .inv .1 in
     let d = turn .loop .k in
     let x = paired-own p n (a .c .0) n in
     let y = paired-own p n d (omega arith) in
@@ -35,11 +36,14 @@ loop-again c =
     let first = second .before .before in
     let turn = first .before .before in
     let start = turn .before .before .before .before in
-    paired-more (turn .before .loop .inv) (start .pre .1 .1 .0) (turn .loop-test .taken) (first .common-in .ensures .0) (second .common-in2 .ensures .0)
-    (call .build-pair .ensures .0) (call .build-pair .ensures .1)
+    let inv = turn .before .loop .inv in (
+      inv .0,
+      paired-more (inv .1) (start .pre .1 .1 .0) (omega arith) (first .common-in .ensures .0) (second .common-in2 .ensures .0)
+          (call .build-pair .ensures .0) (call .build-pair .ensures .1),
+    )
 
 returns : tie.Need-returns Inv-loop μ-loop
-returns c = let turn = c .before in paired-all (turn .loop .inv) (turn .before .before .before .pre .1 .1 .0) (c .loop-test .left)
+returns c = let turn = c .before in paired-all (turn .loop .inv .1) (turn .before .before .before .pre .1 .1 .0) (omega arith)
 
 pub build-console-spec : {M : Type 1} → statement M
 build-console-spec =

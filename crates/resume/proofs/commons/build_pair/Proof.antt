@@ -9,7 +9,7 @@ use Rattle.resume.proofs.commons.build_pair.Tie as tie
 
 returns : tie.Need-returns
 returns c =
-    let written = c .before .before .before .before in
+    let written = c .before .before .before .before .before in
     let made = written .before .before in
     let a = made .before .before .before .args in
     (pair-answer (a .rows .now) (a .x .0) (a .y .0) (made .pair-field .ensures), written .put-common .ensures ∙ ap (putCommon (a .header .now) (a .c .0) (a .d .0)) (made .pair-field .ensures))

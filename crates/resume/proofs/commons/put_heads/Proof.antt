@@ -15,7 +15,7 @@ abbrev μ-loop : tie.MeasureT-loop
 μ-loop tape from heads header₀ at₀ j₀ header at j = heads - j
 
 loop-holds : tie.Need-loop-holds Inv-loop μ-loop
-loop-holds c = let p = c .before .before .pre in headed-none _ (p .1 .1 .0 .1) (p .1 .1 .1 .0) (p .1 .1 .1 .1)
+loop-holds c = let p = c .before .before .pre in headed-none (contentIn (c .before .before .args .tape .now)) (p .1 .1 .0 .1) (p .1 .1 .1 .0) (p .1 .1 .1 .1)
 
 read-head-requires : tie.Need-read-head-requires Inv-loop μ-loop
 read-head-requires c κs =
@@ -55,7 +55,7 @@ loop-again c =
     (rw (put .before .field-of .ensures) at (put .put-head .ensures)) (read .2)
 
 returns : tie.Need-returns Inv-loop μ-loop
-returns c = headed-all _ (c .before .loop .inv) (omega arith)
+returns c = headed-all (contentIn (c .before .before .before .before .args .tape .now)) (c .before .loop .inv) (omega arith)
 
 pub put-heads-spec : {M : Type 1} → statement M
 put-heads-spec =

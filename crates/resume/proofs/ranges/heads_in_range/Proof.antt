@@ -18,7 +18,7 @@ returns : tie.Need-returns Inv-loop μ-loop
 returns c = no-heads (contentIn (c .before .before .args .tape .now)) (omega arith)
 
 loop-holds : tie.Need-loop-holds Inv-loop μ-loop
-loop-holds c = followed-none _ (c .before .before .pre .1 .0)
+loop-holds c = followed-none (contentIn (c .before .before .args .tape .now)) (c .before .before .pre .1 .0)
 
 read-head-requires : tie.Need-read-head-requires Inv-loop μ-loop
 read-head-requires c κs =
@@ -36,7 +36,7 @@ loop-again c =
     (read .0) (read .1) (c .before .head-in-range .ensures) (read .2)
 
 returns-2 : tie.Need-returns-2 Inv-loop μ-loop
-returns-2 c = followed-all _ (c .before .loop .inv) (omega arith) (omega arith)
+returns-2 c = followed-all (contentIn (c .before .before .before .before .args .tape .now)) (c .before .loop .inv) (omega arith) (omega arith)
 
 pub heads-in-range-spec : {M : Type 1} → statement M
 heads-in-range-spec =

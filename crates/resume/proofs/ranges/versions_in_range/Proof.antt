@@ -16,7 +16,7 @@ abbrev μ-loop : tie.MeasureT-loop
 μ-loop tape versions k₀ at₀ ok₀ k at ok = versions - k
 
 loop-holds : tie.Need-loop-holds Inv-loop μ-loop
-loop-holds c = ranged-none _
+loop-holds c = ranged-none (contentIn (c .before .args .tape .now))
 
 read-version-requires : tie.Need-read-version-requires Inv-loop μ-loop
 read-version-requires c κs =
@@ -34,7 +34,7 @@ loop-again c =
     (c .node-in-range .ensures) (read .1)
 
 returns : tie.Need-returns Inv-loop μ-loop
-returns c = ranged-all _ (c .before .loop .inv) (omega arith)
+returns c = ranged-all (contentIn (c .before .before .before .args .tape .now)) (c .before .loop .inv) (omega arith)
 
 pub versions-in-range-spec : {M : Type 1} → statement M
 versions-in-range-spec =

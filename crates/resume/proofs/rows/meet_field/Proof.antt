@@ -3,6 +3,7 @@
 use Prim.Native.Nat.{ℕ}
 use mathlib.Core.Path.{refl, sym, ap, ap₂, _∙_}
 use mathlib.Core.List.{List}
+use denote.Ref.{now}
 use borrow.Author.Tests.{not-true, not-false}
 use Rattle.buffer.specs.Field.{same}
 use Rattle.buffer.specs.Row.{intersection}
@@ -21,7 +22,7 @@ returns c =
     let high = meet .before in
     let a = high .before .before .args in
     let none = not-true (found .is-intersection .result) (c .if1 .taken) in
-    let told = found .is-intersection .ensures ∙ ap₂ (λ (p q : List ℕ). same _ (intersection p q)) (mine .row-in2 .ensures .0) (given .row-in3 .ensures .0) in (
+    let told = found .is-intersection .ensures ∙ ap₂ (λ (p q : List ℕ). same (now (meet .row-in .result)) (intersection p q)) (mine .row-in2 .ensures .0) (given .row-in3 .ensures .0) in (
       ap (λ b. fieldWhen b (high .common-below .result .0)) (sym none)
           ∙ field-told (a .rows .now) (a .u .0) (a .v .0) refl refl (high .common-below .ensures .0) (meet .row-in .ensures .0) told,
       omega arith,
@@ -37,7 +38,7 @@ returns-2 c =
     let high = meet .before in
     let a = high .before .before .args in
     let some = not-false (found .is-intersection .result) (branch .if1 .left) in
-    let told = found .is-intersection .ensures ∙ ap₂ (λ (p q : List ℕ). same _ (intersection p q)) (mine .row-in2 .ensures .0) (given .row-in3 .ensures .0) in (
+    let told = found .is-intersection .ensures ∙ ap₂ (λ (p q : List ℕ). same (now (meet .row-in .result)) (intersection p q)) (mine .row-in2 .ensures .0) (given .row-in3 .ensures .0) in (
       c .field-of .ensures ∙ ap (λ b. fieldWhen b (high .common-below .result .0)) (sym some)
           ∙ field-told (a .rows .now) (a .u .0) (a .v .0) refl refl (high .common-below .ensures .0) (meet .row-in .ensures .0) told,
       omega arith,

@@ -19,7 +19,7 @@ loop-holds : tie.Need-loop-holds Inv-loop μ-loop
 loop-holds c =
     let root = c .before .before in
     let start = c .before .before .before .before .before .before in
-    rowed-none _ (rw (root .put-root .ensures) (rows-root _ (start .pre .1 .1 .1)))
+    rowed-none (contentIn (start .args .tape .now)) (rw (root .put-root .ensures) (rows-root _ (start .pre .1 .1 .1)))
 
 read-version-requires : tie.Need-read-version-requires Inv-loop μ-loop
 read-version-requires c κs =
@@ -50,7 +50,7 @@ loop-again c =
     (read .0) (made .0) (made .1) (read .1)
 
 returns : tie.Need-returns Inv-loop μ-loop
-returns c = rowed-all _ (c .before .loop .inv) (omega arith)
+returns c = rowed-all (contentIn (c .before .before .before .before .before .before .before .before .args .tape .now)) (c .before .loop .inv) (omega arith)
 
 pub build-rows-spec : {M : Type 1} → statement M
 build-rows-spec =
