@@ -1,5 +1,3 @@
 pub mod Run
 pub mod Starred
-pub mod Commands
-pub mod Tapes
-pub mod Calls
+pub mod Called

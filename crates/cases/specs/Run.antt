@@ -4,17 +4,13 @@ use mathlib.Core.Bool.{cond}
 use mathlib.Core.List.{List, [], _∷_}
 use mathlib.Core.Option.{Option, none, some}
 use lib.Dec.{eqb}
-use lib.ListN.{getD, replicate}
-use Rattle.buffer.specs.Field.{wordAt}
-use Rattle.board.specs.Board.{levelAt, headingAt, marksAt, callsAt, alertsAt, flagAt}
+use lib.ListN.{getD}
 use Rattle.command.specs.declared.Decoded.{Decoded}
 use Rattle.command.specs.declared.Decoded.the-variants.{Whole, Refused}
-use Rattle.command.specs.Decode.{decode, refusalOf, commandBytes}
+use Rattle.command.specs.Decode.{decode}
 use Rattle.graph.specs.Graph.{versionCount}
-use Rattle.room.specs.Room.{Room, headOf, head}
-use Rattle.room.specs.Boards.{boardOf}
+use Rattle.room.specs.Room.{Room, headOf}
 use Rattle.room.specs.Step.{stepRefusal, step}
-use Rattle.unit.specs.declared.Reply.{Reply}
 
 -- A row: what the definitions give, and what the paper says.
 pub record Case : Type 0 where
@@ -25,41 +21,21 @@ infix 60 _gives_
 abbrev pub _gives_ : List ℕ → List ℕ → Case
 shown gives told = record { got = shown; due = told }
 
--- The commands of the paper's table.
+-- The commands that the rows name.
 abbrev pub fork : ℕ → ℕ → List ℕ
 fork new old = 0x01 ∷ new ∷ old ∷ []
 
 abbrev pub level : ℕ → ℕ → ℕ → List ℕ
 level c k x = 0x02 ∷ c ∷ k ∷ x / 256 ∷ x % 256 ∷ []
 
-abbrev pub heading : ℕ → ℕ → ℕ → List ℕ
-heading c k x = 0x03 ∷ c ∷ k ∷ x / 256 ∷ x % 256 ∷ []
-
-abbrev pub put : ℕ → ℕ → ℕ → List ℕ
-put c k m = 0x04 ∷ c ∷ k ∷ m ∷ []
-
-abbrev pub taken : ℕ → ℕ → ℕ → List ℕ
-taken c k m = 0x05 ∷ c ∷ k ∷ m ∷ []
-
 abbrev pub call : ℕ → ℕ → List ℕ
 call c k = 0x06 ∷ c ∷ k ∷ []
-
-abbrev pub alert : ℕ → ℕ → List ℕ
-alert c k = 0x07 ∷ c ∷ k ∷ []
-
-abbrev pub quiet : ℕ → ℕ → List ℕ
-quiet c k = 0x08 ∷ c ∷ k ∷ []
 
 abbrev pub merge : ℕ → ℕ → List ℕ
 merge receiver giver = 0x09 ∷ receiver ∷ giver ∷ []
 
 abbrev pub forward : ℕ → ℕ → List ℕ
 forward receiver giver = 0x0A ∷ receiver ∷ giver ∷ []
-
--- what a command was decoded to, as the paper's bytes, or the number of its refusal
-unfoldable pub saidBack : Decoded → List ℕ
-saidBack (Refused n) = refusalOf (Refused n) ∷ []
-saidBack (Whole c) = commandBytes c
 
 -- the answer to a command in a room
 unfoldable pub answerIn : Room → Decoded → ℕ
@@ -99,17 +75,3 @@ session r [] = versionCount (r .versions) ∷ []
 session r (c ∷ cs) =
     let next : Room = roomAfter r (decode c) in
     answerIn r (decode c) ∷ slot (headOf next (getD c 1 0)) ∷ session next cs
-
--- the cells of strip k of a console's board: level, heading, marks, calls, alert count, alert flag
-abbrev pub cells : Room → ℕ → ℕ → List ℕ
-cells r c k =
-    let b : List ℕ = boardOf (r .versions) (head r c) in
-    wordAt b (levelAt k) ∷ wordAt b (headingAt k) ∷ wordAt b (marksAt k)
-    ∷ wordAt b (callsAt k) ∷ wordAt b (alertsAt k) ∷ getD b (flagAt k) 0 ∷ []
-
--- The same on bytes. A buffer of so many bytes, none of them zero.
-abbrev pub dirty : ℕ → List ℕ
-dirty n = replicate n 0xEE
-
-abbrev pub replyList : Reply → List ℕ
-replyList r = r .answer ∷ r .count ∷ []

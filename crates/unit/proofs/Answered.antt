@@ -1,79 +1,96 @@
--- What the calls answer, test by test: which refusal is given where a test is the first to apply, what holds where none is given, and the
--- reply and the lent bytes in either case.
+-- What the calls answer: the reply and the lent bytes where the code found this refusal or none, and what holds where none is given.
 -- Assumes nothing.
 use mathlib.Core.Path.{_≡_, refl, sym, _∙_}
-use mathlib.Core.Bool.{Bool, true, false, cond, not, _||_}
-use mathlib.Core.List.{List, [], _∷_, _++_}
-use Prim.Native.Nat.{ℕ, _≤_, _<_}
+use mathlib.Core.Bool.{Bool, true, false, cond, not, _&&_, _||_}
+use mathlib.Core.List.{List, [], _∷_}
+use Prim.Native.Nat.{ℕ, zero, suc, _≤_, _<_}
 use native.Mathlib.Omega.{arith}
-use lib.ListN.{length, drop}
+use lib.Dec.{eqb}
+use lib.ListN.{length}
 use borrow.Author.Tests.{ltb-true, ltb-false, lt-ltb, le-ltb, ne-eqb, not-false}
-use Rattle.laws.proofs.Logic.{or-l, or-r, or-none, or-none-l, or-none-r, not-i}
+use Rattle.laws.proofs.Logic.{or-none-l, or-none-r}
 use Rattle.buffer.specs.Field.{overwrite}
 use Rattle.board.specs.Board.{boardSize}
 use Rattle.refusal.specs.Refusal.{_when_, firstRefusal}
 use Rattle.command.specs.Code.{consoleCount, isConsole}
 use Rattle.refusal.proofs.Refusals.{none-applies}
 use Rattle.command.proofs.Limits.{within-true}
-use Rattle.room.specs.Room.{present, head, common, heardCount, fresh}
-use Rattle.room.specs.Sound.{maxCapacity, isCapacity}
-use Rattle.room.specs.Boards.{boardOf}
+use Rattle.room.specs.Room.{present, openSettings}
+use Rattle.room.specs.Sound.{settingsInRange}
 use Rattle.room.specs.Step.{absent}
-use Rattle.room.proofs.Lengths.{boardOf-length}
-use Rattle.store.specs.Layout.{storeSize, encode, roomIn, holdsStore}
-use Rattle.unit.specs.Calls.{replied, written, tooShort, holdsNoStore, openOutcome, boardOutcome, heardReply, commonReply}
+use Rattle.store.specs.Layout.{storeSize, roomIn, holdsStore}
+use Rattle.unit.specs.declared.Reply.{Reply}
+use Rattle.unit.specs.Calls.{Outcome, replied, written, bufferTests, openTests, consoleTests, pairTests}
+use Rattle.refusal.specs.Refusal.{firstOf}
+use Rattle.refusal.proofs.Refusals.{numbered, first-append}
 
--- replies
-replied-refused : (n count : ℕ) → 0 < n → replied n 0 ≡ replied n count
-replied-refused n count p = rw (ne-eqb n 0 (omega arith))
+-- a call with this reply, which left this in the lent buffer, went as it should
+abbrev pub Went : Reply → List ℕ → Outcome → Type 0
+Went reply buffer o = (reply ≡ o .reply) × (buffer ≡ o .buffer)
 
-pub written-refused : (n count : ℕ) (new old : List ℕ) → 0 < n
-    → (replied n 0 ≡ written n count new old .reply) × (old ≡ written n count new old .buffer)
-written-refused n count new old p = rw (ne-eqb n 0 (omega arith)) (refl, refl)
+-- a call that counts nothing, refused or not
+pub replied-none : (n : ℕ) → record { answer = n; count = 0 } ≡ replied n 0
+replied-none n = λ i. record { answer = n; count = go (eqb n 0) i }
+  where
+    go : (b : Bool) → _≡_ {A = ℕ} 0 (cond b 0 0)
+    go true = refl
+    go false = refl
 
-written-done : (n count : ℕ) (new old t : List ℕ) → n ≡ 0 → t ≡ overwrite new old
-    → (replied 0 count ≡ written n count new old .reply) × (t ≡ written n count new old .buffer)
-written-done n count new old t e w = rw e (refl, w)
+-- refused by n, or accepted where n is 0, with this number or these bytes
+pub replied-refused : {n m : ℕ} (count : ℕ) → n ≡ m → 0 < n → replied n 0 ≡ replied m count
+replied-refused {n} count e p = rw (← e, ne-eqb n 0 (omega arith))
+
+pub replied-done : {n m v count : ℕ} → n ≡ m → n ≡ 0 → v ≡ count → replied 0 v ≡ replied m count
+replied-done e z w = rw (sym e ∙ z, w)
+
+module _ {n m : ℕ} (count : ℕ) (new old : List ℕ) (e : n ≡ m) where
+  pub written-refused : 0 < n → Went (replied n 0) old (written m count new old)
+  written-refused p = rw (← e, ne-eqb n 0 (omega arith)) (refl, refl)
+
+  pub written-done : n ≡ 0 → {v : ℕ} {t : List ℕ} → v ≡ count → t ≡ overwrite new old → Went (replied 0 v) t (written m count new old)
+  written-done z w u = rw (sym e ∙ z, w) (refl, u)
+
+-- 19 behind other tests
+module _ (tests : List (ℕ × Bool)) (buffer : List ℕ) (size : ℕ) (k : numbered tests ≡ true) {n : ℕ} (e : n ≡ firstRefusal tests) where
+  pub buffer-early : 0 < n → n ≡ firstRefusal (bufferTests tests buffer size)
+  buffer-early p = rw (first-append tests _ k, ← e, ne-eqb n 0 (omega arith))
+
+  pub buffer-short : n ≡ 0 → length buffer < size → 19 ≡ firstRefusal (bufferTests tests buffer size)
+  unfolding firstRefusal
+  buffer-short z l = rw (first-append tests _ k, sym e ∙ z, lt-ltb (length buffer) size l)
+
+  pub buffer-fits : n ≡ 0 → size ≤ length buffer → 0 ≡ firstRefusal (bufferTests tests buffer size)
+  unfolding firstRefusal
+  buffer-fits z l = rw (first-append tests _ k, sym e ∙ z, le-ltb (length buffer) size l)
+
+first-none : (a b : ℕ) → firstOf a b ≡ 0 → (a ≡ 0) × (b ≡ 0)
+first-none zero b h = (refl, h)
+first-none (suc a) b h = absurd (omega (arith, rw (ne-eqb (suc a) 0 (omega arith)) at h))
+
+pub buffer-allowed : (tests : List (ℕ × Bool)) (buffer : List ℕ) (size : ℕ) → numbered tests ≡ true
+    → firstRefusal (bufferTests tests buffer size) ≡ 0 → (firstRefusal tests ≡ 0) × (size ≤ length buffer)
+buffer-allowed tests buffer size k h =
+    let n = first-none (firstRefusal tests) _ (sym (first-append tests _ k) ∙ h) in
+    (n .0, ltb-false (length buffer) size (none-applies _ (n .1) .0 (omega arith)))
 
 -- opening
-abbrev openingTests : ℕ → List ℕ → List (ℕ × Bool)
-openingTests capacity s = 8 when not (isCapacity capacity) ∷ 19 when tooShort s (storeSize capacity) ∷ []
+pub opening-allowed : (capacity : ℕ) (s : List ℕ) {n : ℕ} → n ≡ firstRefusal (openTests capacity s) → n ≡ 0
+    → (settingsInRange (openSettings capacity) ≡ true) × (storeSize capacity ≤ length s)
+opening-allowed capacity s e z =
+    let n = buffer-allowed (8 when not (settingsInRange (openSettings capacity)) ∷ []) s (storeSize capacity) refl (sym e ∙ z) in
+    (not-false (settingsInRange (openSettings capacity)) (none-applies _ (n .0) .0 (omega arith)), n .1)
 
-module _ (capacity : ℕ) (s : List ℕ) where
-  pub opening-eight : isCapacity capacity ≡ false → 8 ≡ firstRefusal (openingTests capacity s)
-  unfolding firstRefusal
-  opening-eight e = rw e
+-- two consoles: the tests as the code makes them
+not-both : (a b : Bool) → not a || not b ≡ not (a && b)
+not-both true b = refl
+not-both false b = refl
 
-  pub opening-nineteen : isCapacity capacity ≡ true → length s < storeSize capacity → 19 ≡ firstRefusal (openingTests capacity s)
-  unfolding firstRefusal
-  opening-nineteen e l = rw (e, lt-ltb (length s) (storeSize capacity) l)
+pub pair-tested : (s : List ℕ) (c d : ℕ) → firstRefusal (pairTests s c d)
+    ≡ cond (not (isConsole c && isConsole d)) 3 (cond (not (holdsStore s)) 11 (cond (not (present (roomIn s) c && present (roomIn s) d)) 12 0))
+unfolding firstRefusal
+pair-tested s c d = rw (not-both (isConsole c) (isConsole d), not-both (present (roomIn s) c) (present (roomIn s) d))
 
-  pub opening-none : isCapacity capacity ≡ true → storeSize capacity ≤ length s → 0 ≡ firstRefusal (openingTests capacity s)
-  unfolding firstRefusal
-  opening-none e l = rw (e, le-ltb (length s) (storeSize capacity) l)
-
-  pub opening-allowed : firstRefusal (openingTests capacity s) ≡ 0 → ((1 ≤ capacity) × (capacity ≤ 1024)) × (storeSize capacity ≤ length s)
-  opening-allowed e =
-      let n = none-applies (openingTests capacity s) e in (
-        within-true 1 maxCapacity capacity (not-false (isCapacity capacity) (n .0 (omega arith))),
-        ltb-false (length s) (storeSize capacity) (n .1 (omega arith) .0 (omega arith)),
-      )
-
-  pub opening-refused : {n : ℕ} → n ≡ firstRefusal (openingTests capacity s) → 0 < n
-      → (replied n 0 ≡ openOutcome capacity s .reply) × (s ≡ openOutcome capacity s .buffer)
-  unfolding openOutcome
-  opening-refused {n} e p = rw e (written-refused _ 0 (encode (fresh capacity)) s (rw e at p))
-
-  pub opening-done : {n : ℕ} {t : List ℕ} → n ≡ firstRefusal (openingTests capacity s) → n ≡ 0 → t ≡ overwrite (encode (fresh capacity)) s
-      → (replied 0 0 ≡ openOutcome capacity s .reply) × (t ≡ openOutcome capacity s .buffer)
-  unfolding openOutcome
-  opening-done {n} {t} e z w = written-done _ 0 (encode (fresh capacity)) s t (sym e ∙ z) w
-
--- two consoles of a store
-abbrev pairTests : List ℕ → ℕ → ℕ → List (ℕ × Bool)
-pairTests s c d =
-    3 when (not (isConsole c) || not (isConsole d)) ∷ 11 when holdsNoStore s ∷ 12 when (absent (roomIn s) c || absent (roomIn s) d) ∷ []
-
+-- and what holds of them where none applies
 pub record Allowed (s : List ℕ) (c d : ℕ) : Type 0 where
   pub first : c < consoleCount
   pub second : d < consoleCount
@@ -81,137 +98,30 @@ pub record Allowed (s : List ℕ) (c d : ℕ) : Type 0 where
   pub here : present (roomIn s) c ≡ true
   pub there : present (roomIn s) d ≡ true
 
-module _ (s : List ℕ) (c d : ℕ) where
-  pub pair-three-first : consoleCount ≤ c → 3 ≡ firstRefusal (pairTests s c d)
-  unfolding firstRefusal
-  pair-three-first l = rw (le-ltb c consoleCount l)
+pub pair-allowed : (s : List ℕ) (c d : ℕ) {n : ℕ} → n ≡ firstRefusal (pairTests s c d) → n ≡ 0 → Allowed s c d
+pair-allowed s c d e z =
+    let n = none-applies (pairTests s c d) (sym e ∙ z) in
+    let three = n .0 (omega arith) in
+    let eleven = n .1 (omega arith) .0 (omega arith) in
+    let twelve = n .1 (omega arith) .1 (omega arith) .0 (omega arith) in
+    record {
+      first = ltb-true c consoleCount (not-false (isConsole c) (or-none-l _ _ three));
+      second = ltb-true d consoleCount (not-false (isConsole d) (or-none-r (not (isConsole c)) _ three));
+      held = not-false (holdsStore s) eleven;
+      here = not-false (present (roomIn s) c) (or-none-l _ _ twelve);
+      there = not-false (present (roomIn s) d) (or-none-r (absent (roomIn s) c) _ twelve);
+    }
 
-  pub pair-three-second : consoleCount ≤ d → 3 ≡ firstRefusal (pairTests s c d)
-  unfolding firstRefusal
-  pair-three-second l = rw (or-r (not (isConsole c)) (not (isConsole d)) (not-i (isConsole d) (le-ltb d consoleCount l)))
-
-  pub pair-eleven : c < consoleCount → d < consoleCount → holdsStore s ≡ false → 11 ≡ firstRefusal (pairTests s c d)
-  unfolding firstRefusal
-  pair-eleven i j h = rw (lt-ltb c consoleCount i, lt-ltb d consoleCount j, h)
-
-  module _ (i : c < consoleCount) (j : d < consoleCount) (h : holdsStore s ≡ true) where
-    pub pair-twelve-first : present (roomIn s) c ≡ false → 12 ≡ firstRefusal (pairTests s c d)
-    unfolding firstRefusal
-    pair-twelve-first p =
-        rw (lt-ltb c consoleCount i, lt-ltb d consoleCount j, h, or-l (absent (roomIn s) c) (absent (roomIn s) d) (not-i (present (roomIn s) c) p))
-
-    pub pair-twelve-second : present (roomIn s) d ≡ false → 12 ≡ firstRefusal (pairTests s c d)
-    unfolding firstRefusal
-    pair-twelve-second p =
-        rw (lt-ltb c consoleCount i, lt-ltb d consoleCount j, h, or-r (absent (roomIn s) c) (absent (roomIn s) d) (not-i (present (roomIn s) d) p))
-
-    pub pair-none : present (roomIn s) c ≡ true → present (roomIn s) d ≡ true → 0 ≡ firstRefusal (pairTests s c d)
-    unfolding firstRefusal
-    pair-none p q =
-        rw (lt-ltb c consoleCount i, lt-ltb d consoleCount j, h, or-none (absent (roomIn s) c) (absent (roomIn s) d) (rw p) (rw q))
-
-  pub pair-allowed : firstRefusal (pairTests s c d) ≡ 0 → Allowed s c d
-  pair-allowed e =
-      let n = none-applies (pairTests s c d) e in
-      let three = n .0 (omega arith) in
-      let eleven = n .1 (omega arith) .0 (omega arith) in
-      let twelve = n .1 (omega arith) .1 (omega arith) .0 (omega arith) in
-      record {
-        first = ltb-true c consoleCount (not-false (isConsole c) (or-none-l _ _ three));
-        second = ltb-true d consoleCount (not-false (isConsole d) (or-none-r (not (isConsole c)) _ three));
-        held = not-false (holdsStore s) eleven;
-        here = not-false (present (roomIn s) c) (or-none-l _ _ twelve);
-        there = not-false (present (roomIn s) d) (or-none-r (absent (roomIn s) c) _ twelve);
-      }
-
-  pub common-refused : {n : ℕ} → n ≡ firstRefusal (pairTests s c d) → 0 < n → replied n 0 ≡ commonReply s c d
-  unfolding commonReply
-  common-refused {n} e p = rw e (replied-refused _ (common (roomIn s) c d) (rw e at p))
-
-  pub common-done : {n v : ℕ} → n ≡ firstRefusal (pairTests s c d) → n ≡ 0 → v ≡ common (roomIn s) c d → replied 0 v ≡ commonReply s c d
-  unfolding commonReply
-  common-done {n} {v} e z w = rw (sym e ∙ z, w)
-
--- one console
+-- a console is asked after as two that are the same
 or-same : (b : Bool) → b || b ≡ b
 or-same true = refl
 or-same false = refl
 
-abbrev soleTests : List ℕ → ℕ → List (ℕ × Bool)
-soleTests s c = 3 when not (isConsole c) ∷ 11 when holdsNoStore s ∷ 12 when absent (roomIn s) c ∷ []
+pub pair-sole : (s : List ℕ) (c : ℕ) → firstRefusal (pairTests s c c) ≡ firstRefusal (consoleTests s c)
+pair-sole s c = rw (or-same (not (isConsole c)), or-same (absent (roomIn s) c))
 
-abbrev boardTests : List ℕ → ℕ → List ℕ → List (ℕ × Bool)
-boardTests s c output =
-    3 when not (isConsole c) ∷ 11 when holdsNoStore s ∷ 12 when absent (roomIn s) c ∷ 19 when tooShort output boardSize ∷ []
-
--- a fourth test behind three
-four-early : (a b c d : Bool) → 0 < firstRefusal (3 when a ∷ 11 when b ∷ 12 when c ∷ [])
-    → firstRefusal (3 when a ∷ 11 when b ∷ 12 when c ∷ []) ≡ firstRefusal (3 when a ∷ 11 when b ∷ 12 when c ∷ 19 when d ∷ [])
-unfolding firstRefusal
-four-early true b c d p = refl
-four-early false true c d p = refl
-four-early false false true d p = refl
-four-early false false false d p = absurd (omega arith)
-
-four-late : (a b c d : Bool) → firstRefusal (3 when a ∷ 11 when b ∷ 12 when c ∷ []) ≡ 0
-    → firstRefusal (3 when a ∷ 11 when b ∷ 12 when c ∷ 19 when d ∷ []) ≡ cond d 19 0
-unfolding firstRefusal
-four-late true b c d e = absurd (omega arith)
-four-late false true c d e = absurd (omega arith)
-four-late false false true d e = absurd (omega arith)
-four-late false false false d e = refl
-
-module _ (s : List ℕ) (c : ℕ) where
-  pair-sole : firstRefusal (pairTests s c c) ≡ firstRefusal (soleTests s c)
-  pair-sole = rw (or-same (not (isConsole c)), or-same (absent (roomIn s) c))
-
-  pub heard-refused : {n : ℕ} → n ≡ firstRefusal (pairTests s c c) → 0 < n → replied n 0 ≡ heardReply s c
-  unfolding heardReply
-  heard-refused {n} e p = rw (e ∙ pair-sole) (replied-refused _ (heardCount (roomIn s) c) (rw (e ∙ pair-sole) at p))
-
-  pub heard-done : {n v : ℕ} → n ≡ firstRefusal (pairTests s c c) → n ≡ 0 → v ≡ heardCount (roomIn s) c → replied 0 v ≡ heardReply s c
-  unfolding heardReply
-  heard-done {n} {v} e z w = rw (sym pair-sole ∙ sym e ∙ z, w)
-
-  module _ (output : List ℕ) where
-    pub board-early : {n : ℕ} → n ≡ firstRefusal (pairTests s c c) → 0 < n → n ≡ firstRefusal (boardTests s c output)
-    board-early {n} e p =
-        e ∙ pair-sole ∙ four-early (not (isConsole c)) (holdsNoStore s) (absent (roomIn s) c) (tooShort output boardSize) (rw (e ∙ pair-sole) at p)
-
-    abbrev lateTest : ℕ
-    lateTest = cond (tooShort output boardSize) 19 0
-
-    board-late : {n : ℕ} → n ≡ firstRefusal (pairTests s c c) → n ≡ 0 → firstRefusal (boardTests s c output) ≡ lateTest
-    board-late {n} e z =
-        four-late (not (isConsole c)) (holdsNoStore s) (absent (roomIn s) c) (tooShort output boardSize) (sym pair-sole ∙ sym e ∙ z)
-
-    pub board-nineteen : {n : ℕ} → n ≡ firstRefusal (pairTests s c c) → n ≡ 0 → length output < boardSize → 19 ≡ firstRefusal (boardTests s c output)
-    board-nineteen {n} e z l = rw (board-late e z, lt-ltb (length output) boardSize l)
-
-    pub board-none : {n : ℕ} → n ≡ firstRefusal (pairTests s c c) → n ≡ 0 → boardSize ≤ length output → 0 ≡ firstRefusal (boardTests s c output)
-    board-none {n} e z l = rw (board-late e z, le-ltb (length output) boardSize l)
-
-    pub board-allowed : firstRefusal (boardTests s c output) ≡ 0 → Allowed s c c × (boardSize ≤ length output)
-    board-allowed e =
-        let n = none-applies (boardTests s c output) e in
-        let later = n .1 (omega arith) in
-        let last = later .1 (omega arith) in
-        let i = ltb-true c consoleCount (not-false (isConsole c) (n .0 (omega arith))) in
-        let p = not-false (present (roomIn s) c) (last .0 (omega arith)) in (
-          record { first = i; second = i; held = not-false (holdsStore s) (later .0 (omega arith)); here = p; there = p },
-          ltb-false (length output) boardSize (last .1 (omega arith) .0 (omega arith)),
-        )
-
-    pub board-refused : {n : ℕ} → n ≡ firstRefusal (boardTests s c output) → 0 < n
-        → (replied n 0 ≡ boardOutcome s c output .reply) × (output ≡ boardOutcome s c output .buffer)
-    unfolding boardOutcome
-    board-refused {n} e p = rw e (written-refused _ boardSize (boardOf (roomIn s .versions) (head (roomIn s) c)) output (rw e at p))
-
-    pub board-done : {n v : ℕ} {b : List ℕ} → n ≡ firstRefusal (boardTests s c output) → n ≡ 0 → v ≡ head (roomIn s) c
-        → b ≡ boardOf (roomIn s .versions) v
-        → (replied 0 boardSize ≡ boardOutcome s c output .reply) × (b ++ drop boardSize output ≡ boardOutcome s c output .buffer)
-    unfolding boardOutcome
-    board-done {n} {v} {b} e z h w =
-        let new = boardOf (roomIn s .versions) (head (roomIn s) c) in
-        written-done _ boardSize new output (b ++ drop boardSize output) (sym e ∙ z)
-        (rw (w, h, boardOf-length (roomIn s .versions) (head (roomIn s) c)))
+pub board-allowed : (s : List ℕ) (c : ℕ) (output : List ℕ) {n : ℕ} → n ≡ firstRefusal (bufferTests (consoleTests s c) output boardSize) → n ≡ 0
+    → Allowed s c c × (boardSize ≤ length output)
+board-allowed s c output e z =
+    let n = buffer-allowed (consoleTests s c) output boardSize refl (sym e ∙ z) in
+    (pair-allowed s c c refl (pair-sole s c ∙ n .0), n .1)

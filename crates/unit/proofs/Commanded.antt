@@ -13,11 +13,11 @@ use Rattle.room.specs.Step.{stepRefusal}
 use Rattle.store.specs.Layout.{roomIn, holdsStore}
 use Rattle.step.specs.Outcome.{afterStep}
 use Rattle.unit.specs.Calls.{replied, stepOutcome, commandOutcome}
-use Rattle.unit.proofs.Answered.{written-refused}
+use Rattle.unit.proofs.Answered.{Went, written-refused}
 
 -- the reply and the store's bytes are those of the call
 abbrev pub Answers : List ℕ → List ℕ → ℕ → List ℕ → Type 0
-Answers store command n t = (replied n 0 ≡ commandOutcome store command .reply) × (t ≡ commandOutcome store command .buffer)
+Answers store command n t = Went (replied n 0) t (commandOutcome store command)
 
 -- the number of what was decoded, where that is a refusal
 pub refused-as : (s : List ℕ) (d : Decoded) (m n : ℕ) → d ≡ decode s → d ≡ Refused m → n ≡ refusalOf d → Refused n ≡ decode s
@@ -26,7 +26,7 @@ refused-as s d m n found told number = ap Refused (number ∙ ap refusalOf told)
 module _ (store command : List ℕ) where
   pub undecoded : (n : ℕ) → Refused n ≡ decode command → Answers store command n store
   unfolding commandOutcome stepOutcome
-  undecoded n h = rw (← h) (written-refused n 0 [] store (refused-told command n h))
+  undecoded n h = rw (← h) (written-refused 0 [] store refl (refused-told command n h))
 
   module _ (c : Command) (e : Whole c ≡ decode command) where
     pub nothing-held : holdsStore store ≡ false → Answers store command 11 store

@@ -1,8 +1,7 @@
+pub mod Answered
+pub mod Commanded
+pub mod Taken
 pub mod Reading
 pub mod Matched
 pub mod Convergence
-pub mod Answered
-pub mod Paused
-pub mod Commanded
-pub mod Taken
 pub mod RoundTrip

@@ -16,17 +16,18 @@ use Rattle.command.specs.declared.Command.{Command}
 use Rattle.command.specs.declared.Command.the-variants.{Fork, Entry, Merge, FastForward}
 use Rattle.command.specs.declared.Decoded.{Decoded}
 use Rattle.command.specs.declared.Decoded.the-variants.{Whole, Refused}
+use Rattle.refusal.specs.Refusal.{firstRefusal}
 use Rattle.command.specs.Decode.{decode}
 use Rattle.refusal.proofs.Refusals.{none-applies}
 use Rattle.command.proofs.Ranges.{decode-range}
-use Rattle.room.specs.Room.{Room, fresh}
+use Rattle.room.specs.Room.{Room, openSettings, fresh}
 use Rattle.room.specs.Sound.{soundRoom}
 use Rattle.room.specs.Step.{stepRefusal, step}
 use Rattle.room.proofs.Steps.{step-sound, fresh-sound}
 use Rattle.store.specs.Layout.{encode, roomIn, holdsStore}
 use Rattle.store.proofs.RoundTrip.{room-encode, holds-encode, holds-sound}
 use Rattle.tape.specs.Tape.{Content, contentOf, roomOf}
-use Rattle.unit.specs.Calls.{openOutcome, stepOutcome, commandOutcome, resumed, resumeOutcome, Call, opening, command, pause, resume, board, heard, commonVersion, replyTo, storeAfter}
+use Rattle.unit.specs.Calls.{openOutcome, stepOutcome, commandOutcome, resumeTests, resumed, resumeOutcome, Call, opening, command, resume, question, answerTo, replyTo, storeAfter}
 use Rattle.unit.specs.Journal.{Journal, madeBy, opened, afterCommand, afterTape, afterAccepted, feed}
 use Rattle.unit.specs.Convergence.{begins, afterCalls}
 
@@ -48,7 +49,7 @@ opening-matched : (capacity : ℕ) (buffer : List ℕ) → openOutcome capacity 
     → Matched (overwrite (encode (fresh capacity)) buffer) opened
 unfolding openOutcome
 opening-matched capacity buffer h =
-    written-matched (fresh capacity) buffer (fresh-sound capacity (not-false _ (none-applies _ h .0 (lit< tt)))) refl
+    written-matched (fresh capacity) buffer (fresh-sound (openSettings capacity) (not-false _ (none-applies _ h .0 (lit< tt)))) refl
 
 resume-matched : (t : Content) (j : Journal) (buffer : List ℕ) → resumed (some t) buffer .reply .answer ≡ 0
     → Matched (overwrite (encode (roomOf t)) buffer) (afterTape j (some t))
@@ -74,20 +75,16 @@ either {store} {store′} {j} {j′} refusal m f = go (eqb refusal 0) (λ t. f (
     go false f = m
 
 module _ (store : List ℕ) (j : Journal) (m : Matched store j) where
-  -- a call that changes neither
-  unchanged : (c : Call) → afterAccepted j c ≡ j → Matched store (feed j c (replyTo store c .answer))
-  unfolding feed
-  unchanged c e = rw e (go (eqb (replyTo store c .answer) 0))
-    where
-      go : (b : Bool) → Matched store (cond b j j)
-      go true = m
-      go false = m
+  -- a question changes neither
+  asked : (b : Bool) → Matched store (cond b j j)
+  asked true = m
+  asked false = m
 
   resume-kept : (o : Option Content)
       → Matched (resumed o store .buffer) (cond (eqb (resumed o store .reply .answer) 0) (afterTape j o) j)
-  unfolding resumed afterTape
+  unfolding resumed afterTape firstRefusal
   resume-kept none = m
-  resume-kept (some t) = either _ m (resume-matched t j store)
+  resume-kept (some t) = either (firstRefusal (resumeTests (some t) store)) m (resume-matched t j store)
 
   command-matched : (s : List ℕ) (c : Command) → decode s ≡ Whole c → stepOutcome store (Whole c) .reply .answer ≡ 0
       → Matched (overwrite (encode (step (roomIn store) c)) store) (afterCommand j (Whole c))
@@ -109,11 +106,8 @@ module _ (store : List ℕ) (j : Journal) (m : Matched store j) where
   unfolding storeAfter feed replyTo afterAccepted openOutcome commandOutcome resumeOutcome
   call-kept (opening capacity) = either _ m (opening-matched capacity store)
   call-kept (command s) = command-kept s (decode s) refl
-  call-kept (pause output) = unchanged (pause output) refl
   call-kept (resume tape) = resume-kept (contentOf tape)
-  call-kept (board console output) = unchanged (board console output) refl
-  call-kept (heard console) = unchanged (heard console) refl
-  call-kept (commonVersion first second) = unchanged (commonVersion first second) refl
+  call-kept (question q) = asked (eqb (answerTo store q .reply .answer) 0)
 
 -- a list of calls
 calls-kept : (store : List ℕ) (j : Journal) (calls : List Call) → Matched store j
@@ -125,7 +119,7 @@ calls-kept store j (c ∷ calls) m = calls-kept _ _ calls (call-kept store j m c
 -- the opening or the resume before the list, on any buffer and any journal
 resume-first : (buffer : List ℕ) (j : Journal) (o : Option Content) → resumed o buffer .reply .answer ≡ 0
     → Matched (resumed o buffer .buffer) (afterTape j o)
-unfolding resumed afterTape
+unfolding resumed afterTape firstRefusal
 resume-first buffer j none h = absurd (omega arith)
 resume-first buffer j (some t) h = rw h (resume-matched t j buffer h)
 
@@ -134,11 +128,8 @@ first-matched : (buffer : List ℕ) (before : Journal) (first : Call) → begins
 unfolding storeAfter feed replyTo afterAccepted openOutcome resumeOutcome
 first-matched buffer before (opening capacity) b h = rw h (opening-matched capacity buffer h)
 first-matched buffer before (command s) b h = clash b refl
-first-matched buffer before (pause output) b h = clash b refl
 first-matched buffer before (resume tape) b h = resume-first buffer before (contentOf tape) h
-first-matched buffer before (board console output) b h = clash b refl
-first-matched buffer before (heard console) b h = clash b refl
-first-matched buffer before (commonVersion first second) b h = clash b refl
+first-matched buffer before (question q) b h = clash b refl
 
 pub matched : (buffer : List ℕ) (before : Journal) (first : Call) (calls : List Call) → begins first ≡ true → replyTo buffer first .answer ≡ 0
     → let end : List ℕ × Journal = afterCalls (storeAfter buffer first) (feed before first 0) calls in Matched (end .0) (end .1)

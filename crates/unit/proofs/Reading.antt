@@ -19,7 +19,7 @@ use Rattle.unit.specs.Journal.{madeBy, leads, madeAs, wasEntered, callOf
 pub leads-ancestor : (g : Graph) (u v : ℕ) → leads (map madeBy g) u v ≡ ancestor g u v
 unfolding leads ancestor
 leads-ancestor [] u v = refl
-leads-ancestor (Entry p code strip operand ∷ g) u v = cc (length-map g madeBy, leads-ancestor g u p, leads-ancestor g u v)
+leads-ancestor (Entry p code strip operand ∷ g) u v = cc (length-map g madeBy, leads-ancestor g u (p .0), leads-ancestor g u v)
 leads-ancestor (Merge p q ∷ g) u v = cc (length-map g madeBy, leads-ancestor g u (p .0), leads-ancestor g u (q .0), leads-ancestor g u v)
 
 -- a version as it was made is made by its node

@@ -1,6 +1,6 @@
 -- "A refusal returns its number, counts 0, and changes no lent byte. An accepted call returns 0, and with it a question its number, pause
 -- and the copied board the bytes written, all others count 0." For each call its reply and the lent buffer that it may write, afterwards;
--- a command, a tape to resume, and the store of a pause or a question are lent for reading alone, so that nothing can change them.
+-- a command, a tape to resume, and the store of a question are lent for reading alone, so that nothing can change them.
 use Prim.Native.Nat.{ℕ}
 use mathlib.Core.Bool.{Bool, cond, not, _||_}
 use mathlib.Core.List.{List, [], _∷_, _++_}
@@ -14,13 +14,12 @@ use Rattle.command.specs.declared.Decoded.the-variants.{Whole, Refused}
 use Rattle.refusal.specs.Refusal.{_when_, firstRefusal}
 use Rattle.command.specs.Code.{isConsole}
 use Rattle.command.specs.Decode.{decode}
-use Rattle.room.specs.Room.{Room, head, common, heardCount, fresh}
-use Rattle.room.specs.Sound.{isCapacity}
+use Rattle.room.specs.Room.{Room, head, common, heardCount, openSettings, fresh}
+use Rattle.room.specs.Sound.{settingsInRange}
 use Rattle.room.specs.Boards.{boardOf}
 use Rattle.room.specs.Step.{absent, stepRefusal, step}
 use Rattle.store.specs.Layout.{storeSize, encode, roomIn, holdsStore}
-use Rattle.tape.specs.Tape.{Content, contentOf, roomOf, tapeOf}
-use Rattle.resume.specs.Resumed.{resumeRefusal}
+use Rattle.tape.specs.Tape.{Content, contentOf, tapeTests, roomOf, tapeOf}
 use Rattle.unit.specs.declared.Reply.{Reply}
 
 pub record Outcome : Type 0 where
@@ -44,13 +43,16 @@ tooShort buffer size = ltb (length buffer) size
 abbrev pub holdsNoStore : List ℕ → Bool
 holdsNoStore store = not (holdsStore store)
 
--- "Opening makes version 0 with console 0 on it."
-abbrev pub openRefusal : ℕ → List ℕ → ℕ
-openRefusal capacity store =
-    firstRefusal (8 when not (isCapacity capacity) ∷ 19 when tooShort store (storeSize capacity) ∷ [])
+-- The last test of a call that writes so many bytes at the front of a lent buffer is 19, after these.
+abbrev pub bufferTests : List (ℕ × Bool) → List ℕ → ℕ → List (ℕ × Bool)
+bufferTests tests buffer size = tests ++ (19 when tooShort buffer size ∷ [])
+
+-- The calls that change a store, first opening: "Opening makes version 0 with console 0 on it."
+abbrev pub openTests : ℕ → List ℕ → List (ℕ × Bool)
+openTests capacity store = bufferTests (8 when not (settingsInRange (openSettings capacity)) ∷ []) store (storeSize capacity)
 
 unfoldable pub openOutcome : ℕ → List ℕ → Outcome
-openOutcome capacity store = written (openRefusal capacity store) 0 (encode (fresh capacity)) store
+openOutcome capacity store = written (firstRefusal (openTests capacity store)) 0 (encode (fresh capacity)) store
 
 -- what was decoded, on a store
 unfoldable pub stepOutcome : List ℕ → Decoded → Outcome
@@ -64,23 +66,25 @@ stepOutcome store (Whole c) =
 unfoldable pub commandOutcome : List ℕ → List ℕ → Outcome
 commandOutcome store command = stepOutcome store (decode command)
 
--- pause: the tape of the room, and how many bytes it has
-unfoldable pub pauseOutcome : List ℕ → List ℕ → Outcome
-pauseOutcome store output =
-    let tape : List ℕ = tapeOf (roomIn store) in
-    written
-    (firstRefusal (11 when holdsNoStore store ∷ 19 when tooShort output (length tape) ∷ []))
-    (length tape)
-    tape
-    output
+-- resume: "7 tape isn't such a sequence of whole records", 8 to 10, and the store of the room that the tape gives
+abbrev pub resumeTests : Option Content → List ℕ → List (ℕ × Bool)
+resumeTests none store = tapeTests none
+resumeTests (some t) store = bufferTests (tapeTests (some t)) store (storeSize (t .settings .capacity))
 
--- resume: the store of the room that the tape gives
 unfoldable pub resumed : Option Content → List ℕ → Outcome
-resumed none store = written (resumeRefusal none store) 0 [] store
-resumed (some t) store = written (resumeRefusal (some t) store) 0 (encode (roomOf t)) store
+resumed none store = written (firstRefusal (resumeTests none store)) 0 [] store
+resumed (some t) store = written (firstRefusal (resumeTests (some t) store)) 0 (encode (roomOf t)) store
 
 unfoldable pub resumeOutcome : List ℕ → List ℕ → Outcome
 resumeOutcome tape store = resumed (contentOf tape) store
+
+-- The calls that ask a store. A question's reply: refused by the first of its tests that applies, else its number.
+abbrev pub questionReply : List (ℕ × Bool) → ℕ → Reply
+questionReply tests number = replied (firstRefusal tests) number
+
+-- a question that writes so many bytes at the front of a lent output, and counts them
+abbrev pub outputOutcome : List (ℕ × Bool) → ℕ → List ℕ → List ℕ → Outcome
+outputOutcome tests size new output = written (firstRefusal (bufferTests tests output size)) size new output
 
 -- why a store can't be asked after a console
 abbrev pub consoleTests : List ℕ → ℕ → List (ℕ × Bool)
@@ -90,76 +94,79 @@ consoleTests store console =
     ∷ 12 when absent (roomIn store) console
     ∷ []
 
--- "a console's board copied out"
-abbrev pub boardRefusal : List ℕ → ℕ → List ℕ → ℕ
-boardRefusal store console output = firstRefusal (consoleTests store console ++ (19 when tooShort output boardSize ∷ []))
-
-unfoldable pub boardOutcome : List ℕ → ℕ → List ℕ → Outcome
-boardOutcome store console output =
-    let room : Room = roomIn store in
-    written (boardRefusal store console output) boardSize
-    (boardOf (room .versions) (head room console))
-    output
+-- and after two
+abbrev pub pairTests : List ℕ → ℕ → ℕ → List (ℕ × Bool)
+pairTests store first second =
+    3 when (not (isConsole first) || not (isConsole second))
+    ∷ 11 when holdsNoStore store
+    ∷ 12 when (absent (roomIn store) first || absent (roomIn store) second)
+    ∷ []
 
 -- "its heard count"
 unfoldable pub heardReply : List ℕ → ℕ → Reply
 heardReply store console =
     let room : Room = roomIn store in
-    replied
-    (firstRefusal (consoleTests store console))
-    (heardCount room console)
+    questionReply (consoleTests store console) (heardCount room console)
 
 -- "the common version of two consoles (of a console with itself: its head)"
-abbrev pub pairRefusal : List ℕ → ℕ → ℕ → ℕ
-pairRefusal store first second =
-    firstRefusal
-    (3 when (not (isConsole first) || not (isConsole second))
-    ∷ 11 when holdsNoStore store
-    ∷ 12 when (absent (roomIn store) first || absent (roomIn store) second)
-    ∷ [])
-
 unfoldable pub commonReply : List ℕ → ℕ → ℕ → Reply
 commonReply store first second =
     let room : Room = roomIn store in
-    replied (pairRefusal store first second)
-    (common room first second)
+    questionReply (pairTests store first second) (common room first second)
 
--- A call on a store: its kind, its numbers, and what is lent to it beside the store.
+-- "a console's board copied out"
+unfoldable pub boardOutcome : List ℕ → ℕ → List ℕ → Outcome
+boardOutcome store console output =
+    let room : Room = roomIn store in
+    outputOutcome (consoleTests store console) boardSize (boardOf (room .versions) (head room console)) output
+
+-- pause: the tape of the room, and how many bytes it has
+abbrev pub pauseTests : List ℕ → List (ℕ × Bool)
+pauseTests store = 11 when holdsNoStore store ∷ []
+
+unfoldable pub pauseOutcome : List ℕ → List ℕ → Outcome
+pauseOutcome store output =
+    let tape : List ℕ = tapeOf (roomIn store) in
+    outputOutcome (pauseTests store) (length tape) tape output
+
+-- A question to a store, with the output lent to it.
+pub data Question : Type 0 where
+  heard : ℕ → Question
+  commonVersion : ℕ → ℕ → Question
+  board : ℕ → List ℕ → Question
+  pause : List ℕ → Question
+
+-- its reply and the output lent to it afterwards, [] where none is
+unfoldable pub answerTo : List ℕ → Question → Outcome
+answerTo store (heard console) = record { reply = heardReply store console; buffer = [] }
+answerTo store (commonVersion first second) = record { reply = commonReply store first second; buffer = [] }
+answerTo store (board console output) = boardOutcome store console output
+answerTo store (pause output) = pauseOutcome store output
+
+-- A call on a store: one that changes it, or a question.
 pub data Call : Type 0 where
   opening : ℕ → Call
   command : List ℕ → Call
-  pause : List ℕ → Call
   resume : List ℕ → Call
-  board : ℕ → List ℕ → Call
-  heard : ℕ → Call
-  commonVersion : ℕ → ℕ → Call
+  question : Question → Call
 
 -- its reply
 unfoldable pub replyTo : List ℕ → Call → Reply
 replyTo store (opening capacity) = (openOutcome capacity store) .reply
 replyTo store (command c) = (commandOutcome store c) .reply
-replyTo store (pause output) = (pauseOutcome store output) .reply
 replyTo store (resume tape) = (resumeOutcome tape store) .reply
-replyTo store (board console output) = (boardOutcome store console output) .reply
-replyTo store (heard console) = heardReply store console
-replyTo store (commonVersion first second) = commonReply store first second
+replyTo store (question q) = (answerTo store q) .reply
 
--- and the store's buffer afterwards, which a pause and a question leave as it is
+-- and the store's buffer afterwards, which a question leaves as it is
 unfoldable pub storeAfter : List ℕ → Call → List ℕ
 storeAfter store (opening capacity) = (openOutcome capacity store) .buffer
 storeAfter store (command c) = (commandOutcome store c) .buffer
-storeAfter store (pause output) = store
 storeAfter store (resume tape) = (resumeOutcome tape store) .buffer
-storeAfter store (board console output) = store
-storeAfter store (heard console) = store
-storeAfter store (commonVersion first second) = store
+storeAfter store (question q) = store
 
--- and the output lent to a pause or a board, which no other call has
+-- and the output lent to a question, which no other call has
 unfoldable pub outputAfter : List ℕ → Call → List ℕ
 outputAfter store (opening capacity) = []
 outputAfter store (command c) = []
-outputAfter store (pause output) = (pauseOutcome store output) .buffer
 outputAfter store (resume tape) = []
-outputAfter store (board console output) = (boardOutcome store console output) .buffer
-outputAfter store (heard console) = []
-outputAfter store (commonVersion first second) = []
+outputAfter store (question q) = (answerTo store q) .buffer

@@ -9,7 +9,7 @@ use lib.ListN.{length}
 use Rattle.buffer.specs.Field.{wordAt}
 use Rattle.board.specs.Board.{stripCount, boardSize, callsAt}
 use Rattle.store.specs.Layout.{roomIn, holdsStore}
-use Rattle.unit.specs.Calls.{Call, opening, command, pause, resume, board, heard, commonVersion, replied, replyTo, storeAfter, boardOutcome, heardReply, commonReply}
+use Rattle.unit.specs.Calls.{Call, opening, command, resume, question, replied, replyTo, storeAfter, boardOutcome, heardReply, commonReply}
 use Rattle.unit.specs.Journal.{Journal, isPresent, headNumber, feed, leads, holds, hasHeard, commonTo, entriesHeard, callsHeard}
 
 -- the store and the journal after a list of calls
@@ -21,11 +21,8 @@ afterCalls store journal (c ∷ calls) = afterCalls (storeAfter store c) (feed j
 abbrev pub begins : Call → Bool
 begins (opening capacity) = true
 begins (command c) = false
-begins (pause output) = false
 begins (resume tape) = true
-begins (board console output) = false
-begins (heard console) = false
-begins (commonVersion first second) = false
+begins (question q) = false
 
 -- the common version of two consoles: the question answers m; it holds exactly the entries that both have heard, it is common to both, and
 -- every version common to both leads to it

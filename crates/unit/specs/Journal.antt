@@ -16,7 +16,7 @@ use Rattle.command.specs.declared.Decoded.the-variants.{Whole, Refused}
 use Rattle.command.specs.Code.{consoleCount}
 use Rattle.command.specs.Decode.{decode}
 use Rattle.tape.specs.Tape.{Content, contentOf, headSlots}
-use Rattle.unit.specs.Calls.{Call, opening, command, pause, resume, board, heard, commonVersion}
+use Rattle.unit.specs.Calls.{Call, opening, command, resume, question}
 
 -- a version after version 0
 pub data Made : Type 0 where
@@ -82,11 +82,8 @@ afterTape j (some t) = record { versions = map madeBy (t .versions); heads = hea
 unfoldable pub afterAccepted : Journal → Call → Journal
 afterAccepted j (opening capacity) = opened
 afterAccepted j (command c) = afterCommand j (decode c)
-afterAccepted j (pause output) = j
 afterAccepted j (resume tape) = afterTape j (contentOf tape)
-afterAccepted j (board console output) = j
-afterAccepted j (heard console) = j
-afterAccepted j (commonVersion first second) = j
+afterAccepted j (question q) = j
 
 -- "The book is fed, of each call, its kind, its command or tape, and whether it answered 0."
 unfoldable pub feed : Journal → Call → ℕ → Journal

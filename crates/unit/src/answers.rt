@@ -1,12 +1,11 @@
 // Replies, and the numbers of calls in the machine's width.
 use crate::Reply;
 ghost use mathlib.Core.Path.{_≡_};
-ghost use Prim.Native.Nat.{_≤_, _<_};
+ghost use Prim.Native.Nat.{_≤_};
 ghost use Rattle.unit.specs.Calls.{replied};
 
-// The reply of a refused call.
-pub fn refused(n: u32) -> Reply
-    requires { ⌜ 0 < n ⌝ }
+// The reply of a call that counts nothing: refused with this number, or accepted.
+pub fn reply_of(n: u32) -> Reply
     ensures { λ r. ⌜ r ≡ replied n 0 ⌝ }
 {
     Reply {

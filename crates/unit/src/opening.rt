@@ -1,23 +1,34 @@
 // The call that opens a room.
 use crate::Reply;
-use crate::answers::counted;
-use crate::answers::refused;
+use crate::answers::reply_of;
 use crate::answers::size;
-use store::places::block_at;
-use store::places::is_capacity;
+use room::Settings;
+use store::places::store_size;
+use store::settings::settings_in_range;
 use update::open::open;
 ghost use mathlib.Core.Path.{_≡_};
-ghost use Rattle.unit.specs.Calls.{openRefusal, openOutcome};
+ghost use Rattle.refusal.specs.Refusal.{firstRefusal};
+ghost use Rattle.room.specs.Room.{openSettings};
+ghost use Rattle.unit.specs.Calls.{openTests, openOutcome};
+
+// What opening with this capacity sets a room to.
+fn settings_for(capacity: u32) -> Settings
+    ensures { λ r. ⌜ r ≡ openSettings capacity ⌝ }
+{
+    Settings {
+        capacity: size(capacity),
+    }
+}
 
 // Why a room of this capacity can't be opened in this buffer, or 0.
 fn opening_refusal(capacity: u32, store: &[u8]) -> u32
-    ensures { λ r. ⌜ r ≡ openRefusal capacity (now (store .entry)) ⌝ }
+    ensures { λ r. ⌜ r ≡ firstRefusal (openTests capacity (now (store .entry))) ⌝ }
 {
-    let versions = size(capacity);
-    if !is_capacity(versions) {
+    let settings = settings_for(capacity);
+    if !settings_in_range(settings) {
         return 8;
     }
-    if store.len() < block_at(versions) {
+    if store.len() < store_size(settings.capacity) {
         return 19;
     }
     0
@@ -30,8 +41,8 @@ pub extern "C" fn room_open(capacity: u32, store: &mut [u8]) -> Reply
 {
     let refusal = opening_refusal(capacity, store);
     if refusal != 0 {
-        return refused(refusal);
+        return reply_of(refusal);
     }
-    open(store, size(capacity));
-    counted(0)
+    open(store, settings_for(capacity));
+    reply_of(0)
 }

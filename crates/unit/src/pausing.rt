@@ -1,7 +1,7 @@
 // The call that writes the pause tape of a store.
 use crate::Reply;
 use crate::answers::counted;
-use crate::answers::refused;
+use crate::answers::reply_of;
 use pause::tape_length;
 use pause::write_tape;
 use store::judge::holds;
@@ -14,11 +14,11 @@ pub extern "C" fn room_pause(store: &[u8], tape: &mut [u8]) -> Reply
     ensures { λ r. ⌜ (r ≡ (pauseOutcome (now (store .entry)) (now (tape .entry))) .reply) × (now (tape .exit) ≡ (pauseOutcome (now (store .entry)) (now (tape .entry))) .buffer) ⌝ }
 {
     if !holds(store) {
-        return refused(11);
+        return reply_of(11);
     }
     let length = tape_length(store);
     if tape.len() < length {
-        return refused(19);
+        return reply_of(19);
     }
     write_tape(store, tape);
     counted(length)

@@ -1,9 +1,10 @@
 // The calls that ask a store: a console's board and heard count, and the common version of two consoles.
 use crate::Reply;
 use crate::answers::counted;
-use crate::answers::refused;
+use crate::answers::reply_of;
 use crate::answers::size;
 use buffer::copy;
+use command::numbers::CONSOLES;
 use graph::Console;
 use query::board_of;
 use query::common_of;
@@ -12,29 +13,24 @@ use query::heard_count;
 use query::is_present;
 use store::judge::holds;
 use store::places::BOARD;
-use store::places::CONSOLES;
 ghost use mathlib.Core.Path.{_≡_};
-ghost use Rattle.unit.specs.Calls.{boardRefusal, boardOutcome, heardReply, pairRefusal, commonReply};
+ghost use Rattle.board.specs.Board.{boardSize};
+ghost use Rattle.refusal.specs.Refusal.{firstRefusal};
+ghost use Rattle.unit.specs.Calls.{bufferTests, consoleTests, pairTests, heardReply, commonReply, boardOutcome};
 
 // Why two consoles of a store can't be asked after, or 0.
 fn pair_refusal(store: &[u8], first: u32, second: u32) -> u32
-    ensures { λ r. ⌜ r ≡ pairRefusal (now (store .entry)) first second ⌝ }
+    ensures { λ r. ⌜ r ≡ firstRefusal (pairTests (now (store .entry)) first second) ⌝ }
 {
     let c = size(first);
     let d = size(second);
-    if CONSOLES <= c {
-        return 3;
-    }
-    if CONSOLES <= d {
+    if !((c < CONSOLES) & (d < CONSOLES)) {
         return 3;
     }
     if !holds(store) {
         return 11;
     }
-    if !is_present(store, Console(c)) {
-        return 12;
-    }
-    if !is_present(store, Console(d)) {
+    if !(is_present(store, Console(c)) & is_present(store, Console(d))) {
         return 12;
     }
     0
@@ -42,7 +38,7 @@ fn pair_refusal(store: &[u8], first: u32, second: u32) -> u32
 
 // Why a console's board can't be copied out into this buffer, or 0.
 fn board_refusal(store: &[u8], console: u32, board: &[u8]) -> u32
-    ensures { λ r. ⌜ r ≡ boardRefusal (now (store .entry)) console (now (board .entry)) ⌝ }
+    ensures { λ r. ⌜ r ≡ firstRefusal (bufferTests (consoleTests (now (store .entry)) console) (now (board .entry)) boardSize) ⌝ }
 {
     let refusal = pair_refusal(store, console, console);
     if refusal != 0 {
@@ -61,7 +57,7 @@ pub extern "C" fn room_board(store: &[u8], console: u32, board: &mut [u8]) -> Re
 {
     let refusal = board_refusal(store, console, board);
     if refusal != 0 {
-        return refused(refusal);
+        return reply_of(refusal);
     }
     let v = head_of(store, Console(size(console)));
     let end = BOARD;
@@ -76,7 +72,7 @@ pub extern "C" fn room_heard(store: &[u8], console: u32) -> Reply
 {
     let refusal = pair_refusal(store, console, console);
     if refusal != 0 {
-        return refused(refusal);
+        return reply_of(refusal);
     }
     counted(heard_count(store, Console(size(console))))
 }
@@ -88,7 +84,7 @@ pub extern "C" fn room_common(store: &[u8], first: u32, second: u32) -> Reply
 {
     let refusal = pair_refusal(store, first, second);
     if refusal != 0 {
-        return refused(refusal);
+        return reply_of(refusal);
     }
     let v = common_of(store, Console(size(first)), Console(size(second)));
     counted(v.0)

@@ -1,7 +1,6 @@
 // The call that takes a room off a pause tape.
 use crate::Reply;
-use crate::answers::counted;
-use crate::answers::refused;
+use crate::answers::reply_of;
 use resume::resuming::resume_tape;
 ghost use mathlib.Core.Path.{_≡_};
 ghost use Rattle.unit.specs.Calls.{resumeOutcome};
@@ -11,9 +10,5 @@ ghost use Rattle.unit.specs.Calls.{resumeOutcome};
 pub extern "C" fn room_resume(tape: &[u8], store: &mut [u8]) -> Reply
     ensures { λ r. ⌜ (r ≡ (resumeOutcome (now (tape .entry)) (now (store .entry))) .reply) × (now (store .exit) ≡ (resumeOutcome (now (tape .entry)) (now (store .entry))) .buffer) ⌝ }
 {
-    let refusal = resume_tape(tape, store);
-    if refusal != 0 {
-        return refused(refusal);
-    }
-    counted(0)
+    reply_of(resume_tape(tape, store))
 }

@@ -1,92 +1,71 @@
 -- `unit::questions::room_board` meets its contract.
 -- Assumes nothing.
-use mathlib.Core.Path.{_≡_, sym, _∙_}
+use mathlib.Core.Path.{refl, sym, _∙_}
 use native.Mathlib.Omega.{arith}
 use lib.Seq.{length-take-le}
 use Rattle.board.specs.Board.{boardSize}
-use Rattle.unit.proofs.Answered.{board-allowed, board-refused, board-done}
+use Rattle.room.specs.Room.{head}
+use Rattle.room.specs.Boards.{boardOf}
+use Rattle.room.proofs.Lengths.{boardOf-length}
+use Rattle.store.specs.Layout.{roomIn}
+use Rattle.unit.specs.Calls.{boardOutcome}
+use Rattle.unit.proofs.Answered.{written-refused, written-done, board-allowed}
 use Rattle.unit.proofs.questions.room_board.Statement.{statement}
 use Rattle.unit.proofs.questions.room_board.Tie as tie
 
-board-refusal-requires : tie.Need-board-refusal-requires
-board-refusal-requires c κs = omega arith
-
-refused-requires : tie.Need-refused-requires
-refused-requires c κs = omega arith
-
-same-length : tie.Need-same-length
-same-length c = omega arith
-
 returns : tie.Need-returns
+unfolding boardOutcome
 returns c =
     let a = c .before .before .before .before .before .before .args in
-    rw (c .refused .ensures) (board-refused (a .store .now) (a .console) (a .board .now) (c .before .before .board-refusal .ensures) (omega arith))
-
-size-requires : tie.Need-size-requires
-size-requires c κs = omega arith
+    let r = roomIn (a .store .now) in
+    rw (c .reply-of .ensures)
+    (written-refused boardSize (boardOf (r .versions) (head r (a .console))) (a .board .now) (c .before .before .board-refusal .ensures) (omega arith))
 
 head-of-requires : tie.Need-head-of-requires
 head-of-requires c κs =
     let a = c .before .before .before .before .before .before .args in
-    let none : c .before .before .board-refusal .result ≡ 0 = omega arith in
-    let p = board-allowed (a .store .now) (a .console) (a .board .now) (sym (c .before .before .board-refusal .ensures) ∙ none) in
+    let p = board-allowed (a .store .now) (a .console) (a .board .now) (c .before .before .board-refusal .ensures) (omega arith) in
     rw (c .size .ensures) (p .0 .held, p .0 .first)
 
 slice-relend-prefix-copy : tie.Need-slice-relend-prefix-copy
 slice-relend-prefix-copy c =
     let a = c .before .before .before .before .before .before .before .args in
-    let none : c .before .before .before .board-refusal .result ≡ 0 = omega arith in
-    let p = board-allowed (a .store .now) (a .console) (a .board .now) (sym (c .before .before .before .board-refusal .ensures) ∙ none) in
-    p .1
+    board-allowed (a .store .now) (a .console) (a .board .now) (c .before .before .before .board-refusal .ensures) (omega arith) .1
 
 slice-aggregate-copy : tie.Need-slice-aggregate-copy
 slice-aggregate-copy c =
     let a = c .before .before .before .before .before .before .before .before .args in
-    let none : c .before .before .before .before .board-refusal .result ≡ 0 = omega arith in
-    let p = board-allowed (a .store .now) (a .console) (a .board .now) (sym (c .before .before .before .before .board-refusal .ensures) ∙ none) in
+    let p = board-allowed (a .store .now) (a .console) (a .board .now) (c .before .before .before .before .board-refusal .ensures) (omega arith) in
     sym (length-take-le boardSize (a .board .now) (p .1))
 
 board-of-requires : tie.Need-board-of-requires
 board-of-requires c κs =
     let a = c .before .before .before .before .before .before .before .before .args in
-    let none : c .before .before .before .before .board-refusal .result ≡ 0 = omega arith in
-    let p = board-allowed (a .store .now) (a .console) (a .board .now) (sym (c .before .before .before .before .board-refusal .ensures) ∙ none) in
+    let p = board-allowed (a .store .now) (a .console) (a .board .now) (c .before .before .before .before .board-refusal .ensures) (omega arith) in
     (p .0 .held, c .before .head-of .ensures .1)
 
 copy-requires : tie.Need-copy-requires
 copy-requires c κs =
     let a = c .before .before .before .before .before .before .before .before .before .args in
-    let none : c .before .before .before .before .before .board-refusal .result ≡ 0 = omega arith in
-    let p = board-allowed (a .store .now) (a .console) (a .board .now) (sym (c .before .before .before .before .before .board-refusal .ensures) ∙ none) in
+    let p = board-allowed (a .store .now) (a .console) (a .board .now) (c .before .before .before .before .before .board-refusal .ensures) (omega arith) in
     length-take-le boardSize (a .board .now) (p .1) ∙ sym (c .board-of .ensures .1)
 
-counted-requires : tie.Need-counted-requires
-counted-requires c κs = omega arith
-
-same-length-2 : tie.Need-same-length-2
-same-length-2 c = omega arith
-
 returns-2 : tie.Need-returns-2
+unfolding boardOutcome
 returns-2 c =
-    let a = c .before .before .before .before .before .before .before .before .before .before .before .before .before .args in
+    let copied = c .before .before .before in
+    let named = copied .before .before .before in
+    let judged = named .before .before .before in
+    let a = judged .before .before .before .before .args in
+    let r = roomIn (a .store .now) in
+    let new = boardOf (r .versions) (head r (a .console)) in
+    let shown = copied .copy .ensures ∙ copied .before .board-of .ensures .0 in
     rw (c .counted .ensures)
-    (board-done (a .store .now) (a .console) (a .board .now) (c .before .before .before .before .before .before .before .before .before .board-refusal .ensures) (omega arith)
-    (rw (c .before .before .before .before .before .before .before .size .ensures) at (c .before .before .before .before .before .before .head-of .ensures .0)) (c .before .before .before .copy .ensures ∙ c .before .before .before .before .board-of .ensures .0))
+    (written-done boardSize new (a .board .now) (judged .board-refusal .ensures) (omega arith) refl
+    (rw (shown, rw (named .before .size .ensures) at (named .head-of .ensures .0), boardOf-length (r .versions) (head r (a .console)))))
 
 pub room-board-spec : {M : Type 1} → statement M
 room-board-spec =
     tie.close
-    (tie.spec
-    board-refusal-requires
-    refused-requires
-    same-length
-    returns
-    size-requires
-    head-of-requires
-    slice-relend-prefix-copy
-    slice-aggregate-copy
-    board-of-requires
-    copy-requires
-    counted-requires
-    same-length-2
-    returns-2)
+    (tie.spec (λ c κs. omega arith) (λ c κs. omega arith) (λ c. omega arith) returns (λ c κs. omega arith) head-of-requires
+    slice-relend-prefix-copy slice-aggregate-copy board-of-requires copy-requires (λ c κs. omega arith) (λ c. omega arith) returns-2)

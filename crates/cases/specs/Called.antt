@@ -1,0 +1,35 @@
+-- What the rows say of rooms is said of the calls, on a buffer that begins with the bytes of a sound room, whatever lies behind them.
+use Prim.Native.Nat.{ℕ, _≤_, _<_}
+use mathlib.Core.Path.{_≡_}
+use mathlib.Core.List.{List, [], _∷_, _++_, map}
+use mathlib.Core.Option.{Option, none, some}
+use lib.ListN.{length}
+use Rattle.command.specs.Code.{consoleCount}
+use Rattle.room.specs.Room.{Room, headOf}
+use Rattle.store.specs.Layout.{encode}
+use Rattle.tape.specs.Tape.{tapeOf}
+use Rattle.unit.specs.declared.Reply.{Reply}
+use Rattle.unit.specs.Calls.{Call, command, replied, written, pauseOutcome, commonReply, replyTo, storeAfter}
+use Rattle.unit.specs.Journal.{Journal}
+use Rattle.unit.specs.Convergence.{afterCalls}
+use Rattle.cases.specs.Run.{made, answers}
+
+-- the answers to these calls on a store, one after the other
+unfoldable pub answersTo : List ℕ → List Call → List ℕ
+answersTo store [] = []
+answersTo store (c ∷ calls) = replyTo store c .answer ∷ answersTo (storeAfter store c) calls
+
+-- how a head is told: the common version of a console with itself
+abbrev pub headReply : Option ℕ → Reply
+headReply none = replied 12 0
+headReply (some v) = replied 0 v
+
+-- these commands on room r, with this rest behind its bytes
+pub record Called (r : Room) (rest : List ℕ) (commands : List (List ℕ)) : Type 0 where
+  pub answered : answersTo (encode r ++ rest) (map command commands) ≡ answers r commands
+  -- the buffer afterwards
+  pub stored : (j : Journal) → afterCalls (encode r ++ rest) j (map command commands) .0 ≡ encode (made r commands) ++ rest
+  -- a pause of it, and its heads
+  pub paused : (output : List ℕ) → length (tapeOf (made r commands)) ≤ length output
+      → pauseOutcome (encode (made r commands) ++ rest) output ≡ written 0 (length (tapeOf (made r commands))) (tapeOf (made r commands)) output
+  pub heads : (c : ℕ) → c < consoleCount → commonReply (encode (made r commands) ++ rest) c c ≡ headReply (headOf (made r commands) c)
