@@ -7,7 +7,7 @@ use buffer::wide;
 use buffer::word_at;
 use graph::Strip;
 ghost use mathlib.Core.Path.{_≡_};
-ghost use Prim.Native.Nat.{_+_, _*_, _/_, _<_};
+ghost use Prim.Native.Nat.{_+_, _*_, _<_};
 ghost use lib.Bits.{bitOr};
 ghost use lib.ListN.{length, set};
 ghost use Rattle.buffer.specs.Field.{wordAt, putWord, part, same};

@@ -1,6 +1,6 @@
 // Bytes of a lent buffer: 16-bit fields, bit rows and parts. Nothing here knows the room unit.
 ghost use mathlib.Core.Path.{_≡_};
-ghost use Prim.Native.Nat.{_+_, _/_, _%_, _^_, _<_, _≤_};
+ghost use Prim.Native.Nat.{_+_, _/_, _%_, _<_, _≤_};
 ghost use lib.ListN.{length};
 ghost use Rattle.buffer.specs.Field.{wordAt, putWord, part, withPart, same, allZero, zeros};
 ghost use Rattle.buffer.specs.Row.{member, union, intersection, withMember, noneFrom, memberCount};

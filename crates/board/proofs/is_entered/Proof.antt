@@ -5,7 +5,9 @@ use Rattle.board.proofs.is_entered.Statement.{statement}
 use Rattle.board.proofs.is_entered.Tie as tie
 
 returns : tie.Need-returns
-returns c = cc
+returns c =
+    let entry = c .before .before .before in
+    rw (c .is-same .ensures, entry .enter-board .ensures, entry .before .before .before .copy .ensures)
 
 pub is-entered-spec : {M : Type 1} → statement M
 is-entered-spec =

@@ -5,7 +5,16 @@ use Rattle.board.proofs.merge_count_at.Statement.{statement}
 use Rattle.board.proofs.merge_count_at.Tie as tie
 
 returns : tie.Need-returns
-returns c = cc
+returns c =
+    let rule = c .before .before .before in
+    let words = rule .before in
+    rw (
+      c .before .before .put-word .ensures,
+      rule .merge-count .ensures,
+      words .before .before .word-at .ensures .0,
+      words .before .word-at2 .ensures .0,
+      words .word-at3 .ensures .0,
+    )
 
 pub merge-count-at-spec : {M : Type 1} → statement M
 merge-count-at-spec =

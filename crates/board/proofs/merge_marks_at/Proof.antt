@@ -13,7 +13,8 @@ returns c =
     let l = words .before .before .le-word-at .ensures in
     let a = words .before .le-word-at2 .ensures in
     let b = words .le-word-at3 .ensures in
-    cc (put-marks (args .s .now) (args .l .now) (args .a .now) (args .b .now) (args .at) (l .1) (a .1) (b .1))
+    rw (c .before .before .put-le-word .ensures, rule .merge-marks .ensures .0, l .0, a .0, b .0)
+    (put-marks (args .s .now) (args .l .now) (args .a .now) (args .b .now) (args .at) (l .1) (a .1) (b .1))
 
 pub merge-marks-at-spec : {M : Type 1} → statement M
 merge-marks-at-spec =

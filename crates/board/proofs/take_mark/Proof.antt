@@ -5,7 +5,10 @@ use Rattle.board.proofs.take_mark.Statement.{statement}
 use Rattle.board.proofs.take_mark.Tie as tie
 
 returns : tie.Need-returns
-returns c = cc
+returns c =
+    let put = c .before .before in
+    let marks = put .before .before in
+    rw (put .put-word .ensures, put .before .marks-without .ensures, marks .mark-bit .ensures, marks .before .before .word-at .ensures .0)
 
 pub take-mark-spec : {M : Type 1} → statement M
 take-mark-spec =

@@ -5,7 +5,9 @@ use Rattle.buffer.proofs.is_extended.Statement.{statement}
 use Rattle.buffer.proofs.is_extended.Tie as tie
 
 returns : tie.Need-returns
-returns c = cc
+returns c =
+    let added = c .before .before .before in
+    rw (c .is-same .ensures, added .add-member .ensures, added .before .before .before .copy .ensures)
 
 pub is-extended-spec : {M : Type 1} → statement M
 is-extended-spec =

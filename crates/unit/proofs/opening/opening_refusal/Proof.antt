@@ -5,6 +5,8 @@ use lib.ListN.{length}
 use borrow.Author.Tests.{lt-ltb, le-ltb, not-true, not-false}
 use Rattle.refusal.specs.Refusal.{firstRefusal}
 use Rattle.room.specs.declared.Settings.{Settings}
+use Rattle.command.proofs.Limits.{within-true}
+use Rattle.room.specs.Sound.{maxCapacity}
 use Rattle.store.specs.Layout.{storeSize}
 use native.Mathlib.Omega.{arith}
 use borrow.Author.Needs.{needs}
@@ -16,6 +18,12 @@ unfolding firstRefusal
 returns c =
     let tested = c .before in
     rw (rw (tested .before .settings-for .ensures) at (sym (tested .settings-in-range .ensures) ∙ not-true _ (c .if1 .taken)))
+
+store-size-requires : tie.Need-store-size-requires
+store-size-requires c κs =
+    let tested = c .before in
+    let size = within-true 1 maxCapacity (tested .before .settings-for .result .capacity) (sym (tested .settings-in-range .ensures) ∙ not-false _ (c .if1 .left)) in
+    omega arith
 
 returns-2 : tie.Need-returns-2
 unfolding firstRefusal
@@ -47,4 +55,4 @@ returns-3 c =
 
 pub opening-refusal-spec : {M : Type 1} → statement M
 opening-refusal-spec =
-    tie.close (tie.spec (λ c κs. search needs) (λ c κs. search needs) returns (λ c κs. omega arith) returns-2 returns-3)
+    tie.close (tie.spec (λ c κs. search needs) (λ c κs. search needs) returns store-size-requires returns-2 returns-3)
