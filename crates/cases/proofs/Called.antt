@@ -32,6 +32,7 @@ use Rattle.tape.specs.Tape.{tapeOf}
 use Rattle.unit.specs.Calls.{Outcome, replied, written, openOutcome, stepOutcome, commandOutcome, pauseOutcome, commonReply, command, replyTo, storeAfter}
 use Rattle.unit.specs.Journal.{Journal, feed}
 use Rattle.unit.specs.Convergence.{afterCalls}
+use Rattle.unit.proofs.Commanded.{held-refused}
 use Rattle.unit.proofs.RoundTrip.{pause-done}
 use Rattle.cases.specs.Run.{answerIn, roomAfter, made, answers}
 use Rattle.cases.specs.Called.{answersTo, headReply, Called}
@@ -72,7 +73,7 @@ module _ (r : Room) (rest : List ℕ) (s : soundRoom r ≡ true) where
       go false = refl
   step-called c (Whole k) e =
       let kept = go (eqb (stepRefusal r k) 0) (λ t. step-sound r k s (decode-range c k e) (eqb-true (stepRefusal r k) 0 t)) in
-      rw (holds-encode r rest s, room-encode r rest s) (λ i. record { reply = replied (stepRefusal r k) 0; buffer = kept i })
+      rw (held-refused (encode r ++ rest) k (holds-encode r rest s), room-encode r rest s) (λ i. record { reply = replied (stepRefusal r k) 0; buffer = kept i })
     where
       go : (b : Bool) → (b ≡ true → soundRoom (step r k) ≡ true)
           → cond b (overwrite (encode (step r k)) (encode r ++ rest)) (encode r ++ rest) ≡ encode (cond b (step r k) r) ++ rest

@@ -4,6 +4,7 @@ use Prim.Native.Nat.{ℕ}
 use mathlib.Core.Path.{_≡_, refl, sym, _∙_, ap}
 use mathlib.Core.Bool.{true, false}
 use mathlib.Core.List.{List, []}
+use Rattle.refusal.specs.Refusal.{firstRefusal}
 use Rattle.command.specs.declared.Command.{Command}
 use Rattle.command.specs.declared.Decoded.{Decoded}
 use Rattle.command.specs.declared.Decoded.the-variants.{Whole, Refused}
@@ -12,7 +13,7 @@ use Rattle.command.proofs.Ranges.{refused-told}
 use Rattle.room.specs.Step.{stepRefusal}
 use Rattle.store.specs.Layout.{roomIn, holdsStore}
 use Rattle.step.specs.Outcome.{afterStep}
-use Rattle.unit.specs.Calls.{replied, stepOutcome, commandOutcome}
+use Rattle.unit.specs.Calls.{replied, commandTests, stepOutcome, commandOutcome}
 use Rattle.unit.proofs.Answered.{Went, written-refused}
 
 -- the reply and the store's bytes are those of the call
@@ -23,6 +24,11 @@ Answers store command n t = Went (replied n 0) t (commandOutcome store command)
 pub refused-as : (s : List ℕ) (d : Decoded) (m n : ℕ) → d ≡ decode s → d ≡ Refused m → n ≡ refusalOf d → Refused n ≡ decode s
 refused-as s d m n found told number = ap Refused (number ∙ ap refusalOf told) ∙ sym told ∙ found
 
+-- bytes that hold a store are refused by its room alone
+pub held-refused : (store : List ℕ) (c : Command) → holdsStore store ≡ true → firstRefusal (commandTests store c) ≡ stepRefusal (roomIn store) c
+unfolding firstRefusal stepRefusal
+held-refused store c h = rw h
+
 module _ (store command : List ℕ) where
   pub undecoded : (n : ℕ) → Refused n ≡ decode command → Answers store command n store
   unfolding commandOutcome stepOutcome
@@ -30,9 +36,9 @@ module _ (store command : List ℕ) where
 
   module _ (c : Command) (e : Whole c ≡ decode command) where
     pub nothing-held : holdsStore store ≡ false → Answers store command 11 store
-    unfolding commandOutcome stepOutcome
+    unfolding commandOutcome stepOutcome firstRefusal
     nothing-held h = rw (← e, h) (refl, refl)
 
     pub stepped : (n : ℕ) (t : List ℕ) → holdsStore store ≡ true → n ≡ stepRefusal (roomIn store) c → t ≡ afterStep store c → Answers store command n t
     unfolding commandOutcome stepOutcome
-    stepped n t h answer after = rw (← e, h) (ap (λ (k : ℕ). replied k 0) answer, after)
+    stepped n t h answer after = rw (← e, held-refused store c h) (ap (λ (k : ℕ). replied k 0) answer, after)

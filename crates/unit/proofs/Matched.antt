@@ -2,7 +2,7 @@
 -- room: its versions and its heads are the room's.
 -- Assumes nothing.
 use Prim.Native.Nat.{ℕ}
-use mathlib.Core.Path.{_≡_, refl, _∙_, ap}
+use mathlib.Core.Path.{_≡_, refl, sym, _∙_, ap}
 use mathlib.Core.Bool.{Bool, true, false, cond}
 use mathlib.Core.List.{List, [], _∷_, map}
 use mathlib.Core.Option.{Option, none, some}
@@ -22,14 +22,15 @@ use Rattle.refusal.proofs.Refusals.{none-applies}
 use Rattle.command.proofs.Ranges.{decode-range}
 use Rattle.room.specs.Room.{Room, openSettings, fresh}
 use Rattle.room.specs.Sound.{soundRoom}
-use Rattle.room.specs.Step.{stepRefusal, step}
+use Rattle.room.specs.Step.{step}
 use Rattle.room.proofs.Steps.{step-sound, fresh-sound}
 use Rattle.store.specs.Layout.{encode, roomIn, holdsStore}
 use Rattle.store.proofs.RoundTrip.{room-encode, holds-encode, holds-sound}
 use Rattle.tape.specs.Tape.{Content, contentOf, roomOf}
-use Rattle.unit.specs.Calls.{openOutcome, stepOutcome, commandOutcome, resumeTests, resumed, resumeOutcome, Call, opening, command, resume, question, answerTo, replyTo, storeAfter}
+use Rattle.unit.specs.Calls.{openOutcome, commandTests, stepOutcome, commandOutcome, resumeTests, resumed, resumeOutcome, Call, opening, command, resume, question, answerTo, replyTo, storeAfter}
 use Rattle.unit.specs.Journal.{Journal, madeBy, opened, afterCommand, afterTape, afterAccepted, feed}
 use Rattle.unit.specs.Convergence.{begins, afterCalls}
+use Rattle.unit.proofs.Commanded.{held-refused}
 
 -- the journal of a room: its versions, each as it was made, and its heads
 abbrev pub journalOf : Room → Journal
@@ -91,7 +92,7 @@ module _ (store : List ℕ) (j : Journal) (m : Matched store j) where
   unfolding stepOutcome
   command-matched s c e h =
       let r = roomIn store in
-      let accepted : stepRefusal r c ≡ 0 = cc (m .holds) in
+      let accepted = sym (held-refused store c (m .holds)) ∙ h in
       written-matched (step r c) store (step-sound r c (holds-sound store (m .holds)) (decode-range s c e) accepted)
       (step-journal r c ∙ ap (λ (k : Journal). afterCommand k (Whole c)) (m .journal))
 
@@ -99,7 +100,7 @@ module _ (store : List ℕ) (j : Journal) (m : Matched store j) where
       → Matched (stepOutcome store d .buffer) (cond (eqb (stepOutcome store d .reply .answer) 0) (afterCommand j d) j)
   unfolding stepOutcome afterCommand
   command-kept s (Refused n) e = either n m (λ _. m)
-  command-kept s (Whole c) e = either (cond (holdsStore store) (stepRefusal (roomIn store) c) 11) m (command-matched s c e)
+  command-kept s (Whole c) e = either (firstRefusal (commandTests store c)) m (command-matched s c e)
 
   -- each call keeps them matched
   call-kept : (c : Call) → Matched (storeAfter store c) (feed j c (replyTo store c .answer))

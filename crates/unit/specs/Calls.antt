@@ -9,6 +9,7 @@ use lib.Dec.{eqb, ltb}
 use lib.ListN.{length}
 use Rattle.buffer.specs.Field.{overwrite}
 use Rattle.board.specs.Board.{boardSize}
+use Rattle.command.specs.declared.Command.{Command}
 use Rattle.command.specs.declared.Decoded.{Decoded}
 use Rattle.command.specs.declared.Decoded.the-variants.{Whole, Refused}
 use Rattle.refusal.specs.Refusal.{_when_, firstRefusal}
@@ -17,7 +18,7 @@ use Rattle.command.specs.Decode.{decode}
 use Rattle.room.specs.Room.{Room, head, common, heardCount, openSettings, fresh}
 use Rattle.room.specs.Sound.{settingsInRange}
 use Rattle.room.specs.Boards.{boardOf}
-use Rattle.room.specs.Step.{absent, stepRefusal, step}
+use Rattle.room.specs.Step.{absent, versionLeft, stateTests, step}
 use Rattle.store.specs.Layout.{storeSize, encode, roomIn, holdsStore}
 use Rattle.tape.specs.Tape.{Content, contentOf, tapeTests, roomOf, tapeOf}
 use Rattle.unit.specs.declared.Reply.{Reply}
@@ -54,14 +55,17 @@ openTests capacity store = bufferTests (8 when not (settingsInRange (openSetting
 unfoldable pub openOutcome : ℕ → List ℕ → Outcome
 openOutcome capacity store = written (firstRefusal (openTests capacity store)) 0 (encode (fresh capacity)) store
 
+-- a command that was decoded whole: 11, and 12 to 18
+abbrev pub commandTests : List ℕ → Command → List (ℕ × Bool)
+commandTests store c = 11 when holdsNoStore store ∷ stateTests (roomIn store) (versionLeft (roomIn store)) c
+
 -- what was decoded, on a store
 unfoldable pub stepOutcome : List ℕ → Decoded → Outcome
 stepOutcome store (Refused n) = written n 0 [] store
 stepOutcome store (Whole c) =
     let room : Room = roomIn store in
-    let refusal : ℕ = cond (holdsStore store) (stepRefusal room c) 11 in
     let next : List ℕ = encode (step room c) in
-    written refusal 0 next store
+    written (firstRefusal (commandTests store c)) 0 next store
 
 unfoldable pub commandOutcome : List ℕ → List ℕ → Outcome
 commandOutcome store command = stepOutcome store (decode command)

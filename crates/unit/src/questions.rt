@@ -74,7 +74,8 @@ pub extern "C" fn room_heard(store: &[u8], console: u32) -> Reply
     if refusal != 0 {
         return reply_of(refusal);
     }
-    counted(heard_count(store, Console(size(console))))
+    let heard = heard_count(store, Console(size(console)));
+    counted(heard)
 }
 
 // The common version of two consoles; of a console with itself, its head.

@@ -13,7 +13,10 @@ use room_host::rng::Rng;
 #[test]
 fn the_layout_of_a_small_store() {
     let mut store = Store::open(64);
-    store.say_all(&PRINTED_INPUT[..5]);
+    store.say_all(&PRINTED_INPUT[..4]);
+    assert_eq!(store.bytes[256..262], [0, 4, 0, 3, 0, 0], "heads 3 and 2");
+    assert_eq!(store.bytes[288..294], [0, 3, 0, 3, 0, 0]);
+    store.say_all(&PRINTED_INPUT[4..5]);
     let bytes = &store.bytes;
     assert_eq!(bytes[..4], [0, 64, 0, 4]);
     assert_eq!(bytes[128], 0b0110);

@@ -129,6 +129,9 @@ pub fn store_of_three_consoles(capacity: usize) -> Store {
 fn three_consoles_give_17() {
     let mut store = store_of_three_consoles(64);
     assert_eq!(store.heads(), [1, 2, 5]);
+    assert_eq!(store.common(0, 2), accepted(1));
+    assert_eq!(store.common(2, 1), accepted(2));
+    assert_eq!(resume(&store.tape()), 0);
     assert_eq!(store.say(&[0x09, 0, 1]), 17);
     assert_eq!(store.say(&[0x0A, 0, 2]), 0);
     assert_eq!(store.heads(), [5, 2, 5]);
@@ -155,6 +158,7 @@ pub fn stuck_store() -> Store {
 fn the_stuck_room() {
     let mut store = stuck_store();
     assert_eq!(store.heads(), [6, 6, 3, 5]);
+    assert_eq!(resume(&store.tape()), 0);
     let joinings = (0..16).flat_map(|receiver| {
         (0..16).flat_map(move |giver| [[0x09, receiver, giver], [0x0A, receiver, giver]])
     });
@@ -280,6 +284,11 @@ fn entries_change_the_cells_they_name() {
     let strip = [0, 0, 0x01, 0x68, 0x00, 0x01, 0, 1, 0, 2, 0, 0];
     assert_eq!(store.board(0)[372..], strip);
     assert_eq!(store.heard(0), accepted(10));
+    let mark_not_there = [0x05, 0, 31, 9];
+    store.say_all(&[&mark_not_there, &[0x03, 0, 31, 0, 0]]);
+    let strip = [0, 0, 0, 0, 0x00, 0x01, 0, 1, 0, 2, 0, 0];
+    assert_eq!(store.board(0)[372..], strip);
+    assert_eq!(store.heard(0), accepted(12));
 }
 
 // ---------------------------------------------------------------- plausible and wrong
@@ -298,8 +307,14 @@ fn wrong_highest_numbered_common_version_as_base() {
     assert_eq!(resume(&tape), 10);
     let heads = [[0x23, 0, 0, 3], [0x23, 1, 0, 4]].concat();
     assert_eq!(resume(&tape_with(&[&crossed, &heads])), 10);
+    let not_of_console_0 = [[0x23, 0, 0, 0], [0x23, 1, 0, 3], [0x23, 2, 0, 4]].concat();
+    assert_eq!(resume(&tape_with(&[&crossed, &not_of_console_0])), 10);
     let straight = [&CALL_ON_0[..], &CALL_ON_0, &[0x22, 0, 1, 0, 2]].concat();
     assert_eq!(resume(&tape_with(&[&straight, &[0x23, 0, 0, 3]])), 0);
+    let call_on_2 = [0x21, 0, 2, 0x06, 0, 0, 0];
+    let tape = tape_with(&[&straight, &call_on_2, &merged, &[0x23, 0, 0, 5]]);
+    assert_eq!(resume(&tape), 0);
+    assert_eq!(resume(&tape_with(&[&straight, &call_on_2, &heads])), 0);
 }
 
 #[test]

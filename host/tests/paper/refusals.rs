@@ -11,7 +11,16 @@ use room_host::layout::store_bytes;
 #[test]
 fn refusal_1_no_such_command() {
     let mut store = Store::open(4);
-    for command in [&[][..], &[0x00], &[0x0B, 0, 0], &[0xFF; 5]] {
+    let of_a_tape = [0x20, 0, 4];
+    let commands = [
+        &[][..],
+        &[0x00],
+        &[0x00, 2, 0],
+        &[0x0B, 0, 0],
+        &of_a_tape,
+        &[0xFF; 5],
+    ];
+    for command in commands {
         assert_eq!(store.say(command), 1);
     }
     assert_eq!(store.say(&[0x01, 1, 0]), 0);
@@ -39,6 +48,8 @@ fn refusal_2_length() {
         assert_eq!(store.say(command), 0);
     }
     assert_eq!(store.say(&[0x09, 0]), 2);
+    assert_eq!(store.say(&[0x09, 0, 1, 0]), 2);
+    assert_eq!(store.say(&[0x0A, 1]), 2);
     assert_eq!(store.say(&[0x0A, 1, 0, 0]), 2);
     assert_eq!(store.say(&[0x0A, 1, 0]), 0);
 }
@@ -51,6 +62,8 @@ fn refusal_3_console() {
     assert_eq!(store.say(&[0x01, 15, 0]), 0);
     assert_eq!(store.say(&[0x06, 16, 0]), 3);
     assert_eq!(store.say(&[0x06, 15, 0]), 0);
+    assert_eq!(store.say(&[0x09, 0, 16]), 3);
+    assert_eq!(store.say(&[0x0A, 16, 0]), 3);
     assert_eq!(store.heard(16), refused(3));
     assert_eq!(store.heard(256), refused(3));
     assert_eq!(store.heard(15), accepted(1));
@@ -105,9 +118,16 @@ fn refusal_7_no_tape() {
         assert_eq!(resume(&tape[..length]), 7);
     }
     assert_eq!(resume(&[&tape[..], &[0x24]].concat()), 7);
+    assert_eq!(resume(&[&tape[..], &[0]].concat()), 7);
+    assert_eq!(resume(&tape[3..]), 7, "no start");
     assert_eq!(resume(&tape_with(&[])), 7, "no head");
     assert_eq!(resume(&tape_with(&[&CALL_ON_0])), 7, "no head");
     assert_eq!(resume(&tape_with(&[&HEAD_0_ON_0, &CALL_ON_0])), 7);
+    let merge = [0x22, 0, 0, 0, 0];
+    assert_eq!(resume(&tape_with(&[&HEAD_0_ON_0, &merge])), 7);
+    assert_eq!(resume(&tape_with(&[&HEAD_0_ON_0, &[0x25]])), 7);
+    let command = [0x06, 0, 0];
+    assert_eq!(resume(&tape_with(&[&command, &HEAD_0_ON_0])), 7);
     assert_eq!(resume(&tape_with(&[&[0x20, 4, 0], &HEAD_0_ON_0])), 7);
     assert_eq!(resume(&tape_with(&[&HEAD_0_ON_0, &[0x24]])), 7);
     assert_eq!(resume(&tape_with(&[&[0x25], &HEAD_0_ON_0])), 7);
@@ -148,12 +168,19 @@ fn refusal_9_versions_out_of_range() {
     assert_eq!(entry([0x21, 0, 0, 0x03, 0, 0x01, 0x69]), 9);
     assert_eq!(entry([0x21, 0, 0, 0x03, 0, 0x01, 0x68]), 0);
     assert_eq!(entry([0x21, 0, 0, 0x04, 0, 0x01, 0x00]), 9);
+    assert_eq!(entry([0x21, 0, 0, 0x04, 0, 0, 15]), 0);
     assert_eq!(entry([0x21, 0, 0, 0x05, 0, 0, 16]), 9);
     assert_eq!(entry([0x21, 0, 0, 0x05, 0, 0, 15]), 0);
     for code in 0x06..=0x08 {
         assert_eq!(entry([0x21, 0, 0, code, 0, 0, 1]), 9);
         assert_eq!(entry([0x21, 0, 0, code, 0, 0, 0]), 0);
     }
+    let second = |parent: u8| {
+        let entry = [0x21, 0, parent, 0x06, 0, 0, 0];
+        resume(&tape_with(&[&CALL_ON_0, &entry, &[0x23, 0, 0, 2]]))
+    };
+    assert_eq!(second(2), 9, "its own parent");
+    assert_eq!(second(1), 0);
 }
 
 #[test]
@@ -202,8 +229,12 @@ fn refusal_10_no_sound_store() {
     assert_eq!(tape(&[&CALL_ON_0, &[0x23, 0, 0, 1]]), 0);
     let lost_below = [&CALL_ON_0[..], &CALL_ON_0, &[0x23, 0, 0, 2]];
     assert_eq!(tape(&lost_below), 10, "version 1 lost below head 2");
+    let two_heads = [[0x23, 0, 0, 1], [0x23, 1, 0, 2]].concat();
+    assert_eq!(tape(&[&CALL_ON_0, &CALL_ON_0, &two_heads]), 0);
     let same_twice = [0x22, 0, 1, 0, 1];
     assert_eq!(tape(&[&CALL_ON_0, &same_twice, &[0x23, 0, 0, 2]]), 10);
+    let receiver_behind = [0x22, 0, 0, 0, 1];
+    assert_eq!(tape(&[&CALL_ON_0, &receiver_behind, &[0x23, 0, 0, 2]]), 10);
     let behind = [0x22, 0, 1, 0, 2];
     assert_eq!(tape(&[&CALL_ON_0, &on_1, &behind, &[0x23, 0, 0, 3]]), 10);
     assert_eq!(
@@ -330,6 +361,12 @@ fn refusal_19_short_buffers() {
     );
     assert_eq!(board, [FILLER; 384]);
     assert_eq!(tested::board(&store.bytes, 0, &mut board), accepted(384));
+    let mut longer = [FILLER; 386];
+    assert_eq!(tested::board(&store.bytes, 0, &mut longer), accepted(384));
+    assert_eq!(
+        (&longer[..384], &longer[384..]),
+        (&board[..], &[FILLER; 2][..])
+    );
     let mut lent = vec![FILLER; store_bytes(64)];
     let short = store_bytes(64) - 1;
     assert_eq!(tested::open(64, &mut lent[..short]), refused(19));
@@ -358,13 +395,19 @@ fn the_lowest_refusal_is_given() {
         assert_eq!(tested::command(&mut garbage, command), refused(answer));
     }
     assert_eq!(tested::heard(&garbage, 16), refused(3));
+    assert_eq!(tested::heard(&garbage, 15), refused(11));
+    assert_eq!(tested::common(&garbage, 16, 1), refused(3));
+    assert_eq!(tested::common(&garbage, 0, 1), refused(11));
     assert_eq!(tested::board(&garbage, 16, &mut []), refused(3));
     assert_eq!(tested::board(&garbage, 0, &mut []), refused(11));
     assert_eq!(tested::pause(&garbage, &mut []), refused(11));
     assert_eq!(tested::open(0, &mut []), refused(8));
     assert_eq!(tested::open(1, &mut []), refused(19));
+    assert_eq!(tested::open(1024, &mut []), refused(19));
     let lost = tape_with(&[&CALL_ON_0, &HEAD_0_ON_0]);
     assert_eq!(tested::resume(&lost, &mut []), refused(10));
+    let head_of_none = [0x20, 0, 1, 0x23, 0, 0, 1, 0x24];
+    assert_eq!(tested::resume(&head_of_none, &mut []), refused(9));
     let no_capacity_no_end = [0x20, 0, 0, 0x23, 0, 0, 0];
     assert_eq!(tested::resume(&no_capacity_no_end, &mut []), refused(7));
     let no_capacity_bad_head = [0x20, 0, 0, 0x23, 9, 0, 0, 0x24];

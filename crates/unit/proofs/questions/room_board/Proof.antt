@@ -30,19 +30,19 @@ head-of-requires c κs =
 slice-relend-prefix-copy : tie.Need-slice-relend-prefix-copy
 slice-relend-prefix-copy c =
     let a = c .before .before .before .before .before .before .before .args in
-    board-allowed (a .store .now) (a .console) (a .board .now) (c .before .before .before .board-refusal .ensures) (omega arith) .1
+    omega (arith, board-allowed (a .store .now) (a .console) (a .board .now) (c .before .before .before .board-refusal .ensures) (omega arith) .1)
 
 slice-aggregate-copy : tie.Need-slice-aggregate-copy
 slice-aggregate-copy c =
     let a = c .before .before .before .before .before .before .before .before .args in
     let p = board-allowed (a .store .now) (a .console) (a .board .now) (c .before .before .before .before .board-refusal .ensures) (omega arith) in
-    sym (length-take-le boardSize (a .board .now) (p .1))
+    sym (length-take-le _ (a .board .now) (omega (arith, p .1)))
 
 board-of-requires : tie.Need-board-of-requires
 board-of-requires c κs =
     let a = c .before .before .before .before .before .before .before .before .args in
     let p = board-allowed (a .store .now) (a .console) (a .board .now) (c .before .before .before .before .board-refusal .ensures) (omega arith) in
-    (p .0 .held, c .before .head-of .ensures .1)
+    (p .0 .held, omega (arith, c .before .head-of .ensures .1))
 
 copy-requires : tie.Need-copy-requires
 copy-requires c κs =

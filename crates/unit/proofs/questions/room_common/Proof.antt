@@ -19,7 +19,7 @@ common-of-requires : tie.Need-common-of-requires
 common-of-requires c κs =
     let a = c .before .before .before .before .before .args in
     let p = pair-allowed (a .store .now) (a .first) (a .second) (c .before .before .before .pair-refusal .ensures) (omega arith) in
-    rw (c .before .size .ensures, c .size2 .ensures) (p .held, ((p .first, p .second), (p .here, p .there)))
+    rw (c .before .size .ensures, c .size2 .ensures) (p .held, ((search, search), (search, search)))
 
 counted-requires : tie.Need-counted-requires
 counted-requires c κs =
