@@ -21,7 +21,7 @@ use Rattle.command.specs.declared.Decoded.the-variants.{Whole, Refused}
 use Rattle.command.specs.Decode.{decode}
 use Rattle.refusal.proofs.Refusals.{none-applies}
 use Rattle.command.proofs.Ranges.{decode-range}
-use Rattle.room.specs.Room.{Room, headOf, common, fresh}
+use Rattle.room.specs.Room.{Room, headOf, common, openSettings, fresh}
 use Rattle.room.specs.Sound.{soundRoom}
 use Rattle.room.specs.Step.{stepRefusal, step}
 use Rattle.room.proofs.Sound.{sound-facts}
@@ -38,14 +38,14 @@ use Rattle.cases.specs.Run.{answerIn, roomAfter, made, answers}
 use Rattle.cases.specs.Called.{answersTo, headReply, Called}
 
 -- the bytes of a sound room, written over those of another of the same capacity
-replaced : (r n : Room) (rest : List ℕ) → soundRoom r ≡ true → soundRoom n ≡ true → n .capacity ≡ r .settings .capacity
+replaced : (r n : Room) (rest : List ℕ) → soundRoom r ≡ true → soundRoom n ≡ true → n .settings .capacity ≡ r .settings .capacity
     → overwrite (encode n) (encode r ++ rest) ≡ encode n ++ rest
 replaced r n rest s t e =
     ap (λ (tail : List ℕ). encode n ++ tail)
     (drop-at (encode r) rest (length (encode n)) (encode-length r s ∙ sym (encode-length n t ∙ ap storeSize e)))
 
 -- no command changes the capacity
-step-capacity : (r : Room) (c : Command) → step r c .capacity ≡ r .settings .capacity
+step-capacity : (r : Room) (c : Command) → step r c .settings .capacity ≡ r .settings .capacity
 unfolding step
 step-capacity r (Fork new old) = refl
 step-capacity r (Entry console code strip operand) = refl
@@ -139,5 +139,5 @@ pub opened-called : (capacity : ℕ) (buffer : List ℕ) → openOutcome capacit
     → (openOutcome capacity buffer .buffer ≡ encode (fresh capacity) ++ drop (storeSize capacity) buffer) × (soundRoom (fresh capacity) ≡ true)
 unfolding openOutcome
 opened-called capacity buffer h =
-    let s = fresh-sound capacity (not-false _ (none-applies _ h .0 (lit< tt))) in
+    let s = fresh-sound (openSettings capacity) (not-false _ (none-applies _ h .0 (lit< tt))) in
     (rw (h, encode-length (fresh capacity) s), s)

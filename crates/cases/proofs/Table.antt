@@ -5,16 +5,15 @@ use Rattle.board.specs.Board.{mergeFlag, mergeStrip}
 use Rattle.graph.specs.Below.{everyBelow, someBelow, highestBelow}
 use Rattle.graph.specs.Graph.{ancestor, isMeet, meet}
 use Rattle.refusal.specs.Refusal.{firstRefusal}
-use Rattle.command.specs.Code.{shapeOf, lengthOf, numberAt, operandsOf, isOperand}
-use Rattle.command.specs.Decode.{commandRefusal, commandOf, decode}
+use Rattle.command.specs.Code.{shapeOf, lengthOf, numberAt, operandsOf, isOperand, kindOf}
+use Rattle.command.specs.Decode.{commandRefusal, decode}
 use Rattle.room.specs.Room.{common}
-use Rattle.room.specs.Step.{stepRefusal, step}
-use Rattle.tape.specs.Record.{recordBytes}
+use Rattle.room.specs.Step.{stateTests, stepRefusal, step}
 use Rattle.tape.specs.Tape.{versionRecords, headRecords, tapeOf}
 use Rattle.cases.specs.Run.{Case, answerIn, roomAfter, made, answers, session}
 use Rattle.cases.specs.Starred.{crossed, stuck, acceptedBy, accepted, starred}
 
 -- the cases that the paper marks *
 pub starred-hold : map (λ (c : Case). c .got) starred ≡ map (λ (c : Case). c .due) starred
-unfolding mergeFlag mergeStrip everyBelow someBelow highestBelow ancestor isMeet meet firstRefusal shapeOf lengthOf numberAt operandsOf isOperand commandRefusal commandOf decode common stepRefusal step recordBytes versionRecords headRecords tapeOf answerIn roomAfter made answers session crossed stuck acceptedBy accepted starred
+unfolding mergeFlag mergeStrip everyBelow someBelow highestBelow ancestor isMeet meet firstRefusal shapeOf lengthOf numberAt operandsOf isOperand kindOf commandRefusal decode common stateTests stepRefusal step versionRecords headRecords tapeOf answerIn roomAfter made answers session crossed stuck acceptedBy accepted starred
 starred-hold = refl
