@@ -11,7 +11,7 @@ use lib.Dec.{eqb}
 use lib.ListN.{set}
 use Rattle.buffer.specs.Field.{byte, wordAt, putWord}
 use Rattle.buffer.proofs.Fields.{bytes-word}
-use Rattle.board.specs.Board.{mergeSetting, mergeMarks}
+use Rattle.board.specs.Board.{mergeValue, mergeMarks}
 use Rattle.board.specs.LittleEndian.{swapped}
 use Rattle.board.proofs.Marks.{marks-small, marks-bytes}
 
@@ -46,7 +46,7 @@ choice-swapped : (t : Bool) (x y : ℕ) → cond t (swapped x) (swapped y) ≡ s
 choice-swapped true x y = refl
 choice-swapped false x y = refl
 
-setting-swapped : (l a b : ℕ) → l < 65536 → a < 65536 → mergeSetting (swapped l) (swapped a) (swapped b) ≡ swapped (mergeSetting l a b)
+setting-swapped : (l a b : ℕ) → l < 65536 → a < 65536 → mergeValue (swapped l) (swapped a) (swapped b) ≡ swapped (mergeValue l a b)
 setting-swapped l a b p q =
     ap (λ (t : Bool). cond t (swapped b) (swapped a)) (eqb-swapped a l q p) ∙ choice-swapped (eqb a l) b a
 
@@ -67,8 +67,8 @@ marks-swapped l a b p q r =
 
 -- fields that were read low byte first, merged and written so
 module _ (s l a b : List ℕ) (at : ℕ) (p : wordAt l at < 65536) (q : wordAt a at < 65536) where
-  pub put-setting : putWord s at (swapped (mergeSetting (swapped (wordAt l at)) (swapped (wordAt a at)) (swapped (wordAt b at))))
-      ≡ putWord s at (mergeSetting (wordAt l at) (wordAt a at) (wordAt b at))
+  pub put-setting : putWord s at (swapped (mergeValue (swapped (wordAt l at)) (swapped (wordAt a at)) (swapped (wordAt b at))))
+      ≡ putWord s at (mergeValue (wordAt l at) (wordAt a at) (wordAt b at))
   put-setting = rw (setting-swapped (wordAt l at) (wordAt a at) (wordAt b at) p q) (put-swapped-twice s at _)
 
   pub put-marks : wordAt b at < 65536 → putWord s at (swapped (mergeMarks (swapped (wordAt l at)) (swapped (wordAt a at)) (swapped (wordAt b at))))

@@ -11,7 +11,7 @@ use lib.Seq.{sets-eq}
 use mir.Val.{boolByte}
 use Rattle.buffer.specs.Field.{word, wordAt, putWord}
 use Rattle.buffer.specs.Row.{bit}
-use Rattle.board.specs.Board.{stripSize, levelAt, headingAt, marksAt, callsAt, alertsAt, flagAt, flagOn, mergeSetting, mergeMarks, mergeCount, mergeFlag, mergeStrip}
+use Rattle.board.specs.Board.{stripSize, levelAt, headingAt, marksAt, callsAt, alertsAt, flagAt, flagOn, mergeValue, mergeMarks, mergeCount, mergeFlag, mergeStrip}
 
 -- the flag of a merge in one line
 pub flag-rule : (m n : Bool) (l a b : ℕ) → (m && (n || ltb l a)) || (n && ltb l b) ≡ mergeFlag m n l a b
@@ -39,8 +39,8 @@ module _ (l a b : List ℕ) where
   merged rule at = rule (wordAt l at) (wordAt a at) (wordAt b at)
 
   pub strip-built : (s : List ℕ) {s₁ s₂ s₃ s₄ s₅ : List ℕ} → length s ≡ stripSize
-      → s₁ ≡ putWord s (levelAt 0) (merged mergeSetting (levelAt 0))
-      → s₂ ≡ putWord s₁ (headingAt 0) (merged mergeSetting (headingAt 0))
+      → s₁ ≡ putWord s (levelAt 0) (merged mergeValue (levelAt 0))
+      → s₂ ≡ putWord s₁ (headingAt 0) (merged mergeValue (headingAt 0))
       → s₃ ≡ putWord s₂ (marksAt 0) (merged mergeMarks (marksAt 0))
       → s₄ ≡ putWord s₃ (callsAt 0) (merged mergeCount (callsAt 0))
       → s₅ ≡ set (set (putWord s₄ (alertsAt 0) (merged mergeCount (alertsAt 0))) (flagAt 0) (bit (mergeFlag (flagOn a 0) (flagOn b 0) (wordAt l (alertsAt 0)) (wordAt a (alertsAt 0)) (wordAt b (alertsAt 0))))) (flagAt 0 + 1) 0

@@ -45,7 +45,8 @@ flagAt k = stripSize * k + 10
 abbrev pub markCount : ℕ
 markCount = 16
 
--- The bit of a mark. An operand that names none is taken by its remainder, so that the rule is total.
+-- The bit of a mark. No accepted command, tape or sound store has an operand that names none; the rule takes one by its remainder, so
+-- that the bit is always a word's.
 abbrev pub markBit : ℕ → ℕ
 markBit x = 2 ^ (x % markCount)
 
@@ -58,8 +59,8 @@ abbrev pub without : ℕ → ℕ → ℕ
 without a l = a - bitAnd a l
 
 -- "level and heading, each alone: b if a = l, else a."
-abbrev pub mergeSetting : ℕ → ℕ → ℕ → ℕ
-mergeSetting l a b = cond (eqb a l) b a
+abbrev pub mergeValue : ℕ → ℕ → ℕ → ℕ
+mergeValue l a b = cond (eqb a l) b a
 
 -- "marks: (a and b) or (a without l) or (b without l)."
 abbrev pub mergeMarks : ℕ → ℕ → ℕ → ℕ
@@ -80,8 +81,8 @@ mergeFlag false true l a b = ltb l b
 -- "Merging base l, receiver a, giver b, strip by strip": strip k of the three boards
 unfoldable pub mergeStrip : List ℕ → List ℕ → List ℕ → ℕ → List ℕ
 mergeStrip l a b k =
-    word (mergeSetting (wordAt l (levelAt k)) (wordAt a (levelAt k)) (wordAt b (levelAt k)))
-    ++ word (mergeSetting (wordAt l (headingAt k)) (wordAt a (headingAt k)) (wordAt b (headingAt k)))
+    word (mergeValue (wordAt l (levelAt k)) (wordAt a (levelAt k)) (wordAt b (levelAt k)))
+    ++ word (mergeValue (wordAt l (headingAt k)) (wordAt a (headingAt k)) (wordAt b (headingAt k)))
     ++ word (mergeMarks (wordAt l (marksAt k)) (wordAt a (marksAt k)) (wordAt b (marksAt k)))
     ++ word (mergeCount (wordAt l (callsAt k)) (wordAt a (callsAt k)) (wordAt b (callsAt k)))
     ++ word (mergeCount (wordAt l (alertsAt k)) (wordAt a (alertsAt k)) (wordAt b (alertsAt k)))

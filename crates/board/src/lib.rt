@@ -12,7 +12,7 @@ ghost use lib.Bits.{bitOr};
 ghost use lib.ListN.{length, set};
 ghost use Rattle.buffer.specs.Field.{wordAt, putWord, part, same};
 ghost use Rattle.buffer.specs.Row.{bit};
-ghost use Rattle.board.specs.Board.{stripSize, stripCount, boardSize, marksAt, alertsAt, flagAt, flagOn, mergeSetting, mergeMarks, mergeCount, mergeFlag, mergeStrip, mergeBoard, markBit, without, enter};
+ghost use Rattle.board.specs.Board.{stripSize, stripCount, boardSize, marksAt, alertsAt, flagAt, flagOn, mergeValue, mergeMarks, mergeCount, mergeFlag, mergeStrip, mergeBoard, markBit, without, enter};
 ghost use Rattle.board.specs.LittleEndian.{swapped};
 
 // The bytes of a strip, the strips of a board, and its bytes.
@@ -38,11 +38,11 @@ const FLAG: usize = 10;
 const REST: usize = 11;
 
 // The marks of a strip.
-const MARK_COUNT: usize = 16;
+pub const MARK_COUNT: usize = 16;
 
 // A level or a heading of a merge: the giver's where the receiver kept the base's.
-fn merge_setting(l: usize, a: usize, b: usize) -> usize
-    ensures { λ r. ⌜ r ≡ mergeSetting l a b ⌝ }
+fn merge_value(l: usize, a: usize, b: usize) -> usize
+    ensures { λ r. ⌜ r ≡ mergeValue l a b ⌝ }
 {
     if a == l { b } else { a }
 }
@@ -104,14 +104,14 @@ fn put_le_word(s: &mut [u8], at: usize, x: usize)
 }
 
 // Writes a merged level or heading into a strip. The rule is the same whichever byte is first.
-fn merge_setting_at(s: &mut [u8], l: &[u8], a: &[u8], b: &[u8], at: usize)
+fn merge_value_at(s: &mut [u8], l: &[u8], a: &[u8], b: &[u8], at: usize)
     requires { ⌜ (at + 1 < length (now s)) × (at + 1 < length (now l)) × (at + 1 < length (now a)) × (at + 1 < length (now b)) ⌝ }
-    ensures { λ _. ⌜ now (s .exit) ≡ putWord (now (s .entry)) at (mergeSetting (wordAt (now (l .entry)) at) (wordAt (now (a .entry)) at) (wordAt (now (b .entry)) at)) ⌝ }
+    ensures { λ _. ⌜ now (s .exit) ≡ putWord (now (s .entry)) at (mergeValue (wordAt (now (l .entry)) at) (wordAt (now (a .entry)) at) (wordAt (now (b .entry)) at)) ⌝ }
 {
     put_le_word(
         s,
         at,
-        merge_setting(le_word_at(l, at), le_word_at(a, at), le_word_at(b, at)),
+        merge_value(le_word_at(l, at), le_word_at(a, at), le_word_at(b, at)),
     );
 }
 
@@ -157,8 +157,8 @@ fn merge_strip(s: &mut [u8], l: &[u8], a: &[u8], b: &[u8])
     requires { ⌜ (length (now s) ≡ stripSize) × (length (now l) ≡ stripSize) × (length (now a) ≡ stripSize) × (length (now b) ≡ stripSize) ⌝ }
     ensures { λ _. ⌜ now (s .exit) ≡ mergeStrip (now (l .entry)) (now (a .entry)) (now (b .entry)) 0 ⌝ }
 {
-    merge_setting_at(s, l, a, b, LEVEL);
-    merge_setting_at(s, l, a, b, HEADING);
+    merge_value_at(s, l, a, b, LEVEL);
+    merge_value_at(s, l, a, b, HEADING);
     merge_marks_at(s, l, a, b, MARKS);
     merge_count_at(s, l, a, b, CALLS);
     merge_alerts(s, l, a, b);

@@ -8,6 +8,10 @@ use lib.Count.{ones}
 use lib.ListN.{getD, set, drop}
 use Rattle.buffer.specs.Field.{allZero}
 
+-- the bytes of a whole row, of 1,024 members
+abbrev pub rowWidth : ℕ
+rowWidth = 128
+
 abbrev pub bit : Bool → ℕ
 bit true = 1
 bit false = 0

@@ -1,13 +1,13 @@
 // Bytes of a lent buffer: 16-bit fields, bit rows and parts. Nothing here knows the room unit.
 ghost use mathlib.Core.Path.{_≡_};
-ghost use Prim.Native.Nat.{_+_, _/_, _%_, _<_, _≤_};
+ghost use Prim.Native.Nat.{_+_, _*_, _/_, _%_, _<_, _≤_};
 ghost use lib.ListN.{length};
 ghost use Rattle.buffer.specs.Field.{wordAt, putWord, part, withPart, same, allZero, zeros};
-ghost use Rattle.buffer.specs.Row.{member, union, intersection, withMember, noneFrom, memberCount};
+ghost use Rattle.buffer.specs.Row.{rowWidth, member, union, intersection, withMember, noneFrom, memberCount};
 ghost use Rattle.buffer.specs.Word.{longWord};
 
 // The bytes of a row of 1,024 members.
-const ROW: usize = 128;
+const ROW_WIDTH: usize = 128;
 
 // A byte as a number of the machine's width.
 pub fn wide(b: u8) -> usize
@@ -87,12 +87,12 @@ pub fn is_intersection(s: &[u8], p: &[u8], q: &[u8]) -> bool
 // Whether the row s is p with v as a member besides. The row that it should be is made and compared whole, as loops of a length
 // that is known run on many bytes at a time.
 pub fn is_extended(s: &[u8], p: &[u8], v: usize) -> bool
-    requires { ⌜ length (now s) ≡ 128 ⌝ }
-    requires { ⌜ length (now p) ≡ 128 ⌝ }
-    requires { ⌜ v < 1024 ⌝ }
+    requires { ⌜ length (now s) ≡ rowWidth ⌝ }
+    requires { ⌜ length (now p) ≡ rowWidth ⌝ }
+    requires { ⌜ v < 8 * rowWidth ⌝ }
     ensures { λ r. ⌜ r ≡ same (now (s .entry)) (withMember (now (p .entry)) v) ⌝ }
 {
-    let mut extended = [0u8; ROW];
+    let mut extended = [0u8; ROW_WIDTH];
     copy(&mut extended, p);
     add_member(&mut extended, v);
     is_same(s, &extended)
@@ -100,13 +100,13 @@ pub fn is_extended(s: &[u8], p: &[u8], v: usize) -> bool
 
 // Whether the row s is the union of p and q with v as a member besides.
 pub fn is_extended_union(s: &[u8], p: &[u8], q: &[u8], v: usize) -> bool
-    requires { ⌜ length (now s) ≡ 128 ⌝ }
-    requires { ⌜ length (now p) ≡ 128 ⌝ }
-    requires { ⌜ length (now q) ≡ 128 ⌝ }
-    requires { ⌜ v < 1024 ⌝ }
+    requires { ⌜ length (now s) ≡ rowWidth ⌝ }
+    requires { ⌜ length (now p) ≡ rowWidth ⌝ }
+    requires { ⌜ length (now q) ≡ rowWidth ⌝ }
+    requires { ⌜ v < 8 * rowWidth ⌝ }
     ensures { λ r. ⌜ r ≡ same (now (s .entry)) (withMember (union (now (p .entry)) (now (q .entry))) v) ⌝ }
 {
-    let mut extended = [0u8; ROW];
+    let mut extended = [0u8; ROW_WIDTH];
     copy(&mut extended, p);
     add_extended(&mut extended, q, v);
     is_same(s, &extended)
@@ -190,11 +190,11 @@ pub fn add_member(dst: &mut [u8], v: usize)
 
 // Writes at a place the row that stands before it, with v as a member besides.
 pub fn put_extended(s: &mut [u8], from: usize, to: usize, v: usize)
-    requires { ⌜ (from + 128 ≤ to) × (to + 128 ≤ length (now s)) × (v < 1024) ⌝ }
-    ensures { λ _. ⌜ now (s .exit) ≡ withPart (now (s .entry)) to (withMember (part (now (s .entry)) from 128) v) ⌝ }
+    requires { ⌜ (from + rowWidth ≤ to) × (to + rowWidth ≤ length (now s)) × (v < 8 * rowWidth) ⌝ }
+    ensures { λ _. ⌜ now (s .exit) ≡ withPart (now (s .entry)) to (withMember (part (now (s .entry)) from rowWidth) v) ⌝ }
 {
-    let end = to + ROW;
-    copy_within(s, from, to, ROW);
+    let end = to + ROW_WIDTH;
+    copy_within(s, from, to, ROW_WIDTH);
     add_member(&mut s[to..end], v);
 }
 
@@ -210,13 +210,13 @@ fn add_extended(dst: &mut [u8], src: &[u8], v: usize)
 // Writes at a place the union of two rows that stand before it, with v as a member besides. Two parts of one slice cannot be lent at
 // once, so one of the rows is copied first.
 pub fn put_extended_union(s: &mut [u8], p: usize, q: usize, to: usize, v: usize)
-    requires { ⌜ (p + 128 ≤ to) × (q + 128 ≤ to) × (to + 128 ≤ length (now s)) × (v < 1024) ⌝ }
-    ensures { λ _. ⌜ now (s .exit) ≡ withPart (now (s .entry)) to (withMember (union (part (now (s .entry)) p 128) (part (now (s .entry)) q 128)) v) ⌝ }
+    requires { ⌜ (p + rowWidth ≤ to) × (q + rowWidth ≤ to) × (to + rowWidth ≤ length (now s)) × (v < 8 * rowWidth) ⌝ }
+    ensures { λ _. ⌜ now (s .exit) ≡ withPart (now (s .entry)) to (withMember (union (part (now (s .entry)) p rowWidth) (part (now (s .entry)) q rowWidth)) v) ⌝ }
 {
-    let mut other = [0u8; ROW];
-    copy(&mut other, part_of(s, q, ROW));
-    let end = to + ROW;
-    copy_within(s, p, to, ROW);
+    let mut other = [0u8; ROW_WIDTH];
+    copy(&mut other, part_of(s, q, ROW_WIDTH));
+    let end = to + ROW_WIDTH;
+    copy_within(s, p, to, ROW_WIDTH);
     add_extended(&mut s[to..end], &other, v);
 }
 
@@ -254,8 +254,8 @@ fn common_in_word(s: &[u8], t: &[u8]) -> usize
 pub fn common_members(s: &[u8], t: &[u8]) -> usize
     requires { ⌜ length (now s) ≡ length (now t) ⌝ }
     requires { ⌜ length (now s) % 8 ≡ 0 ⌝ }
-    requires { ⌜ length (now s) ≤ 128 ⌝ }
-    ensures { λ r. ⌜ (r ≡ memberCount (intersection (now (s .entry)) (now (t .entry)))) × (r ≤ 1024) ⌝ }
+    requires { ⌜ length (now s) ≤ rowWidth ⌝ }
+    ensures { λ r. ⌜ (r ≡ memberCount (intersection (now (s .entry)) (now (t .entry)))) × (r ≤ 8 * rowWidth) ⌝ }
 {
     let mut count = 0;
     let mut i = 0;

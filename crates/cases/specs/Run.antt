@@ -69,7 +69,8 @@ slot (some v) = suc v
 abbrev pub fourHeads : Room → List ℕ
 fourHeads r = slot (headOf r 0) ∷ slot (headOf r 1) ∷ slot (headOf r 2) ∷ slot (headOf r 3) ∷ []
 
--- "Each line: .. answer (0 or refusal), head of the console in the first operand", then the number of versions
+-- "Each line: .. answer (0 or refusal), head of the console in the first operand", then the number of versions. Of commands that are neither
+-- empty nor cut short, as the paper's are: the program stops at such a line, and this does not.
 unfoldable pub session : Room → List (List ℕ) → List ℕ
 session r [] = versionCount (r .versions) ∷ []
 session r (c ∷ cs) =

@@ -1,4 +1,4 @@
--- The cases that the paper marks *, in its order.
+-- The cases that the paper marks *, in its order, and before them the lines of the session that it prints.
 use Prim.Native.Nat.{ℕ, zero, suc, _+_}
 use mathlib.Core.Bool.{cond}
 use mathlib.Core.List.{List, [], _∷_, _++_}
@@ -53,7 +53,7 @@ stuckSteps =
 unfoldable pub stuck : Room
 stuck = made (fresh 64) stuckSteps
 
--- how many merges and fast-forwards a room accepts
+-- how many commands of one kind a room accepts: by the first n receivers from one giver, and by the first 4 receivers from the first n givers
 unfoldable pub acceptedBy : Room → (ℕ → ℕ → List ℕ) → ℕ → ℕ → ℕ
 acceptedBy r c zero giver = 0
 acceptedBy r c (suc a) giver = acceptedBy r c a giver + cond (eqb (answerIn r (decode (c a giver))) 0) 1 0

@@ -50,7 +50,7 @@ endRecord = 0x24
 abbrev pub isEntryCode : ℕ → Bool
 isEntryCode code = within 0x02 0x08 code
 
--- the kind of a code; which codes are commands is what has a kind here, and no range
+-- The kind of a code. The commands are the codes that have one, today 01 to 0A.
 unfoldable pub kindOf : ℕ → Kind
 kindOf code =
     cond (eqb code forkCommand) kind-is.Fork
@@ -80,7 +80,7 @@ shapeOf code =
     (cond (eqb code headRecord) (Known 1 2 0 0)
     (cond (eqb code endRecord) (Known 0 0 0 0) Unknown)))))))))
 
--- the paper's number for a shape: 0, or for an unknown code the refusal of who asks: 1 of a command, 7 of a tape
+-- what refuses a shape: nothing (0), or for an unknown code the number given by whoever asks
 abbrev pub shapeRefusal : ℕ → Shape → ℕ
 shapeRefusal number (Known a b c d) = 0
 shapeRefusal number Unknown = number

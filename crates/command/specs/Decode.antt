@@ -19,6 +19,7 @@ use Rattle.command.specs.Code.{within, forkCommand, mergeCommand, fastFo
 abbrev pub codeIn : List ℕ → ℕ
 codeIn s = getD s 0 0
 
+-- a code is a command's: it has a kind
 abbrev pub isCommandCode : ℕ → Bool
 isCommandCode code = eqb (kindRefusal (kindOf code)) 0
 

@@ -1,4 +1,5 @@
 // Which numbers may stand in a command or a record: codes, consoles, strips and operands.
+use board::MARK_COUNT;
 use board::STRIP_COUNT;
 ghost use mathlib.Core.Path.{_≡_};
 ghost use Rattle.command.specs.Code.{isEntryCode, isConsole, isStrip, isOperand};
@@ -6,9 +7,7 @@ ghost use Rattle.command.specs.Code.{isEntryCode, isConsole, isStrip, is
 // The number of consoles.
 pub const CONSOLES: usize = 16;
 
-// The number of marks.
-const MARKS: usize = 16;
-
+// The highest level and heading.
 const HIGHEST_LEVEL: usize = 600;
 
 const HIGHEST_HEADING: usize = 360;
@@ -41,8 +40,8 @@ pub fn is_operand(code: usize, x: usize) -> bool
     match code {
         0x02 => x <= HIGHEST_LEVEL,
         0x03 => x <= HIGHEST_HEADING,
-        0x04 => x < MARKS,
-        0x05 => x < MARKS,
+        0x04 => x < MARK_COUNT,
+        0x05 => x < MARK_COUNT,
         _ => x == 0,
     }
 }

@@ -12,7 +12,7 @@ use lib.Dec.{eqb}
 use borrow.Author.Tests.{eqb-true, eq-eqb, ne-eqb}
 use Rattle.laws.proofs.Logic.{clash, and-l, and-r, or-l, or-r, or-split, cond-true, cond-false}
 use Rattle.graph.specs.declared.Node.{Node}
-use Rattle.graph.specs.Graph.{Graph, versionCount, someParent, ancestor, nodeOf, entryNode, isEntry, everyVersion, parentsLower}
+use Rattle.graph.specs.Graph.{Graph, versionCount, someParent, ancestor, nodeOf, isEntryNode, isEntry, everyVersion, parentsLower}
 use Rattle.graph.proofs.Parent.{Parent, a-parent, parent-to, parent-from, parent-lower}
 
 -- a test of every version holds at the newest, and of those before it
@@ -47,11 +47,11 @@ nodeOf-other n g v d = cond-false (eqb v (versionCount g)) _ _ (ne-eqb v (versio
 pub nodeOf-old : (n : Node) (g : Graph) (v : ℕ) → v < versionCount g → nodeOf (n ∷ g) v ≡ nodeOf g v
 nodeOf-old n g v l = nodeOf-other n g v (omega arith)
 
-pub isEntry-new : (n : Node) (g : Graph) → isEntry (n ∷ g) (versionCount g) ≡ entryNode (some n)
-isEntry-new n g = ap entryNode (nodeOf-new n g)
+pub isEntry-new : (n : Node) (g : Graph) → isEntry (n ∷ g) (versionCount g) ≡ isEntryNode (some n)
+isEntry-new n g = ap isEntryNode (nodeOf-new n g)
 
 pub isEntry-old : (n : Node) (g : Graph) (v : ℕ) → v < versionCount g → isEntry (n ∷ g) v ≡ isEntry g v
-isEntry-old n g v l = ap entryNode (nodeOf-old n g v l)
+isEntry-old n g v l = ap isEntryNode (nodeOf-old n g v l)
 
 -- in the graph of version 0 alone
 pub ancestor-first : (u v : ℕ) → ancestor [] u v ≡ true → (u ≡ 0) × (v ≡ 0)
@@ -151,5 +151,5 @@ pub isEntry-named : (g : Graph) (v : ℕ) → isEntry g v ≡ true → (0 < v) �
 isEntry-named g v h = go (nodeOf g v) refl
   where
     go : (o : Option Node) → nodeOf g v ≡ o → (0 < v) × (v < versionCount g)
-    go none e = clash h (ap entryNode e)
+    go none e = clash h (ap isEntryNode e)
     go (some n) e = nodeOf-named g v n e

@@ -42,14 +42,15 @@ unfoldable pub nodeOf : Graph → ℕ → Option Node
 nodeOf [] v = none
 nodeOf (n ∷ g) v = cond (eqb v (versionCount g)) (some n) (nodeOf g v)
 
-abbrev pub entryNode : Option Node → Bool
-entryNode none = false
-entryNode (some (Entry p code strip operand)) = true
-entryNode (some (Merge p q)) = false
+-- what made a version is an entry
+abbrev pub isEntryNode : Option Node → Bool
+isEntryNode none = false
+isEntryNode (some (Entry p code strip operand)) = true
+isEntryNode (some (Merge p q)) = false
 
 -- version v is an entry
 abbrev pub isEntry : Graph → ℕ → Bool
-isEntry g v = entryNode (nodeOf g v)
+isEntry g v = isEntryNode (nodeOf g v)
 
 abbrev pub commonAncestor : Graph → ℕ → ℕ → ℕ → Bool
 commonAncestor g u v w = ancestor g w u && ancestor g w v

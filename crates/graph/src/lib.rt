@@ -9,7 +9,7 @@ pub struct Console(pub usize);
 // The number of a strip of a board.
 pub struct Strip(pub usize);
 
-// What made a version after version 0; the base of a merge is a function of its parents.
+// What made a version after version 0; the base of a merge is a function of its parents and of the versions before it.
 pub enum Node {
     Entry {
         parent: Version,

@@ -27,6 +27,10 @@ pub and-r : (a b : Bool) → a && b ≡ true → b ≡ true
 and-r true b h = h
 and-r false b h = clash h refl
 
+pub and-none : (a b : Bool) → a ≡ false → a && b ≡ false
+and-none true b h = clash refl h
+and-none false b h = refl
+
 pub and-i : (a b : Bool) → a ≡ true → b ≡ true → a && b ≡ true
 and-i true b p q = q
 and-i false b p q = p
@@ -84,6 +88,15 @@ pub not-e : (a : Bool) → not a ≡ true → a ≡ false
 not-e true h = sym h
 not-e false h = refl
 
+-- a test or the same test; two tests of which not both hold
+pub or-same : (b : Bool) → b || b ≡ b
+or-same true = refl
+or-same false = refl
+
+pub not-both : (a b : Bool) → not a || not b ≡ not (a && b)
+not-both true b = refl
+not-both false b = refl
+
 -- two tests that are true together are equal
 pub bool-ext : (a b : Bool) → (a ≡ true → b ≡ true) → (b ≡ true → a ≡ true) → a ≡ b
 bool-ext true true f g = refl
@@ -119,3 +132,7 @@ module _ {ℓ} {A : Type ℓ} where
   pub cond-false : (b : Bool) (x y : A) → b ≡ false → cond b x y ≡ y
   cond-false true x y h = clash refl h
   cond-false false x y h = refl
+
+  pub cond-same : (b : Bool) (x : A) → cond b x x ≡ x
+  cond-same true x = refl
+  cond-same false x = refl

@@ -7,8 +7,8 @@ use query::settings_of;
 use query::version_count;
 use tape::END_LENGTH;
 use tape::START_LENGTH;
-use tape::writer::put_end;
-use tape::writer::put_start;
+use tape::writer::put_end_record;
+use tape::writer::put_start_record;
 ghost use mathlib.Core.Path.{_≡_};
 ghost use mathlib.Core.Bool.{true};
 ghost use Prim.Native.Nat.{_≤_};
@@ -16,11 +16,12 @@ ghost use lib.ListN.{length};
 ghost use Rattle.buffer.specs.Field.{overwrite};
 ghost use Rattle.store.specs.Layout.{roomIn, holdsStore};
 ghost use Rattle.tape.specs.Tape.{tapeOf};
+ghost use Rattle.pause.specs.Pieces.{longestTape};
 
 // How many bytes the tape of a store takes.
 pub fn tape_length(s: &[u8]) -> usize
     requires { ⌜ holdsStore (now s) ≡ true ⌝ }
-    ensures { λ r. ⌜ (r ≡ length (tapeOf (roomIn (now (s .entry))))) × (r ≤ 8192) ⌝ }
+    ensures { λ r. ⌜ (r ≡ length (tapeOf (roomIn (now (s .entry))))) × (r ≤ longestTape) ⌝ }
 {
     START_LENGTH
         + measure::versions_length(s, version_count(s) - 1)
@@ -34,8 +35,8 @@ pub fn write_tape(s: &[u8], tape: &mut [u8])
     requires { ⌜ length (tapeOf (roomIn (now s))) ≤ length (now tape) ⌝ }
     ensures { λ _. ⌜ now (tape .exit) ≡ overwrite (tapeOf (roomIn (now (s .entry)))) (now (tape .entry)) ⌝ }
 {
-    let versions = put_start(tape, settings_of(s));
-    let heads = write::put_versions(s, version_count(s) - 1, tape, versions);
-    let end = write::put_heads(s, tape, heads);
-    put_end(tape, end);
+    let versions = put_start_record(tape, settings_of(s));
+    let heads = write::put_version_records(s, version_count(s) - 1, tape, versions);
+    let end = write::put_head_records(s, tape, heads);
+    put_end_record(tape, end);
 }

@@ -11,13 +11,14 @@ ghost use mathlib.Core.Bool.{true};
 ghost use Prim.Native.Nat.{suc, _*_, _<_, _≤_};
 ghost use lib.ListN.{length};
 ghost use Rattle.command.specs.Code.{consoleCount};
+ghost use Rattle.room.specs.Sound.{maxCapacity};
 ghost use Rattle.store.specs.Layout.{blockAt, roomIn, holdsStore};
 ghost use Rattle.tape.specs.Record.{longestRecord};
 ghost use Rattle.pause.specs.Pieces.{versionPieces, headPiece, headPieces};
 
 // The length of the records of versions 1 to n.
 pub fn versions_length(s: &[u8], n: usize) -> usize
-    requires { ⌜ (n < 1024) × (blockAt (suc n) ≤ length (now s)) ⌝ }
+    requires { ⌜ (n < maxCapacity) × (blockAt (suc n) ≤ length (now s)) ⌝ }
     ensures { λ r. ⌜ (r ≡ length (versionPieces (now (s .entry)) n)) × (r ≤ longestRecord * n) ⌝ }
 {
     let mut sum = 0;

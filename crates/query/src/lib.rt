@@ -20,6 +20,7 @@ ghost use lib.ListN.{length};
 ghost use Rattle.board.specs.Board.{boardSize};
 ghost use Rattle.graph.specs.Graph.{versionCount, ancestor};
 ghost use Rattle.command.specs.Code.{consoleCount};
+ghost use Rattle.room.specs.Sound.{maxCapacity};
 ghost use Rattle.room.specs.Room.{present, head, common, heardCount};
 ghost use Rattle.room.specs.Boards.{boardOf};
 ghost use Rattle.store.specs.Layout.{roomIn, holdsStore};
@@ -27,7 +28,7 @@ ghost use Rattle.store.specs.Layout.{roomIn, holdsStore};
 // What the room is set to.
 pub fn settings_of(s: &[u8]) -> Settings
     requires { ⌜ holdsStore (now s) ≡ true ⌝ }
-    ensures { λ r. ⌜ (r ≡ roomIn (now (s .entry)) .settings) × (r .capacity ≤ 1024) ⌝ }
+    ensures { λ r. ⌜ (r ≡ roomIn (now (s .entry)) .settings) × (r .capacity ≤ maxCapacity) ⌝ }
 {
     read_settings(s)
 }
@@ -35,7 +36,7 @@ pub fn settings_of(s: &[u8]) -> Settings
 // How many versions it holds, version 0 included.
 pub fn version_count(s: &[u8]) -> usize
     requires { ⌜ holdsStore (now s) ≡ true ⌝ }
-    ensures { λ r. ⌜ (r ≡ versionCount (roomIn (now (s .entry)) .versions)) × (r ≤ 1024) ⌝ }
+    ensures { λ r. ⌜ (r ≡ versionCount (roomIn (now (s .entry)) .versions)) × (r ≤ maxCapacity) ⌝ }
 {
     word_at(s, COUNT)
 }
@@ -81,7 +82,7 @@ pub fn is_ancestor(s: &[u8], u: Version, v: Version) -> bool
 pub fn heard_count(s: &[u8], c: Console) -> usize
     requires { ⌜ holdsStore (now s) ≡ true ⌝ }
     requires { ⌜ c .0 < consoleCount ⌝ }
-    ensures { λ r. ⌜ (r ≡ heardCount (roomIn (now (s .entry))) (c .0)) × (r ≤ 1024) ⌝ }
+    ensures { λ r. ⌜ (r ≡ heardCount (roomIn (now (s .entry))) (c .0)) × (r ≤ maxCapacity) ⌝ }
 {
     let v = head_of(s, c);
     common_members(entries_part(s), row_part(s, v))

@@ -1,13 +1,14 @@
 -- Which refusal of a list is given; where none is, the case of none is there.
 -- Assumes nothing.
-use Prim.Native.Nat.{ℕ, _<_}
-use mathlib.Core.Path.{_≡_, refl}
+use Prim.Native.Nat.{ℕ, zero, suc, _<_}
+use mathlib.Core.Path.{_≡_, refl, sym, _∙_}
 use mathlib.Core.Logic.{_≢_}
 use mathlib.Core.Bool.{Bool, true, false, not, _&&_}
 use mathlib.Core.List.{List, [], _∷_, _++_}
 use native.Mathlib.Omega.{arith}
 use lib.Dec.{eqb}
-use Rattle.laws.proofs.Logic.{and-l, and-r, not-e}
+use borrow.Author.Tests.{eq-eqb, ne-eqb}
+use Rattle.laws.proofs.Logic.{and-l, and-r, not-e, cond-true, cond-false}
 use Rattle.refusal.specs.Refusal.{_when_, firstRefusal, firstOf}
 
 -- a refusal whose case is there is given, and one whose case is not leaves the later ones
@@ -52,3 +53,16 @@ unfolding firstRefusal
 first-append [] b h = refl
 first-append ((number, true) ∷ later) b h = rw (not-e (eqb number 0) (and-l (not (eqb number 0)) (numbered later) h))
 first-append ((number, false) ∷ later) b h = first-append later b (and-r (not (eqb number 0)) (numbered later) h)
+
+-- what the first group gives is given; where it gives none, the second group's is
+module _ (a b : List (ℕ × Bool)) (h : numbered a ≡ true) (n : ℕ) (e : n ≡ firstRefusal a) where
+  pub first-given : n ≢ 0 → n ≡ firstRefusal (a ++ b)
+  first-given given = e ∙ sym (first-append a b h ∙ cond-false _ _ _ (ne-eqb (firstRefusal a) 0 (rw e at given)))
+
+  pub first-later : n ≡ 0 → firstRefusal b ≡ firstRefusal (a ++ b)
+  first-later none = sym (first-append a b h ∙ cond-true _ _ _ (eq-eqb (firstRefusal a) 0 (sym e ∙ none)))
+
+-- where neither of two is given, none is
+pub first-none : (a b : ℕ) → firstOf a b ≡ 0 → (a ≡ 0) × (b ≡ 0)
+first-none zero b h = (refl, h)
+first-none (suc a) b h = absurd (omega (arith, rw (ne-eqb (suc a) 0 (omega arith)) at h))

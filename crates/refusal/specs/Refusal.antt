@@ -1,5 +1,5 @@
 -- "Of several that apply, the lowest is given." The refusals that a call can give stand in a list, in the order in which they are tested,
--- and the first that applies is given, or 0 where none does. Every list here rises, so the first is the lowest.
+-- and the first that applies is given, or 0 where none does. Every list of the definitions rises, so the first is the lowest.
 use Prim.Native.Nat.{ℕ}
 use mathlib.Core.Bool.{Bool, cond}
 use mathlib.Core.List.{List, [], _∷_}

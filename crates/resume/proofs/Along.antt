@@ -16,7 +16,7 @@ use Rattle.command.specs.Code.{shapeOf, lengthOf}
 use Rattle.tape.specs.Record.{recordIn}
 use Rattle.tape.specs.Tape.{Content, contentOf}
 use Rattle.tape.specs.Reader.{placeAfter, nodeOn, headOn, firstVersions, nextNode, firstHeads, nextHead, versionPlace, headPlace}
-use Rattle.tape.proofs.Records.{Bytes}
+use Rattle.buffer.proofs.Parts.{Bytes}
 use Rattle.tape.proofs.Located.{VersionAt, HeadAt, first-place, version-at, head-at}
 
 -- the first k of the records have been read, up to a place; they stand in a list the last first

@@ -18,19 +18,15 @@ use Rattle.graph.specs.declared.Node.{Node}
 use Rattle.graph.specs.Graph.{Graph, entry, merge, versionCount, ancestor}
 use Rattle.graph.proofs.Ancestor.{ancestor-new, ancestor-old}
 use Rattle.store.specs.Layout.{rowSize}
-use Rattle.store.proofs.Lineage.{lineage, entry-lineage, merge-lineage}
+use Rattle.store.proofs.Lineage.{lineage, root-lineage, entry-lineage, merge-lineage}
 use Rattle.resume.specs.Rows.{rowsSize, ownRow, RowsOf}
-
-root-line : withMember (zeros 128) 0 ≡ lineage [] 0
-unfolding rowFrom ancestor
-root-line = refl
 
 pub rows-root : (t : List ℕ) → length t ≡ rowsSize → RowsOf (withPart t 0 (withMember (zeros 128) 0)) []
 rows-root t long =
-    let size : length (withMember (zeros 128) 0) ≡ 128 = ap length root-line ∙ rowFrom-length (λ u. ancestor [] u 0) 0 rowSize in
+    let size : length (withMember (zeros 128) 0) ≡ 128 = ap length root-lineage ∙ rowFrom-length (λ u. ancestor [] u 0) 0 rowSize in
     record {
       long = with-length t (withMember (zeros 128) 0) 0 (omega arith) ∙ long;
-      shown = λ v l. let z : v ≡ 0 = omega arith in rw z (with-here t (withMember (zeros 128) 0) 0 (omega arith) 128 size ∙ root-line);
+      shown = λ v l. let z : v ≡ 0 = omega arith in rw z (with-here t (withMember (zeros 128) 0) 0 (omega arith) 128 size ∙ root-lineage);
     }
 
 -- a row written behind those of a graph

@@ -19,23 +19,23 @@ use Rattle.graph.proofs.Below.{highest-of, highest-some}
 use Rattle.resume.specs.Rows.{highestCommon}
 
 -- no member from k bytes on is in both rows
-pub record Apart (p q : List ℕ) (k : ℕ) : Type 0 where
+pub record NoneAbove (p q : List ℕ) (k : ℕ) : Type 0 where
   pub within : k ≤ 128
   pub none : (v : ℕ) → 8 * k ≤ v → v < 1024 → member p v && member q v ≡ false
 
-pub apart-start : (p q : List ℕ) → Apart p q 128
+pub apart-start : (p q : List ℕ) → NoneAbove p q 128
 apart-start p q = record { within = omega arith; none = λ v a b. absurd (omega arith) }
 
 -- the byte of v, and the bit in it
 shared-at : (p q : List ℕ) (k v : ℕ) → v / 8 ≡ k → member p v && member q v ≡ eqb (bitAnd (getD p k 0) (getD q k 0) / 2 ^ (v % 8) % 2) 1
 shared-at p q k v e = member-both p q v ∙ ap (λ (i : ℕ). eqb (bitAnd (getD p i 0) (getD q i 0) / 2 ^ (v % 8) % 2) 1) e
 
-module _ {p q : List ℕ} {k : ℕ} (a : Apart p q k) (some-left : 0 < k) where
+module _ {p q : List ℕ} {k : ℕ} (a : NoneAbove p q k) (some-left : 0 < k) where
   abbrev x : ℕ
   x = bitAnd (getD p (k - 1) 0) (getD q (k - 1) 0)
 
   -- the last byte has no member of both
-  pub apart-more : x ≡ 0 → Apart p q (k - 1)
+  pub apart-more : x ≡ 0 → NoneAbove p q (k - 1)
   apart-more e =
       record {
         within = omega (arith, a .within);
@@ -67,7 +67,7 @@ module _ {p q : List ℕ} {k : ℕ} (a : Apart p q k) (some-left : 0 < k) where
       )
 
 -- no member at all
-pub apart-all : (p q : List ℕ) → Apart p q 0 → 0 ≡ highestCommon p q
+pub apart-all : (p q : List ℕ) → NoneAbove p q 0 → 0 ≡ highestCommon p q
 apart-all p q a = go (highestBelow 1024 (λ v. member p v && member q v)) refl
   where
     go : (o : Option ℕ) → highestBelow 1024 (λ v. member p v && member q v) ≡ o → 0 ≡ Option·getD o 0

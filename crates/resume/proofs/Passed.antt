@@ -20,7 +20,7 @@ use Rattle.store.specs.Rules.{nodeInRange}
 use Rattle.tape.specs.Record.{recordIn}
 use Rattle.tape.specs.Tape.{Content, contentOf, consolesRise, headsNamed, inRange}
 use Rattle.tape.specs.Reader.{placeAfter, nodeOn, headOn, headPlace}
-use Rattle.tape.proofs.Records.{Bytes}
+use Rattle.buffer.proofs.Parts.{Bytes}
 use Rattle.resume.specs.Ranges.{versionsInRange, consoleFollows, headInRange}
 use Rattle.resume.proofs.Along.{Versions, Heads, along-none, along-all, versions-none, version-number, version-more, head-more}
 use Rattle.resume.proofs.Follows.{lastConsole, rising, risen}

@@ -24,7 +24,7 @@ use Rattle.update.specs.Commons.{putHead}
 use Rattle.tape.specs.Record.{recordIn}
 use Rattle.tape.specs.Tape.{Content, contentOf, consolesRise, headsNamed}
 use Rattle.tape.specs.Reader.{placeAfter, nodeOn, headOn, firstVersions, headPlace}
-use Rattle.tape.proofs.Records.{Bytes}
+use Rattle.buffer.proofs.Parts.{Bytes}
 use Rattle.resume.specs.Ranges.{versionsInRange}
 use Rattle.resume.specs.Rows.{RowsOf}
 use Rattle.resume.specs.Heads.{headTable}

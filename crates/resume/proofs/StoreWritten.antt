@@ -1,6 +1,6 @@
 -- A fresh store into which the versions of a tape were written, and then its count and its table of commons, is the store of the tape's room.
 -- Assumes nothing.
-use mathlib.Core.Path.{_≡_, ap, subst, _∙_}
+use mathlib.Core.Path.{_≡_, refl, ap, subst, _∙_}
 use mathlib.Core.Bool.{true}
 use mathlib.Core.List.{List, []}
 use Prim.Native.Nat.{ℕ, _+_, _-_, _≤_, _<_}
@@ -22,12 +22,11 @@ use Rattle.room.proofs.Sound.{sound-facts}
 use Rattle.room.proofs.Steps.{fresh-sound}
 use Rattle.store.specs.Layout.{headerSize, rowSize, storeSize, countAt, entriesAt, commonsAt, commonsSize, commonsEnd, blockAt, commonTable, encode}
 use Rattle.store.proofs.Blocks.{commonTable-length, block-length, table-field}
-use Rattle.store.proofs.Joined.{Placed, placed, join-encode}
-use Rattle.store.proofs.Overwritten.{overwritten}
+use Rattle.store.proofs.Joined.{Placed, placed}
+use Rattle.store.proofs.Changed.{Changed, changed-store}
 use Rattle.store.proofs.Ranges.{ranges}
 use Rattle.store.proofs.RoundTrip.{encode-length}
 use Rattle.update.proofs.AppendedBlocks.{Standing}
-use Rattle.update.proofs.GrownStore.{free-later}
 use Rattle.tape.specs.Tape.{Content, roomOf}
 use Rattle.resume.specs.Writing.{withHeader}
 use Rattle.resume.proofs.VersionsWritten.{Built}
@@ -102,16 +101,7 @@ module _ (t : Content) (sound : soundRoom (roomOf t) ≡ true) (old : List ℕ) 
     stays : (k : ℕ) → (commonsAt ≤ k → k < commonsEnd → ⊥) → (countAt ≤ k → k < countAt + 2 → ⊥) → getD final k 0 ≡ getD now k 0
     stays k a b = outside k a ∙ put-other now countAt n k (λ e. b (omega arith) (omega arith)) (λ e. b (omega arith) (omega arith))
 
-    -- no byte of the count, of the row of entries, of the table, or of a block after the first
-    abbrev Old : ℕ → Type 0
-    Old k = (countAt ≤ k → k < countAt + 2 → ⊥) × (entriesAt ≤ k → k < commonsEnd → ⊥) × (blockAt 1 ≤ k → k < blockAt n → ⊥)
-
-    same : (k : ℕ) → Old k → getD final k 0 ≡ getD s k 0
-    same k o =
-        stays k (λ x y. o .1 (omega arith) y) (o .0)
-        ∙ built .kept k (o .2) (λ x y. o .1 x (omega arith))
-
-    whole : Placed final r
+    whole : Changed s final (freshRoom (t .settings)) r
     whole =
         let k = ranges r sound in
         let l = table-long in
@@ -120,14 +110,14 @@ module _ (t : Content) (sound : soundRoom (roomOf t) ≡ true) (old : List ℕ) 
         let wide = rowFrom-length (isEntry (t .versions)) 0 rowSize in
         let there = with-stands counted table commonsAt (omega arith) in
         record {
-          settings = stands-kept (parts .settings) (λ i x y. same i (omega arith));
+          settings = refl;
+          more = omega arith;
+          fits = k .count;
+          kept = λ i o. stays i (λ x y. o .1 (omega arith) y) (o .0) ∙ built .kept i (o .2) (λ x y. o .1 x (omega arith));
           count = stands-kept (put-stands now countAt n (omega (arith, now-long))) (λ i x y. outside i (omega arith));
-          gap = stands-kept (parts .gap) (λ i x y. same i (omega arith));
           entries = stands-kept (built .standing .entries) (λ i x y. stays i (omega arith) (omega arith));
           commons = table-field r commonsAt (subst (Stands final commonsAt) common there);
-          rest = stands-kept (parts .rest) (λ i x y. same i (omega (arith, zeros-length (headerSize - commonsEnd))));
           versions = λ v b. let long-block = block-length (t .versions) v in stands-kept (built .standing .versions v b) (λ i x y. stays i (omega arith) (omega arith));
-          free = free-later 1 n (t .settings .capacity) (omega arith) (k .count) (parts .free) (λ i x. same i (omega arith));
         }
 
     pub store-whole : {versions : ℕ} {end : List ℕ} → versions ≡ length (t .versions) → end ≡ withHeader now (versions + 1) header
@@ -136,10 +126,7 @@ module _ (t : Content) (sound : soundRoom (roomOf t) ≡ true) (old : List ℕ) 
     store-whole {versions} {end} v e =
         let count : versions + 1 ≡ n = omega arith in
         let there : end ≡ final = rw count at e in
-        let k = ranges r sound in
         let l = table-long in
         let c = counted-long in
         let h = large in
-        there
-        ∙ overwritten old final r sound (join-encode r whole) fits (with-length counted table commonsAt (omega arith) ∙ counted-long)
-        (λ i b. same i (omega arith) ∙ opened-behind i b)
+        there ∙ changed-store parts whole old sound fits (with-length counted table commonsAt (omega arith) ∙ counted-long) opened-behind

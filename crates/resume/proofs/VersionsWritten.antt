@@ -28,7 +28,7 @@ use Rattle.update.proofs.AppendedBlocks.{Standing, Grew, entry-grew, merge-grew
 use Rattle.tape.specs.Record.{recordIn}
 use Rattle.tape.specs.Tape.{Content, contentOf, roomOf}
 use Rattle.tape.specs.Reader.{placeAfter, nodeOn, firstVersions}
-use Rattle.tape.proofs.Records.{Bytes}
+use Rattle.buffer.proofs.Parts.{Bytes}
 use Rattle.resume.specs.Rows.{ownRow, RowsOf, fieldWhen, meetField}
 use Rattle.resume.specs.Versions.{baseIn}
 use Rattle.resume.proofs.Along.{Versions, along-all, versions-none, version-number, version-first, version-more}

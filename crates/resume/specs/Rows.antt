@@ -24,7 +24,7 @@ rowsSize = rowSize * maxCapacity
 abbrev pub ownRow : List ℕ → ℕ → List ℕ
 ownRow t v = part t (rowSize * v) rowSize
 
--- the rows of all versions of a graph stand in t
+-- the rows of all versions of a graph stand in t; the bytes past the last are left free
 pub record RowsOf (t : List ℕ) (g : Graph) : Type 0 where
   pub long : length t ≡ rowsSize
   pub shown : (v : ℕ) → v < versionCount g → ownRow t v ≡ row (λ u. ancestor g u v) rowSize

@@ -104,7 +104,8 @@ fn put_heads(tape: &[u8], from: usize, heads: usize, header: &mut [u8])
     }
 }
 
-// Writes the table of common versions of a whole tape's heads into an empty header, and says whether every two heads have one.
+// Writes the table of common versions of a whole tape's heads into an empty header, and says whether every two heads have one. Left free:
+// the header outside the table, and all of it where two heads have none.
 pub fn build_commons(tape: &[u8], from: usize, heads: usize, rows: &[u8], header: &mut [u8]) -> bool
     requires { ⌜ contentOf (now tape) ≡ some (contentIn (now tape)) ⌝ }
     requires { ⌜ (consolesRise (contentIn (now tape) .heads) ≡ true) × (headsNamed (contentIn (now tape) .versions) (contentIn (now tape) .heads) ≡ true) ⌝ }

@@ -83,6 +83,7 @@ fn heads_in_range(tape: &[u8], first: usize, count: usize, heads: usize) -> bool
 }
 
 // Whether what a whole tape says is in range, and then where its first head record stands. Refusal 9 is for one that is not.
+// Left free: the place, where the tape is not in range.
 pub fn tape_in_range(tape: &[u8], settings: Settings, versions: usize, heads: usize) -> Seen
     requires { ⌜ contentOf (now tape) ≡ some (contentIn (now tape)) ⌝ }
     requires { ⌜ (settings ≡ contentIn (now tape) .settings) × (versions ≡ length (contentIn (now tape) .versions)) × (heads ≡ length (contentIn (now tape) .heads)) ⌝ }

@@ -59,7 +59,7 @@ fn build_rows(tape: &[u8], versions: usize, rows: &mut [u8]) -> bool
 }
 
 // Whether the room of a whole tape in range is sound. The rows of its versions are left in rows, and of a sound room the table of common
-// versions in header.
+// versions in header. Left free: the rows past the last version's, the header outside the table, and all of it where the room is not sound.
 pub fn gives_sound_room(
     tape: &[u8],
     versions: usize,

@@ -9,8 +9,8 @@ use Rattle.graph.specs.Graph.{Graph, versionCount, ancestor, isEntry, meetNumbe
 use Rattle.command.specs.Code.{consoleCount}
 use Rattle.room.specs.declared.Settings.{Settings}
 
--- Rows, boards, bases and commons are functions of these three: what the room is set to, its versions and its heads. Versions, consoles and strips are plain numbers here, as they are counted,
--- compared and looked up; a value of the code (a command, a record of a tape) has them as tuple structs.
+-- Rows, boards, bases and commons are functions of these three: what the room is set to, its versions and its heads. The versions are the
+-- code's own nodes; a head, and a version or console that is asked after, is a plain number here, as it is counted, compared and looked up.
 pub record Room : Type 0 where
   pub settings : Settings
   pub versions : Graph
@@ -40,7 +40,7 @@ hears r c v = isEntry (r .versions) v && ancestor (r .versions) v (head r c)
 unfoldable pub heardCount : Room → ℕ → ℕ
 heardCount r c = countBelow (versionCount (r .versions)) (hears r c)
 
--- "Opening makes version 0 with console 0 on it.": so set
+-- "Opening makes version 0 with console 0 on it.", in a room with these settings
 abbrev pub freshRoom : Settings → Room
 freshRoom settings = record { settings = settings; versions = []; heads = set (replicate consoleCount none) 0 (some 0) }
 

@@ -29,7 +29,7 @@ abbrev pub entryInRange : Graph → Node → Bool
 entryInRange g (Entry p code strip operand) = isEntryCode code && isStrip (strip .0) && isOperand code operand
 entryInRange g (Merge p q) = true
 
--- a head names a version
+-- a head names a version; an absent console has none to name
 abbrev pub namesVersion : Graph → Option ℕ → Bool
 namesVersion g none = true
 namesVersion g (some v) = ltb v (versionCount g)

@@ -34,12 +34,12 @@ splits r receiver giver k =
 abbrev pub someThirdSplits : Room → ℕ → ℕ → Bool
 someThirdSplits r receiver giver = someBelow consoleCount (splits r receiver giver)
 
--- "18 entry or merge: no version left.": a version is left
+-- a version is left, which is what "18 entry or merge: no version left." asks for
 abbrev pub versionLeft : Room → Bool
 versionLeft r = ltb (versionCount (r .versions)) (r .settings .capacity)
 
--- The tests of a command in the state of a room, in their order, given whether a version is left: 18 asks for nothing else. "12 a named
--- console is absent (fork: the old one). 13 fork's new console is present. 14 merge or fast-forward: giver's head is an ancestor of
+-- The tests of a command in the state of a room, in their order, given whether a version is left, which
+-- is all that 18 asks of the room's size. "12 a named console is absent (fork: the old one). 13 fork's new console is present. 14 merge or fast-forward: giver's head is an ancestor of
 -- receiver's. 15 merge: receiver's head is an ancestor of giver's. 16 fast-forward: receiver's head isn't an ancestor of giver's."
 abbrev pub receiverGiverTests : Room → ℕ → ℕ → List (ℕ × Bool)
 receiverGiverTests r receiver giver =
@@ -90,8 +90,9 @@ grown r c n =
       heads = set (r .heads) c (some (versionCount (r .versions)));
     }
 
--- "Codes 02 to 08 make an entry version on the console's head, also when nothing visible changes." "Fork gives the new console the old one's head and makes no version.
--- Fast-forward gives the receiver the giver's head and makes no version. Merge makes a version on the receiver."
+-- "Codes 02 to 08 make an entry version on the console's head, also when nothing visible changes." "Fork gives the new console the old
+-- one's head and makes no version. Fast-forward gives the receiver the giver's head and makes no version. Merge makes a version on the
+-- receiver."
 unfoldable pub step : Room → Command → Room
 step r (Fork new old) = moved r (new .0) (headOf r (old .0))
 step r (Entry console code strip operand) =

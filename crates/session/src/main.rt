@@ -8,7 +8,9 @@ use command::decoder::widths_of;
 use io::print_decimal;
 use io::read_full;
 use io::write_all;
+use store::places::BLOCK;
 use store::places::COUNT;
+use store::places::HEADER;
 use unit::commands::room_command;
 use unit::opening::room_open;
 use unit::questions::room_common;
@@ -21,9 +23,9 @@ ghost use Rattle.command.specs.Code.{shapeOf, lengthOf};
 ghost use Rattle.command.specs.Decode.{isCommandCode};
 ghost use Rattle.io.specs.Counts.{Counts};
 
-const CAPACITY: u32 = 64;
+const SESSION_CAPACITY: u32 = 64;
 
-const STORE_BYTES: usize = 38912;
+const STORE_BYTES: usize = HEADER + BLOCK * 64;
 
 // The longest command.
 const LONGEST: usize = 5;
@@ -117,7 +119,7 @@ fn all_commands(store: &mut [u8]) {
 
 fn main() {
     let mut store = [0u8; STORE_BYTES];
-    room_open(CAPACITY, &mut store);
+    room_open(SESSION_CAPACITY, &mut store);
     all_commands(&mut store);
     write_all(STDOUT, &[b'e', b'n', b'd', b' ']);
     print_decimal(STDOUT, word_at(&store, COUNT) as u64);

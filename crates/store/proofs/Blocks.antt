@@ -120,51 +120,78 @@ module _ {s : List ℕ} (g : Graph) (v : ℕ) (h : Stands s (blockAt v) (block g
       stands-right (node ++ lineage) (boardOf g v) h
       (simp (length-append, nodeBytes-length, rowFrom-length) (omega arith))
 
--- the start of a header, up to the row of the entry versions; that row; the table
-abbrev start : Room → List ℕ
-start r = settingsBytes (r .settings) ++ word (versionCount (r .versions)) ++ zeros (entriesAt - spareAt)
+-- the unused parts of a header; its start, up to the row of the entry versions; that row; the table; the blocks of the versions, and those
+-- that are free
+abbrev pub spare : List ℕ
+spare = zeros (entriesAt - spareAt)
 
-abbrev entries : Room → List ℕ
-entries r = row (isEntry (r .versions)) rowSize
+abbrev pub headerRest : List ℕ
+headerRest = zeros (headerSize - commonsEnd)
 
-abbrev table : Room → List ℕ
-table r = commonTable r 0 consoleCount
+abbrev pub startOf : Room → List ℕ
+startOf r = settingsBytes (r .settings) ++ word (versionCount (r .versions)) ++ spare
 
-abbrev filled : Room → List ℕ
-filled r = blocks (r .versions) (versionCount (r .versions))
+abbrev pub entriesOf : Room → List ℕ
+entriesOf r = row (isEntry (r .versions)) rowSize
+
+abbrev pub tableOf : Room → List ℕ
+tableOf r = commonTable r 0 consoleCount
+
+abbrev pub filledOf : Room → List ℕ
+filledOf r = blocks (r .versions) (versionCount (r .versions))
+
+abbrev pub freeOf : Room → List ℕ
+freeOf r = zeros (blockSize * (r .settings .capacity - versionCount (r .versions)))
 
 -- bytes at whose front the encoding of a room stands
 module _ {s : List ℕ} (r : Room) (h : Stands s 0 (encode r)) where
-  stands-used : Stands s 0 (header r ++ filled r)
+  stands-used : Stands s 0 (header r ++ filledOf r)
   unfolding encode
-  stands-used = stands-left (header r ++ filled r) (zeros (blockSize * (r .settings .capacity - versionCount (r .versions)))) h
+  stands-used = stands-left (header r ++ filledOf r) (freeOf r) h
 
   pub stands-header : Stands s 0 (header r)
-  stands-header = stands-left (header r) (filled r) stands-used
+  stands-header = stands-left (header r) (filledOf r) stands-used
 
-  stands-fields : Stands s 0 (start r ++ entries r ++ table r)
+  stands-fields : Stands s 0 (startOf r ++ entriesOf r ++ tableOf r)
   unfolding header
-  stands-fields = stands-left (start r ++ entries r ++ table r) (zeros (headerSize - commonsEnd)) stands-header
+  stands-fields = stands-left (startOf r ++ entriesOf r ++ tableOf r) headerRest stands-header
 
-  stands-start : Stands s 0 (start r)
-  stands-start = stands-left (start r) (entries r) (stands-left (start r ++ entries r) (table r) stands-fields)
+  stands-start : Stands s 0 (startOf r)
+  stands-start = stands-left (startOf r) (entriesOf r) (stands-left (startOf r ++ entriesOf r) (tableOf r) stands-fields)
 
   pub stands-settings : Stands s settingsAt (settingsBytes (r .settings))
   stands-settings =
-      stands-left (settingsBytes (r .settings)) (word (versionCount (r .versions)) ++ zeros (entriesAt - spareAt)) stands-start
+      stands-left (settingsBytes (r .settings)) (word (versionCount (r .versions)) ++ spare) stands-start
 
   pub stands-count : Stands s countAt (word (versionCount (r .versions)))
   stands-count =
-      stands-left (word (versionCount (r .versions))) (zeros (entriesAt - spareAt))
-      (stands-right (settingsBytes (r .settings)) (word (versionCount (r .versions)) ++ zeros (entriesAt - spareAt)) stands-start refl)
+      stands-left (word (versionCount (r .versions))) spare
+      (stands-right (settingsBytes (r .settings)) (word (versionCount (r .versions)) ++ spare) stands-start refl)
 
-  pub stands-entries : Stands s entriesAt (row (isEntry (r .versions)) rowSize)
-  stands-entries = stands-right (start r) (entries r) (stands-left (start r ++ entries r) (table r) stands-fields) refl
+  pub stands-entries : Stands s entriesAt (entriesOf r)
+  stands-entries = stands-right (startOf r) (entriesOf r) (stands-left (startOf r ++ entriesOf r) (tableOf r) stands-fields) refl
 
-  stands-table : Stands s commonsAt (table r)
+  stands-table : Stands s commonsAt (tableOf r)
   stands-table =
-      stands-right (start r ++ entries r) (table r) stands-fields
+      stands-right (startOf r ++ entriesOf r) (tableOf r) stands-fields
       (simp rowFrom-length)
+
+  -- the unused parts
+  pub stands-spare : Stands s spareAt spare
+  stands-spare =
+      stands-right (settingsBytes (r .settings) ++ word (versionCount (r .versions))) spare stands-start refl
+
+  pub stands-rest : Stands s commonsEnd headerRest
+  unfolding header
+  stands-rest =
+      stands-right (startOf r ++ entriesOf r ++ tableOf r) headerRest stands-header
+      (simp (length-append, rowFrom-length, commonTable-length))
+
+  pub stands-free : Stands s (blockAt (versionCount (r .versions))) (freeOf r)
+  unfolding encode
+  stands-free =
+      stands-right (header r ++ filledOf r) (freeOf r) h
+      (simp (length-append, header-length, blocks-length) (omega arith))
 
   -- the field of two consoles
   pub stands-common : (c d : ℕ) → c < consoleCount → d < consoleCount → Stands s (commonAt c d) (word (commonField r c d))
@@ -174,7 +201,7 @@ module _ {s : List ℕ} (r : Room) (h : Stands s 0 (encode r)) where
   pub stands-block : (v : ℕ) → v < versionCount (r .versions) → Stands s (blockAt v) (block (r .versions) v)
   stands-block v l =
       stands-in-blocks (r .versions) (versionCount (r .versions)) v
-      (stands-right (header r) (filled r) stands-used (rw header-length)) l
+      (stands-right (header r) (filledOf r) stands-used (rw header-length)) l
 
   module _ (v : ℕ) (l : v < versionCount (r .versions)) where
     pub stands-record : Stands s (blockAt v) (nodeBytes (r .versions) (nodeOf (r .versions) v))

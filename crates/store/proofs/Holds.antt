@@ -23,7 +23,7 @@ use Rattle.store.proofs.Shown.{no-entry}
 use Rattle.store.proofs.Versions.{held-versions}
 use Rattle.store.proofs.Commons.{not-zero, fields-consoles}
 use Rattle.store.proofs.Behind.{behind-row, behind-all}
-use Rattle.store.proofs.Joined.{stands-gap, stands-rest, stands-free}
+use Rattle.store.proofs.Blocks.{stands-spare, stands-rest, stands-free}
 use Rattle.store.proofs.Checks.{Checks, checks-right, own-versions, own-heads}
 use Rattle.store.proofs.Whole.{whole-sound, whole-ranges, whole-front, whole-long, whole-small, whole-entries, whole-held, whole-fields, whole-low}
 
@@ -50,7 +50,7 @@ module _ (s : List ℕ) (t : holdsStore s ≡ true) where
         count = count-read s r (whole-front s t) (whole-ranges s t);
         some = omega arith;
         fits = sound .fits;
-        gap = stands-zero spareAt (entriesAt - spareAt) (stands-gap r (whole-front s t));
+        gap = stands-zero spareAt (entriesAt - spareAt) (stands-spare r (whole-front s t));
         rest = stands-zero commonsEnd (headerSize - commonsEnd) (stands-rest r (whole-front s t));
         versions = held-versions s (length g) (whole-small s t) (rw own-versions (whole-held s t));
         none = rw (whole-entries s t) (none-row (isEntry g) rowSize (versionCount g) (no-entry g));

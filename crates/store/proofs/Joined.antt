@@ -1,5 +1,4 @@
--- The encoding of a room stands at the front of bytes where each of its parts stands in its place; and where it stands, its unused parts are
--- zero.
+-- The encoding of a room stands at the front of bytes where each of its parts stands in its place, and nowhere else.
 -- Assumes nothing.
 use mathlib.Core.Path.{refl, subst, subst₂}
 use mathlib.Core.List.{List, [], _++_}
@@ -17,7 +16,7 @@ use Rattle.command.specs.Code.{consoleCount}
 use Rattle.room.specs.Room.{Room}
 use Rattle.room.specs.Boards.{boardOf}
 use Rattle.store.specs.Layout.{headerSize, rowSize, blockSize, settingsAt, countAt, spareAt, entriesAt, commonsAt, commonsEnd, commonAt, blockAt, rowAt, boardAt, commonField, commonFields, commonTable, settingsBytes, header, nodeBytes, block, blocks, encode}
-use Rattle.store.proofs.Blocks.{commonFields-length, commonTable-length, header-length, nodeBytes-length, blocks-length, stands-header, stands-settings, stands-count, stands-entries, stands-common, stands-block}
+use Rattle.store.proofs.Blocks.{commonFields-length, commonTable-length, header-length, nodeBytes-length, blocks-length, stands-header, stands-settings, stands-count, stands-entries, stands-common, stands-block, stands-spare, stands-rest, stands-free, spare, headerRest, startOf, entriesOf, tableOf, filledOf, freeOf}
 use Rattle.store.proofs.Lineage.{lineage}
 
 stands-none : {s : List ℕ} {at : ℕ} → Stands s at []
@@ -64,27 +63,12 @@ join-block g v a b c =
 pub record Placed (s : List ℕ) (r : Room) : Type 0 where
   pub settings : Stands s settingsAt (settingsBytes (r .settings))
   pub count : Stands s countAt (word (versionCount (r .versions)))
-  pub gap : Stands s spareAt (zeros (entriesAt - spareAt))
-  pub entries : Stands s entriesAt (row (isEntry (r .versions)) rowSize)
+  pub gap : Stands s spareAt spare
+  pub entries : Stands s entriesAt (entriesOf r)
   pub commons : (c d : ℕ) → c < consoleCount → d < consoleCount → Stands s (commonAt c d) (word (commonField r c d))
-  pub rest : Stands s commonsEnd (zeros (headerSize - commonsEnd))
+  pub rest : Stands s commonsEnd headerRest
   pub versions : (v : ℕ) → v < versionCount (r .versions) → Stands s (blockAt v) (block (r .versions) v)
-  pub free : Stands s (blockAt (versionCount (r .versions))) (zeros (blockSize * (r .settings .capacity - versionCount (r .versions))))
-
-abbrev gap : List ℕ
-gap = zeros (entriesAt - spareAt)
-
-abbrev start : Room → List ℕ
-start r = settingsBytes (r .settings) ++ word (versionCount (r .versions)) ++ gap
-
-abbrev entries : Room → List ℕ
-entries r = row (isEntry (r .versions)) rowSize
-
-abbrev table : Room → List ℕ
-table r = commonTable r 0 consoleCount
-
-abbrev used : Room → List ℕ
-used r = header r ++ blocks (r .versions) (versionCount (r .versions))
+  pub free : Stands s (blockAt (versionCount (r .versions))) (freeOf r)
 
 module _ {s : List ℕ} (r : Room) where
   pub join-commons : (at : ℕ) → ((c d : ℕ) → c < consoleCount → d < consoleCount → Stands s (at + 2 * (consoleCount * c + d)) (word (commonField r c d)))
@@ -97,11 +81,11 @@ module _ {s : List ℕ} (r : Room) where
   join-header : Placed s r → Stands s 0 (header r)
   unfolding header
   join-header p =
-      stands-join (start r ++ entries r ++ table r) (zeros (headerSize - commonsEnd))
-      (stands-join (start r ++ entries r) (table r)
-      (stands-join (start r) (entries r)
-      (stands-join (settingsBytes (r .settings)) (word (versionCount (r .versions)) ++ gap) (p .settings)
-      (stands-join (word (versionCount (r .versions))) gap (p .count) (p .gap) refl) refl)
+      stands-join (startOf r ++ entriesOf r ++ tableOf r) headerRest
+      (stands-join (startOf r ++ entriesOf r) (tableOf r)
+      (stands-join (startOf r) (entriesOf r)
+      (stands-join (settingsBytes (r .settings)) (word (versionCount (r .versions)) ++ spare) (p .settings)
+      (stands-join (word (versionCount (r .versions))) spare (p .count) (p .gap) refl) refl)
       (p .entries) refl)
       (join-commons commonsAt (p .commons)) (simp rowFrom-length))
       (p .rest) (simp (length-append, rowFrom-length, commonTable-length))
@@ -109,44 +93,21 @@ module _ {s : List ℕ} (r : Room) where
   pub join-encode : Placed s r → Stands s 0 (encode r)
   unfolding encode
   join-encode p =
-      stands-join (used r) (zeros (blockSize * (r .settings .capacity - versionCount (r .versions))))
-      (stands-join (header r) (blocks (r .versions) (versionCount (r .versions))) (join-header p) (join-blocks (r .versions) (versionCount (r .versions)) (p .versions)) (rw header-length))
+      stands-join (header r ++ filledOf r) (freeOf r)
+      (stands-join (header r) (filledOf r) (join-header p) (join-blocks (r .versions) (versionCount (r .versions)) (p .versions)) (rw header-length))
       (p .free)
       (simp (length-append, header-length, blocks-length) (omega arith))
 
-  -- the unused parts
-  module _ (h : Stands s 0 (encode r)) where
-    pub stands-rest : Stands s commonsEnd (zeros (headerSize - commonsEnd))
-    unfolding header
-    stands-rest =
-        stands-right (start r ++ entries r ++ table r) (zeros (headerSize - commonsEnd)) (stands-header r h)
-        (simp (length-append, rowFrom-length, commonTable-length))
-
-    pub stands-gap : Stands s spareAt (zeros (entriesAt - spareAt))
-    unfolding header
-    stands-gap =
-        stands-right (settingsBytes (r .settings) ++ word (versionCount (r .versions))) gap
-        (stands-left (start r) (entries r)
-        (stands-left (start r ++ entries r) (table r)
-        (stands-left (start r ++ entries r ++ table r) (zeros (headerSize - commonsEnd)) (stands-header r h))))
-        refl
-
-    pub stands-free : Stands s (blockAt (versionCount (r .versions))) (zeros (blockSize * (r .settings .capacity - versionCount (r .versions))))
-    unfolding encode
-    stands-free =
-        stands-right (used r) (zeros (blockSize * (r .settings .capacity - versionCount (r .versions)))) h
-        (simp (length-append, header-length, blocks-length) (omega arith))
-
-    -- each part in its place again
-    pub placed : Placed s r
-    placed =
-        record {
-          settings = stands-settings r h;
-          count = stands-count r h;
-          gap = stands-gap;
-          entries = stands-entries r h;
-          commons = stands-common r h;
-          rest = stands-rest;
-          versions = stands-block r h;
-          free = stands-free;
-        }
+  -- each part in its place again
+  pub placed : Stands s 0 (encode r) → Placed s r
+  placed h =
+      record {
+        settings = stands-settings r h;
+        count = stands-count r h;
+        gap = stands-spare r h;
+        entries = stands-entries r h;
+        commons = stands-common r h;
+        rest = stands-rest r h;
+        versions = stands-block r h;
+        free = stands-free r h;
+      }

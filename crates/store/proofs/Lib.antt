@@ -22,3 +22,4 @@ pub mod Heads
 pub mod Full
 pub mod VersionTests
 pub mod Overwritten
+pub mod Changed

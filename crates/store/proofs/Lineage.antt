@@ -1,14 +1,15 @@
 -- Ancestry rows: the row of a new entry or merge is made of its parents' rows, and a version is the meet of two exactly when its row is the
 -- intersection of theirs.
 -- Assumes nothing.
-use mathlib.Core.Path.{_≡_, sym, _∙_, ap}
+use mathlib.Core.Path.{_≡_, refl, sym, _∙_, ap}
 use mathlib.Core.Bool.{_&&_, _||_}
-use mathlib.Core.List.{List}
+use mathlib.Core.List.{List, []}
 use Prim.Native.Nat.{ℕ, _≤_, _<_}
 use native.Mathlib.Omega.{arith}
 use lib.Dec.{eqb}
 use Rattle.laws.proofs.Logic.{and-l, and-r, and-i}
-use Rattle.buffer.specs.Row.{row, withMember, union, intersection}
+use Rattle.buffer.specs.Field.{zeros}
+use Rattle.buffer.specs.Row.{row, rowFrom, withMember, union, intersection}
 use Rattle.buffer.proofs.Sets.{row-union, row-intersection, row-same, row-ext, row-with}
 use Rattle.graph.specs.Graph.{Graph, versionCount, ancestor}
 use Rattle.graph.proofs.Ancestor.{ancestor-below, ancestor-self}
@@ -20,6 +21,11 @@ use Rattle.store.specs.Layout.{rowSize}
 -- the row of a version
 abbrev pub lineage : Graph → ℕ → List ℕ
 lineage g v = row (λ u. ancestor g u v) rowSize
+
+-- of version 0 alone, of a new entry, of a new merge
+pub root-lineage : withMember (zeros rowSize) 0 ≡ lineage [] 0
+unfolding ancestor rowFrom
+root-lineage = refl
 
 pub entry-lineage : (g : Graph) (p v : ℕ) → v < maxCapacity → withMember (lineage g p) v ≡ row (λ u. eqb u v || ancestor g u p) rowSize
 entry-lineage g p v h = row-with (λ u. ancestor g u p) rowSize v h

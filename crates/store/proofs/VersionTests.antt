@@ -10,7 +10,7 @@ use native.Mathlib.Numerals.{add-one}
 use lib.Dec.{eqb, ltb}
 use lib.ListN.{getD}
 use borrow.Author.Tests.{ltb-true, eq-eqb, ne-eqb}
-use Rattle.laws.proofs.Logic.{and-l, and-r, and-i, clash, refuted}
+use Rattle.laws.proofs.Logic.{and-l, and-r, and-i, and-none, clash, refuted}
 use Rattle.board.specs.Board.{stripCount}
 use Rattle.graph.specs.declared.Node.{Node}
 use Rattle.store.specs.Layout.{nodeIn}
@@ -43,21 +43,12 @@ module _ (s : List ℕ) (v : ℕ) (node : Node) (e : node ≡ nodeIn s v) (r : B
   unfolding versionRight
   version-refused f = rw (← e, sym er ∙ f)
 
--- what is not refused is true
-pub unrefused : (a : Bool) → not a ≡ false → a ≡ true
-unrefused true h = refl
-unrefused false h = clash refl h
-
 -- the versions, one by one
-none-after : (a b : Bool) → a ≡ false → a && b ≡ false
-none-after true b h = clash refl h
-none-after false b h = refl
-
 fails : (s : List ℕ) (k n : ℕ) → k ≤ n → versionsRight s k ≡ false → versionsRight s n ≡ false
 unfolding versionsRight
 fails s k zero h f = let e : k ≡ zero = omega arith in rw e at f
 fails s k (suc m) h f =
-    elim (ℕ-discrete k (suc m)) [ yes e ↦ rw e at f | no ne ↦ none-after (versionsRight s m) (versionRight s (suc m)) (fails s k m (omega arith) f) ]
+    elim (ℕ-discrete k (suc m)) [ yes e ↦ rw e at f | no ne ↦ and-none (versionsRight s m) (versionRight s (suc m)) (fails s k m (omega arith) f) ]
 
 versions-start : (s : List ℕ) (r : Bool) → r ≡ rootRight s → r ≡ true → versionsRight s 0 ≡ true
 unfolding versionsRight

@@ -25,7 +25,7 @@ use Rattle.room.specs.Boards.{boardMade, boardOf}
 use Rattle.store.specs.Layout.{nodeSize, rowSize, blockAt, boardAt, nodeBytes, nodeIn, versionsIn}
 use Rattle.store.specs.Rules.{nodeInRange}
 use Rattle.store.specs.Check.{rowPart, boardPart, entriesPart, rootRight, entryParts, mergeParts, nodeParts, versionRight, versionsRight}
-use Rattle.store.proofs.Lineage.{entry-lineage, merge-lineage}
+use Rattle.store.proofs.Lineage.{root-lineage, entry-lineage, merge-lineage}
 use Rattle.store.proofs.Shown.{shown, made}
 use Rattle.store.proofs.Told.{Told, Held, Next, held-next, held-before, held-newest, meet-rows, rows-meet}
 use Rattle.store.proofs.NodeBytes.{codeIn, stripIn, operandIn, parentIn, giverIn, baseIn, entryIn, mergeIn, zero-entry, entry-zero, zero-merge, merge-zero, merge-rest, merge-base-read}
@@ -163,10 +163,6 @@ module _ (s : List ℕ) (g : Graph) (small : versionCount g < maxCapacity) (h : 
       go false k = next-entry k
 
 -- version 0 alone
-pub root-line : withMember (zeros rowSize) 0 ≡ shown [] 0 .line
-unfolding ancestor rowFrom
-root-line = refl
-
 module _ (s : List ℕ) where
   root-held : blockAt 1 ≤ length s → rootRight s ≡ true → Held s []
   unfolding rootRight everyVersion nodeBytes nodeOf boardOf
@@ -185,7 +181,7 @@ module _ (s : List ℕ) where
             subst (λ (k : ℕ). Told s k (shown [] k)) first
             (record {
               node = zero-stands (blockAt 0) nodeSize (and-l node line two);
-              line = same-true (rowPart s 0) (withMember (zeros rowSize) 0) (and-r node line two) ∙ root-line;
+              line = same-true (rowPart s 0) (withMember (zeros rowSize) 0) (and-r node line two) ∙ root-lineage;
               board = zero-part s (boardAt 0) boardSize long (and-r (node && line) board three);
               listed = not-e (member (entriesPart s) 0) (and-r (node && line && board) _ t);
             });
@@ -197,7 +193,7 @@ module _ (s : List ℕ) where
       let k = h .told 0 (omega arith) in
       and-i _ _ (and-i _ _ (and-i _ _
       (stands-zero (blockAt 0) nodeSize (k .node))
-      (same-of _ _ (k .line ∙ sym root-line)))
+      (same-of _ _ (k .line ∙ sym root-lineage)))
       (part-zero s (boardAt 0) boardSize (k .board)))
       (not-i _ (k .listed))
 

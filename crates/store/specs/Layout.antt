@@ -18,7 +18,8 @@ use Rattle.room.specs.Room.{Room, present, common}
 use Rattle.room.specs.Sound.{maxCapacity, soundRoom}
 use Rattle.room.specs.Boards.{boardOf}
 
--- Sizes: a store is a header and one block for each version that it may hold; a block is a node (what made the version), an ancestry row and a board.
+-- Sizes: a store is a header and one block for each version that it may hold; a block is a node (what made the version), an ancestry row and
+-- a board.
 abbrev pub headerSize : ℕ
 headerSize = 4096
 
@@ -35,7 +36,8 @@ blockSize = nodeSize + rowSize + boardSize
 abbrev pub storeSize : ℕ → ℕ
 storeSize capacity = headerSize + blockSize * capacity
 
--- Places in the header: what the room is set to, the number of versions, the row of the entry versions, the table of common versions.
+-- Places in the header: what the room is set to, the number of versions, a spare part, the row of the entry versions, the table of common
+-- versions.
 abbrev pub settingsAt : ℕ
 settingsAt = 0
 
@@ -133,8 +135,8 @@ header r =
     ++ zeros (headerSize - commonsEnd)
 
 -- The node of a version: a merge has a code of its own, version 0 has 0; what a version does not have is 0.
-abbrev pub entryNodeBytes : ℕ → ℕ → ℕ → ℕ → List ℕ
-entryNodeBytes p code strip operand = byte code ∷ byte strip ∷ word operand ++ word p ++ zeros (nodeSize - 6)
+abbrev pub isEntryNodeBytes : ℕ → ℕ → ℕ → ℕ → List ℕ
+isEntryNodeBytes p code strip operand = byte code ∷ byte strip ∷ word operand ++ word p ++ zeros (nodeSize - 6)
 
 -- with l, the base of the merge of q into p
 abbrev pub mergeNodeBytes : ℕ → ℕ → ℕ → List ℕ
@@ -142,7 +144,7 @@ mergeNodeBytes p q l = mergeNodeCode ∷ 0 ∷ 0 ∷ 0 ∷ word p ++ word q ++ w
 
 unfoldable pub nodeBytes : Graph → Option Node → List ℕ
 nodeBytes g none = zeros nodeSize
-nodeBytes g (some (Entry p code strip operand)) = entryNodeBytes (p .0) code (strip .0) operand
+nodeBytes g (some (Entry p code strip operand)) = isEntryNodeBytes (p .0) code (strip .0) operand
 nodeBytes g (some (Merge p q)) = mergeNodeBytes (p .0) (q .0) (baseOf g (p .0) (q .0))
 
 -- the block of version v of a graph

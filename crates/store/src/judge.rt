@@ -20,6 +20,7 @@ ghost use mathlib.Core.Path.{_≡_};
 ghost use Prim.Native.Nat.{ℕ, _≤_, _<_};
 ghost use lib.ListN.{length};
 ghost use Rattle.command.specs.Code.{consoleCount};
+ghost use Rattle.room.specs.Sound.{maxCapacity};
 ghost use Rattle.store.specs.Layout.{headerSize, storeSize, blockAt, holdsStore};
 ghost use Rattle.store.specs.Check.{commonIn, spareZero, restZero, headsCover, contentsRight};
 
@@ -33,7 +34,7 @@ fn spare_right(s: &[u8]) -> bool
 
 // Nothing stands past the last of n versions: no bit of the entry row, and no byte of the blocks that are free.
 fn rest_right(s: &[u8], capacity: usize, n: usize) -> bool
-    requires { ⌜ (capacity ≤ 1024) × (n ≤ capacity) × (storeSize capacity ≤ length (now s)) ⌝ }
+    requires { ⌜ (capacity ≤ maxCapacity) × (n ≤ capacity) × (storeSize capacity ≤ length (now s)) ⌝ }
     ensures { λ r. ⌜ r ≡ restZero (now (s .entry)) capacity n ⌝ }
 {
     let from = store_size(n);
@@ -52,7 +53,7 @@ fn heads_right(s: &[u8], n: usize) -> bool
 
 // A store of this capacity with n versions.
 fn contents_right(s: &[u8], capacity: usize, n: usize) -> bool
-    requires { ⌜ (capacity ≤ 1024) × (storeSize capacity ≤ length (now s)) ⌝ }
+    requires { ⌜ (capacity ≤ maxCapacity) × (storeSize capacity ≤ length (now s)) ⌝ }
     ensures { λ r. ⌜ r ≡ contentsRight (now (s .entry)) capacity n ⌝ }
 {
     if n < 1 {

@@ -9,6 +9,7 @@ ghost use mathlib.Core.Path.{_≡_};
 ghost use Prim.Native.Nat.{suc, _<_, _≤_};
 ghost use lib.ListN.{length};
 ghost use Rattle.buffer.specs.Field.{wordAt};
+ghost use Rattle.room.specs.Sound.{maxCapacity};
 ghost use Rattle.store.specs.Layout.{blockAt, nodeBaseAt, nodeIn};
 
 // Places in a node, which has its code at its front, and its spare bytes at the end. The parent of a merge is the receiver's version.
@@ -29,7 +30,7 @@ pub const MERGE_NODE: usize = 0x09;
 
 // What made a version other than 0.
 pub fn read_node(s: &[u8], v: Version) -> Node
-    requires { ⌜ (v .0 < 1024) × (blockAt (suc (v .0)) ≤ length (now s)) ⌝ }
+    requires { ⌜ (v .0 < maxCapacity) × (blockAt (suc (v .0)) ≤ length (now s)) ⌝ }
     ensures { λ r. ⌜ r ≡ nodeIn (now (s .entry)) (v .0) ⌝ }
 {
     let at = block_at(v);
@@ -51,7 +52,7 @@ pub fn read_node(s: &[u8], v: Version) -> Node
 
 // The base in the node of a merge.
 pub fn read_base(s: &[u8], v: Version) -> Version
-    requires { ⌜ (v .0 < 1024) × (blockAt (suc (v .0)) ≤ length (now s)) ⌝ }
+    requires { ⌜ (v .0 < maxCapacity) × (blockAt (suc (v .0)) ≤ length (now s)) ⌝ }
     ensures { λ r. ⌜ r .0 ≡ wordAt (now (s .entry)) (nodeBaseAt (v .0)) ⌝ }
 {
     Version(word_at(s, block_at(v) + NODE_BASE))

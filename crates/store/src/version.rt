@@ -33,6 +33,7 @@ ghost use Rattle.buffer.specs.Field.{part, same, allZero, zeros};
 ghost use Rattle.buffer.specs.Row.{withMember};
 ghost use Rattle.board.specs.Board.{stripCount, enter, mergeBoard};
 ghost use Rattle.graph.specs.declared.Node.the-variants.{Merge};
+ghost use Rattle.room.specs.Sound.{maxCapacity};
 ghost use Rattle.store.specs.Layout.{rowSize, blockAt};
 ghost use Rattle.store.specs.Rules.{nodeInRange};
 ghost use Rattle.store.specs.Check.{rowPart, boardPart, rootRight, entryParts, mergeRows, mergeParts, nodeParts, versionRight, versionsRight};
@@ -47,7 +48,7 @@ fn zero_part(s: &[u8], at: usize, n: usize) -> bool
 
 // Whether a version's row is its parent's with the version besides.
 fn entry_rows_right(s: &[u8], v: Version, p: Version) -> bool
-    requires { ⌜ (p .0 < v .0) × (v .0 < 1024) × (blockAt (suc (v .0)) ≤ length (now s)) ⌝ }
+    requires { ⌜ (p .0 < v .0) × (v .0 < maxCapacity) × (blockAt (suc (v .0)) ≤ length (now s)) ⌝ }
     ensures { λ r. ⌜ r ≡ same (rowPart (now (s .entry)) (v .0)) (withMember (rowPart (now (s .entry)) (p .0)) (v .0)) ⌝ }
 {
     is_extended(row_part(s, v), row_part(s, p), v.0)
@@ -62,7 +63,7 @@ fn entry_board_right(
     strip: Strip,
     operand: usize,
 ) -> bool
-    requires { ⌜ (p .0 < v .0) × (v .0 < 1024) × (blockAt (suc (v .0)) ≤ length (now s)) × (strip .0 < stripCount) ⌝ }
+    requires { ⌜ (p .0 < v .0) × (v .0 < maxCapacity) × (blockAt (suc (v .0)) ≤ length (now s)) × (strip .0 < stripCount) ⌝ }
     ensures { λ r. ⌜ r ≡ same (boardPart (now (s .entry)) (v .0)) (enter code (strip .0) operand (boardPart (now (s .entry)) (p .0))) ⌝ }
 {
     is_entered(board_part(s, v), board_part(s, p), code, strip, operand)
@@ -70,7 +71,7 @@ fn entry_board_right(
 
 // Whether the parts of an entry's block are right, its numbers being in their ranges.
 fn entry_parts(s: &[u8], v: Version, p: Version, code: usize, strip: Strip, operand: usize) -> bool
-    requires { ⌜ (p .0 < v .0) × (v .0 < 1024) × (blockAt (suc (v .0)) ≤ length (now s)) × (strip .0 < stripCount) ⌝ }
+    requires { ⌜ (p .0 < v .0) × (v .0 < maxCapacity) × (blockAt (suc (v .0)) ≤ length (now s)) × (strip .0 < stripCount) ⌝ }
     ensures { λ r. ⌜ r ≡ entryParts (now (s .entry)) (v .0) (p .0) code (strip .0) operand ⌝ }
 {
     let at = block_at(v) + NODE_GIVER;
@@ -82,7 +83,7 @@ fn entry_parts(s: &[u8], v: Version, p: Version, code: usize, strip: Strip, oper
 
 // Whether the base is that of the parents, and the version's row the union of theirs with the version besides.
 fn merge_rows_right(s: &[u8], v: Version, p: Version, q: Version, l: Version) -> bool
-    requires { ⌜ (p .0 < v .0) × (q .0 < v .0) × (l .0 < v .0) × (v .0 < 1024) × (blockAt (suc (v .0)) ≤ length (now s)) ⌝ }
+    requires { ⌜ (p .0 < v .0) × (q .0 < v .0) × (l .0 < v .0) × (v .0 < maxCapacity) × (blockAt (suc (v .0)) ≤ length (now s)) ⌝ }
     ensures { λ r. ⌜ r ≡ mergeRows (now (s .entry)) (v .0) (p .0) (q .0) (l .0) ⌝ }
 {
     let mine = row_part(s, p);
@@ -93,7 +94,7 @@ fn merge_rows_right(s: &[u8], v: Version, p: Version, q: Version, l: Version) ->
 
 // Whether a version's board is the merge of its parents' over the base's.
 fn merge_board_right(s: &[u8], v: Version, p: Version, q: Version, l: Version) -> bool
-    requires { ⌜ (p .0 < v .0) × (q .0 < v .0) × (l .0 < v .0) × (v .0 < 1024) × (blockAt (suc (v .0)) ≤ length (now s)) ⌝ }
+    requires { ⌜ (p .0 < v .0) × (q .0 < v .0) × (l .0 < v .0) × (v .0 < maxCapacity) × (blockAt (suc (v .0)) ≤ length (now s)) ⌝ }
     ensures { λ r. ⌜ r ≡ same (boardPart (now (s .entry)) (v .0)) (mergeBoard (boardPart (now (s .entry)) (l .0)) (boardPart (now (s .entry)) (p .0)) (boardPart (now (s .entry)) (q .0))) ⌝ }
 {
     is_merged(
@@ -106,7 +107,7 @@ fn merge_board_right(s: &[u8], v: Version, p: Version, q: Version, l: Version) -
 
 // Whether the parts of a merge's block are right, its parents and base being below it.
 fn merge_parts(s: &[u8], v: Version, p: Version, q: Version, l: Version) -> bool
-    requires { ⌜ (p .0 < v .0) × (q .0 < v .0) × (l .0 < v .0) × (v .0 < 1024) × (blockAt (suc (v .0)) ≤ length (now s)) ⌝ }
+    requires { ⌜ (p .0 < v .0) × (q .0 < v .0) × (l .0 < v .0) × (v .0 < maxCapacity) × (blockAt (suc (v .0)) ≤ length (now s)) ⌝ }
     ensures { λ r. ⌜ r ≡ mergeParts (now (s .entry)) (v .0) (p .0) (q .0) (l .0) ⌝ }
 {
     let at = block_at(v);
@@ -121,7 +122,7 @@ fn merge_parts(s: &[u8], v: Version, p: Version, q: Version, l: Version) -> bool
 
 // Whether the parts of a merge's block are right, its parents being below it.
 fn based_parts(s: &[u8], v: Version, p: Version, q: Version) -> bool
-    requires { ⌜ (p .0 < v .0) × (q .0 < v .0) × (v .0 < 1024) × (blockAt (suc (v .0)) ≤ length (now s)) ⌝ }
+    requires { ⌜ (p .0 < v .0) × (q .0 < v .0) × (v .0 < maxCapacity) × (blockAt (suc (v .0)) ≤ length (now s)) ⌝ }
     ensures { λ r. ⌜ r ≡ nodeParts (now (s .entry)) (v .0) (Merge p q) ⌝ }
 {
     let l = read_base(s, v);
@@ -133,7 +134,7 @@ fn based_parts(s: &[u8], v: Version, p: Version, q: Version) -> bool
 
 // Whether the parts of a version's block are right, as its node says, whose numbers are in their ranges.
 fn node_parts(s: &[u8], v: Version, node: Node) -> bool
-    requires { ⌜ (nodeInRange (v .0) node ≡ true) × (v .0 < 1024) × (blockAt (suc (v .0)) ≤ length (now s)) ⌝ }
+    requires { ⌜ (nodeInRange (v .0) node ≡ true) × (v .0 < maxCapacity) × (blockAt (suc (v .0)) ≤ length (now s)) ⌝ }
     ensures { λ r. ⌜ r ≡ nodeParts (now (s .entry)) (v .0) node ⌝ }
 {
     match node {
@@ -149,7 +150,7 @@ fn node_parts(s: &[u8], v: Version, node: Node) -> bool
 
 // Whether the block of a version other than 0 is right.
 fn version_right(s: &[u8], v: Version) -> bool
-    requires { ⌜ (v .0 < 1024) × (blockAt (suc (v .0)) ≤ length (now s)) ⌝ }
+    requires { ⌜ (v .0 < maxCapacity) × (blockAt (suc (v .0)) ≤ length (now s)) ⌝ }
     ensures { λ r. ⌜ r ≡ versionRight (now (s .entry)) (v .0) ⌝ }
 {
     let node = read_node(s, v);
@@ -181,7 +182,7 @@ fn root_right(s: &[u8]) -> bool
 
 // Whether the blocks of the versions 0 to n are right.
 pub fn versions_right(s: &[u8], n: usize) -> bool
-    requires { ⌜ (n < 1024) × (blockAt (suc n) ≤ length (now s)) ⌝ }
+    requires { ⌜ (n < maxCapacity) × (blockAt (suc n) ≤ length (now s)) ⌝ }
     ensures { λ r. ⌜ r ≡ versionsRight (now (s .entry)) n ⌝ }
 {
     if !root_right(s) {

@@ -14,7 +14,8 @@ use lib.Seq.{drop-cons, drop-append-seam}
 use borrow.Author.Tests.{ltb-false, le-ltb, ne-eqb}
 use Rattle.laws.proofs.Logic.{decide, cond-true, cond-false}
 use Rattle.buffer.specs.Field.{byte, wordAt}
-pub use Rattle.buffer.proofs.Parts.{Bytes}
+use Rattle.buffer.proofs.Fields.{bytes-word}
+use Rattle.buffer.proofs.Parts.{Bytes}
 use Rattle.graph.specs.declared.Node.{Node}
 use Rattle.graph.specs.declared.Node.the-variants.{Entry, Merge}
 use Rattle.command.specs.declared.Operands.{Operands}
@@ -35,10 +36,7 @@ Fits (Head console version) = (console .0 < 256) × (version .0 < 65536)
 Fits End = Unit {0}
 Fits Broken = ⊥
 
--- two bytes give back the word that they were made of
-word-back : (x : ℕ) → x < 65536 → byte (x / 256) * 256 + byte x ≡ x
-word-back x h = omega arith
-
+-- a byte is the number that it was made of
 byte-back : (x : ℕ) → x < 256 → byte x ≡ x
 byte-back x h = omega arith
 
@@ -48,14 +46,14 @@ whole front rest = le-ltb (length (front ++ rest)) (length front) (simp length-a
 
 pub record-read : (x : Record) (rest : List ℕ) → Fits x → recordIn (recordBytes x ++ rest) ≡ x
 unfolding recordIn recordFrom shapeOf lengthOf numberAt operandsOf
-record-read (Start settings) rest h = simp (whole (recordBytes (Start settings)) rest, word-back)
+record-read (Start settings) rest h = simp (whole (recordBytes (Start settings)) rest, bytes-word)
 record-read (Version (Entry parent code strip operand)) rest h =
     let there = whole (versionBytes (Entry parent code strip operand)) rest in
-    simp (there, word-back (parent .0) (h .0), byte-back code (h .1), byte-back (strip .0) (h .2), word-back operand (h .3))
+    simp (there, bytes-word (parent .0) (h .0), byte-back code (h .1), byte-back (strip .0) (h .2), bytes-word operand (h .3))
 record-read (Version (Merge receiver giver)) rest h =
-    simp (whole (versionBytes (Merge receiver giver)) rest, word-back (receiver .0) (h .0), word-back (giver .0) (h .1))
+    simp (whole (versionBytes (Merge receiver giver)) rest, bytes-word (receiver .0) (h .0), bytes-word (giver .0) (h .1))
 record-read (Head console version) rest h =
-    simp (whole (recordBytes (Head console version)) rest, byte-back (console .0) (h .0), word-back (version .0) (h .1))
+    simp (whole (recordBytes (Head console version)) rest, byte-back (console .0) (h .0), bytes-word (version .0) (h .1))
 record-read End rest h = simp (whole (recordBytes End) rest)
 record-read Broken rest h = absurd h
 

@@ -18,13 +18,13 @@ use Rattle.graph.specs.declared.Node.{Node}
 use Rattle.room.specs.declared.Settings.{Settings}
 use Rattle.tape.specs.declared.Record.{Record}
 use Rattle.tape.specs.declared.Record.the-variants as record-is
-use Rattle.tape.specs.declared.scan.Kind.{Kind}
-use Rattle.tape.specs.declared.scan.Kind.the-variants.{Misplaced, Version, Head, End}
+use Rattle.tape.specs.declared.scan.Role.{Role}
+use Rattle.tape.specs.declared.scan.Role.the-variants.{Misplaced, Version, Head, End}
 use Rattle.tape.specs.declared.scan.Scanned.{Scanned}
 use Rattle.tape.specs.declared.scan.Scanned.the-variants.{Whole, Broken}
 use Rattle.tape.specs.Record.{recordIn, recordLength, recordFrom, recordRefusal}
 use Rattle.tape.specs.Tape.{Content, Stage, inVersions, inHeads, Follow, goOn, finish, refuse, afterRecord, readOn, contentOf, withVersion, withHead}
-use Rattle.tape.specs.Reader.{placeAfter, scannedOf, kindOf}
+use Rattle.tape.specs.Reader.{placeAfter, scannedOf, roleOf}
 use Rattle.tape.proofs.Records.{unknown}
 use Rattle.tape.proofs.Reading.{go, read-step}
 use Rattle.tape.proofs.Sorts.{NoStart, not-read}
@@ -64,14 +64,14 @@ Staged inVersions t = length (t .heads) ≡ 0
 Staged inHeads t = 0 < length (t .heads)
 
 -- what a record is to the scan, and what reading does after it
-abbrev Agrees : Content → Record → Kind → Follow → Type 0
+abbrev Agrees : Content → Record → Role → Follow → Type 0
 Agrees t x Misplaced f = f ≡ refuse
 Agrees t x Version f = (recordRefusal x ≡ 0) × (n : Node) × (f ≡ goOn inVersions (withVersion t n)) × (length (t .heads) ≡ 0)
 Agrees t x Head f = (recordRefusal x ≡ 0) × (c : ℕ) × (v : ℕ) × (f ≡ goOn inHeads (withHead t c v))
 Agrees t x End f = (recordRefusal x ≡ 0) × (f ≡ finish)
 
-agrees : (stage : Stage) (t : Content) (x : Record) → Staged stage t → Agrees t x (kindOf x (length (t .heads))) (afterRecord stage t x)
-unfolding afterRecord kindOf
+agrees : (stage : Stage) (t : Content) (x : Record) → Staged stage t → Agrees t x (roleOf x (length (t .heads))) (afterRecord stage t x)
+unfolding afterRecord roleOf
 agrees inVersions t (record-is.Start settings) st = refl
 agrees inVersions t (record-is.Version node) st = rw (eq-eqb (length (t .heads)) 0 st) (refl, node, refl, st)
 agrees inVersions t (record-is.Head console version) st = (refl, console .0, version .0, refl)
@@ -125,16 +125,16 @@ module _ {tape : List ℕ} {start : ℕ} {settings : Settings} {at versions head
   pub scanning-out : length tape ≤ at → Broken ≡ scanFrom tape start settings
   scanning-out h = sym (i .same ∙ rw (drop-of-length-le tape h, read-nothing))
 
-  module _ (more : at < length tape) {x : Record} (e : x ≡ recordIn (drop at tape)) {kind : Kind} (is : kind ≡ kindOf x heads) where
+  module _ (more : at < length tape) {x : Record} (e : x ≡ recordIn (drop at tape)) {kind : Role} (is : kind ≡ roleOf x heads) where
     abbrev rest : List ℕ
     rest = drop at tape
 
     abbrev after : Follow
     after = afterRecord (i .stage) (i .told) (recordIn rest)
 
-    agreed : (found : Kind) → kind ≡ found → Agrees (i .told) (recordIn rest) found after
+    agreed : (found : Role) → kind ≡ found → Agrees (i .told) (recordIn rest) found after
     agreed found k =
-        let sort : kindOf (recordIn rest) (length (i .told .heads)) ≡ found = ap (kindOf (recordIn rest)) (i .headed) ∙ ap (λ (y : Record). kindOf y heads) (sym e) ∙ sym is ∙ k in
+        let sort : roleOf (recordIn rest) (length (i .told .heads)) ≡ found = ap (roleOf (recordIn rest)) (i .headed) ∙ ap (λ (y : Record). roleOf y heads) (sym e) ∙ sym is ∙ k in
         rw sort at (agrees (i .stage) (i .told) (recordIn rest) (i .staged))
 
     step : (f : Follow) → after ≡ f → scanFrom tape start settings ≡ scannedOf (go (length tape - suc (versions + heads)) (i .told) rest f)

@@ -9,9 +9,9 @@ use denote.Enum.Declared.{tagOf}
 use Rattle.graph.specs.Graph.{merge}
 use Rattle.tape.specs.declared.Record.{Record}
 use Rattle.tape.specs.declared.Record.the-variants.{Start, Version, Head, End, Broken}
-use Rattle.tape.specs.declared.scan.Kind.the-variants.{Misplaced}
+use Rattle.tape.specs.declared.scan.Role.the-variants.{Misplaced}
 use Rattle.tape.specs.Tape.{readFrom}
-use Rattle.tape.specs.Reader.{nodeOn, headOn, kindOf}
+use Rattle.tape.specs.Reader.{nodeOn, headOn, roleOf}
 use Rattle.tape.proofs.Record as R
 
 -- the tags of the records but those of versions, of heads, or of the start; and of what may stand nowhere behind the start
@@ -48,8 +48,8 @@ not-read (Head console version) h k rest = refl
 not-read End h k rest = refl
 not-read Broken h k rest = refl
 
-pub misplaced : (x : Record) (heads : ℕ) → StartOrBroken x → Misplaced ≡ kindOf x heads
-unfolding kindOf
+pub misplaced : (x : Record) (heads : ℕ) → StartOrBroken x → Misplaced ≡ roleOf x heads
+unfolding roleOf
 misplaced (Start settings) heads h = refl
 misplaced (Version node) heads h = absurd (miss (0 ∷ 4 ∷ []) 1 tt h)
 misplaced (Head console version) heads h = absurd (miss (0 ∷ 4 ∷ []) 2 tt h)

@@ -11,8 +11,8 @@ use Rattle.command.specs.Code.{startRecord, headRecord, shapeOf, lengthOf}
 use Rattle.room.specs.declared.Settings.{Settings}
 use Rattle.tape.specs.declared.Record.{Record}
 use Rattle.tape.specs.declared.Record.the-variants as record-is
-use Rattle.tape.specs.declared.scan.Kind.{Kind}
-use Rattle.tape.specs.declared.scan.Kind.the-variants as kind-is
+use Rattle.tape.specs.declared.scan.Role.{Role}
+use Rattle.tape.specs.declared.scan.Role.the-variants as role-is
 use Rattle.tape.specs.declared.scan.Scanned.{Scanned}
 use Rattle.tape.specs.declared.scan.Scanned.the-variants.{Whole, Broken}
 use Rattle.tape.specs.Record.{recordIn, recordLength}
@@ -73,20 +73,20 @@ scanRefusal (Whole settings versions heads) = 0
 scanRefusal Broken = 7
 
 -- what a record is to the scan after so many heads
-unfoldable pub kindOf : Record → ℕ → Kind
-kindOf (record-is.Start settings) heads = kind-is.Misplaced
-kindOf (record-is.Version node) heads = cond (eqb heads 0) kind-is.Version kind-is.Misplaced
-kindOf (record-is.Head console version) heads = kind-is.Head
-kindOf record-is.End heads = cond (eqb heads 0) kind-is.Misplaced kind-is.End
-kindOf record-is.Broken heads = kind-is.Misplaced
+unfoldable pub roleOf : Record → ℕ → Role
+roleOf (record-is.Start settings) heads = role-is.Misplaced
+roleOf (record-is.Version node) heads = cond (eqb heads 0) role-is.Version role-is.Misplaced
+roleOf (record-is.Head console version) heads = role-is.Head
+roleOf record-is.End heads = cond (eqb heads 0) role-is.Misplaced role-is.End
+roleOf record-is.Broken heads = role-is.Misplaced
 
 -- the scan of the rest of a tape, with so many versions and heads behind it; the first number bounds the records, as in `readOn`
 unfoldable pub scanOn : ℕ → Settings → ℕ → ℕ → List ℕ → Scanned
 scanOn zero settings versions heads rest = Broken
 scanOn (suc k) settings versions heads rest =
-    elim (kindOf (recordIn rest) heads) [
-      | kind-is.Misplaced ↦ Broken
-      | kind-is.Version ↦ scanOn k settings (suc versions) heads (drop (recordLength rest) rest)
-      | kind-is.Head ↦ scanOn k settings versions (suc heads) (drop (recordLength rest) rest)
-      | kind-is.End ↦ cond (eqb (length rest) (recordLength rest)) (Whole settings versions heads) Broken
+    elim (roleOf (recordIn rest) heads) [
+      | role-is.Misplaced ↦ Broken
+      | role-is.Version ↦ scanOn k settings (suc versions) heads (drop (recordLength rest) rest)
+      | role-is.Head ↦ scanOn k settings versions (suc heads) (drop (recordLength rest) rest)
+      | role-is.End ↦ cond (eqb (length rest) (recordLength rest)) (Whole settings versions heads) Broken
     ]

@@ -51,7 +51,7 @@ recordBytes Broken = []
 abbrev pub longestRecord : ℕ
 longestRecord = length (versionBytes (entry 0 0 0 0))
 
--- the paper's number for each record: what is none is why a tape "isn't such a sequence of whole records", 7
+-- the paper's number for each record: 0, and for what is none "7 tape isn't such a sequence of whole records"
 abbrev pub recordRefusal : Record → ℕ
 recordRefusal (Start settings) = 0
 recordRefusal (Version node) = 0

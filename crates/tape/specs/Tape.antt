@@ -98,18 +98,18 @@ headSlots (h ∷ before) = set (headSlots before) (h .0) (some (h .1))
 abbrev pub roomOf : Content → Room
 roomOf t = record { settings = t .settings; versions = t .versions; heads = headSlots (t .heads) }
 
--- "the first console not 0, a console not above the one before it or above 15"
+-- none of "the first console not 0, a console not above the one before it or above 15"
 unfoldable pub consolesRise : List (ℕ × ℕ) → Bool
 consolesRise [] = false
 consolesRise (h ∷ []) = eqb (h .0) 0
 consolesRise (h ∷ (before ∷ rest)) = ltb (before .0) (h .0) && isConsole (h .0) && consolesRise (before ∷ rest)
 
--- "a head that names no version"
+-- nowhere "a head that names no version"
 unfoldable pub headsNamed : Graph → List (ℕ × ℕ) → Bool
 headsNamed g [] = true
 headsNamed g (h ∷ before) = ltb (h .1) (versionCount g) && headsNamed g before
 
--- "9 on a tape: more versions than capacity, a parent not below its own version, an entry code, strip or operand out of range, the first
+-- None of "9 on a tape: more versions than capacity, a parent not below its own version, an entry code, strip or operand out of range, the first
 -- console not 0, a console not above the one before it or above 15, a head that names no version."
 abbrev pub inRange : Content → Bool
 inRange t =

@@ -9,7 +9,7 @@ ghost use Prim.Native.Nat.{_≤_};
 ghost use lib.Dec.{eqb};
 ghost use lib.ListN.{length, drop};
 ghost use Rattle.tape.specs.Tape.{contentOf, inVersions, readOn};
-ghost use Rattle.tape.specs.Reader.{scannedOf, scanRefusal, kindOf};
+ghost use Rattle.tape.specs.Reader.{scannedOf, scanRefusal, roleOf};
 
 // A tape is whole, with what the room is set to and how many versions and heads it has, or it is refused with 7.
 pub enum Scanned {
@@ -22,7 +22,7 @@ pub enum Scanned {
 }
 
 // What a record is to the scan: one that may not stand there, a version, a head, or the end.
-enum Kind {
+enum Role {
     Misplaced,
     Version,
     Head,
@@ -30,7 +30,7 @@ enum Kind {
 }
 
 // One kind where no head was read, another where one was.
-fn by_heads(heads: usize, none: Kind, some: Kind) -> Kind
+fn by_heads(heads: usize, none: Role, some: Role) -> Role
     ensures { λ r. ⌜ r ≡ cond (eqb heads 0) none some ⌝ }
 {
     if heads == 0 {
@@ -40,17 +40,17 @@ fn by_heads(heads: usize, none: Kind, some: Kind) -> Kind
 }
 
 // What a record is to the scan after so many heads.
-fn kind_of(x: Record, heads: usize) -> Kind
-    ensures { λ r. ⌜ r ≡ kindOf x heads ⌝ }
+fn role_of(x: Record, heads: usize) -> Role
+    ensures { λ r. ⌜ r ≡ roleOf x heads ⌝ }
 {
     match x {
-        Record::Version { node: _ } => by_heads(heads, Kind::Version, Kind::Misplaced),
+        Record::Version { node: _ } => by_heads(heads, Role::Version, Role::Misplaced),
         Record::Head {
             console: _,
             version: _,
-        } => Kind::Head,
-        Record::End => by_heads(heads, Kind::Misplaced, Kind::End),
-        Record::Start { settings: _ } | Record::Broken => Kind::Misplaced,
+        } => Role::Head,
+        Record::End => by_heads(heads, Role::Misplaced, Role::End),
+        Record::Start { settings: _ } | Record::Broken => Role::Misplaced,
     }
 }
 
@@ -79,19 +79,19 @@ fn scan_on(tape: &[u8], start: usize, settings: Settings) -> Scanned
     while at < tape.len() {
         let taken = read_at(tape, at);
         let found = taken.found;
-        let kind = kind_of(found, heads);
+        let role = role_of(found, heads);
         at = taken.next;
-        match kind {
-            Kind::Misplaced => {
+        match role {
+            Role::Misplaced => {
                 return Scanned::Broken;
             }
-            Kind::Version => {
+            Role::Version => {
                 versions = versions + 1;
             }
-            Kind::Head => {
+            Role::Head => {
                 heads = heads + 1;
             }
-            Kind::End => {
+            Role::End => {
                 return scan_end(at == tape.len(), settings, versions, heads);
             }
         }

@@ -22,7 +22,7 @@ ghost use Rattle.tape.specs.declared.Record.the-variants.{Start, Head, E
 ghost use Rattle.tape.specs.Record.{versionBytes, recordBytes, longestRecord};
 
 // Writes a number's 8 bits at a place, and says where they end.
-fn put_byte(tape: &mut [u8], at: usize, x: usize) -> usize
+fn put_record_byte(tape: &mut [u8], at: usize, x: usize) -> usize
     requires { ⌜ at < length (now tape) ⌝ }
     ensures { λ r. ⌜ (r ≡ at + 1) × (now (tape .exit) ≡ withPart (now (tape .entry)) at (byte x ∷ [])) ⌝ }
 {
@@ -31,7 +31,7 @@ fn put_byte(tape: &mut [u8], at: usize, x: usize) -> usize
 }
 
 // Writes a number's 16 bits at a place, and says where they end.
-fn put_field(tape: &mut [u8], at: usize, x: usize) -> usize
+fn put_record_word(tape: &mut [u8], at: usize, x: usize) -> usize
     requires { ⌜ at + 1 < length (now tape) ⌝ }
     ensures { λ r. ⌜ (r ≡ at + 2) × (now (tape .exit) ≡ withPart (now (tape .entry)) at (word x)) ⌝ }
 {
@@ -40,16 +40,16 @@ fn put_field(tape: &mut [u8], at: usize, x: usize) -> usize
 }
 
 // Writes the record that every tape begins with, at its front.
-pub fn put_start(tape: &mut [u8], settings: Settings) -> usize
+pub fn put_start_record(tape: &mut [u8], settings: Settings) -> usize
     requires { ⌜ length (recordBytes (Start settings)) ≤ length (now tape) ⌝ }
     ensures { λ r. ⌜ (r ≡ length (recordBytes (Start settings))) × (now (tape .exit) ≡ withPart (now (tape .entry)) 0 (recordBytes (Start settings))) ⌝ }
 {
-    let coded = put_byte(tape, 0, START_RECORD);
-    put_field(tape, coded, settings.capacity)
+    let coded = put_record_byte(tape, 0, START_RECORD);
+    put_record_word(tape, coded, settings.capacity)
 }
 
 // Writes the record of an entry at a place.
-fn put_entry(
+fn put_entry_record(
     tape: &mut [u8],
     at: usize,
     parent: Version,
@@ -60,21 +60,21 @@ fn put_entry(
     requires { ⌜ at + length (versionBytes (Entry parent code strip operand)) ≤ length (now tape) ⌝ }
     ensures { λ r. ⌜ (r ≡ at + length (versionBytes (Entry parent code strip operand))) × (now (tape .exit) ≡ withPart (now (tape .entry)) at (versionBytes (Entry parent code strip operand))) ⌝ }
 {
-    let coded = put_byte(tape, at, ENTRY_RECORD);
-    let second = put_field(tape, coded, parent.0);
-    let third = put_byte(tape, second, code);
-    let fourth = put_byte(tape, third, strip.0);
-    put_field(tape, fourth, operand)
+    let coded = put_record_byte(tape, at, ENTRY_RECORD);
+    let second = put_record_word(tape, coded, parent.0);
+    let third = put_record_byte(tape, second, code);
+    let fourth = put_record_byte(tape, third, strip.0);
+    put_record_word(tape, fourth, operand)
 }
 
 // Writes the record of a merge at a place.
-fn put_merge(tape: &mut [u8], at: usize, receiver: Version, giver: Version) -> usize
+fn put_merge_record(tape: &mut [u8], at: usize, receiver: Version, giver: Version) -> usize
     requires { ⌜ at + length (versionBytes (Merge receiver giver)) ≤ length (now tape) ⌝ }
     ensures { λ r. ⌜ (r ≡ at + length (versionBytes (Merge receiver giver))) × (now (tape .exit) ≡ withPart (now (tape .entry)) at (versionBytes (Merge receiver giver))) ⌝ }
 {
-    let coded = put_byte(tape, at, MERGE_RECORD);
-    let second = put_field(tape, coded, receiver.0);
-    put_field(tape, second, giver.0)
+    let coded = put_record_byte(tape, at, MERGE_RECORD);
+    let second = put_record_word(tape, coded, receiver.0);
+    put_record_word(tape, second, giver.0)
 }
 
 // How many bytes the record of a version takes.
@@ -96,7 +96,7 @@ pub fn version_length(node: Node) -> usize
 }
 
 // Writes the record of a version at a place.
-pub fn put_version(tape: &mut [u8], at: usize, node: Node) -> usize
+pub fn put_version_record(tape: &mut [u8], at: usize, node: Node) -> usize
     requires { ⌜ at + length (versionBytes node) ≤ length (now tape) ⌝ }
     ensures { λ r. ⌜ (r ≡ at + length (versionBytes node)) × (now (tape .exit) ≡ withPart (now (tape .entry)) at (versionBytes node)) ⌝ }
 {
@@ -106,25 +106,25 @@ pub fn put_version(tape: &mut [u8], at: usize, node: Node) -> usize
             code,
             strip,
             operand,
-        } => put_entry(tape, at, parent, code, strip, operand),
-        Node::Merge { receiver, giver } => put_merge(tape, at, receiver, giver),
+        } => put_entry_record(tape, at, parent, code, strip, operand),
+        Node::Merge { receiver, giver } => put_merge_record(tape, at, receiver, giver),
     }
 }
 
 // Writes the record of a console's head at a place.
-pub fn put_head(tape: &mut [u8], at: usize, console: Console, version: Version) -> usize
+pub fn put_head_record(tape: &mut [u8], at: usize, console: Console, version: Version) -> usize
     requires { ⌜ at + length (recordBytes (Head console version)) ≤ length (now tape) ⌝ }
     ensures { λ r. ⌜ (r ≡ at + length (recordBytes (Head console version))) × (now (tape .exit) ≡ withPart (now (tape .entry)) at (recordBytes (Head console version))) ⌝ }
 {
-    let coded = put_byte(tape, at, HEAD_RECORD);
-    let second = put_byte(tape, coded, console.0);
-    put_field(tape, second, version.0)
+    let coded = put_record_byte(tape, at, HEAD_RECORD);
+    let second = put_record_byte(tape, coded, console.0);
+    put_record_word(tape, second, version.0)
 }
 
 // Writes the last byte of a tape at a place.
-pub fn put_end(tape: &mut [u8], at: usize) -> usize
+pub fn put_end_record(tape: &mut [u8], at: usize) -> usize
     requires { ⌜ at + length (recordBytes End) ≤ length (now tape) ⌝ }
     ensures { λ r. ⌜ (r ≡ at + length (recordBytes End)) × (now (tape .exit) ≡ withPart (now (tape .entry)) at (recordBytes End)) ⌝ }
 {
-    put_byte(tape, at, END_RECORD)
+    put_record_byte(tape, at, END_RECORD)
 }

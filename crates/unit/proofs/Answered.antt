@@ -8,12 +8,11 @@ use native.Mathlib.Omega.{arith}
 use lib.Dec.{eqb}
 use lib.ListN.{length}
 use borrow.Author.Tests.{ltb-true, ltb-false, lt-ltb, le-ltb, ne-eqb, not-false}
-use Rattle.laws.proofs.Logic.{or-none-l, or-none-r}
+use Rattle.laws.proofs.Logic.{or-none-l, or-none-r, or-same, not-both}
 use Rattle.buffer.specs.Field.{overwrite}
 use Rattle.board.specs.Board.{boardSize}
 use Rattle.refusal.specs.Refusal.{_when_, firstRefusal}
 use Rattle.command.specs.Code.{consoleCount, isConsole}
-use Rattle.refusal.proofs.Refusals.{none-applies}
 use Rattle.command.proofs.Limits.{within-true}
 use Rattle.room.specs.Room.{present, openSettings}
 use Rattle.room.specs.Sound.{settingsInRange}
@@ -22,7 +21,7 @@ use Rattle.store.specs.Layout.{storeSize, roomIn, holdsStore}
 use Rattle.unit.specs.declared.Reply.{Reply}
 use Rattle.unit.specs.Calls.{Outcome, replied, written, bufferTests, openTests, consoleTests, pairTests}
 use Rattle.refusal.specs.Refusal.{firstOf}
-use Rattle.refusal.proofs.Refusals.{numbered, first-append}
+use Rattle.refusal.proofs.Refusals.{none-applies, numbered, first-append, first-none}
 
 -- a call with this reply, which left this in the lent buffer, went as it should
 abbrev pub Went : Reply → List ℕ → Outcome → Type 0
@@ -63,10 +62,6 @@ module _ (tests : List (ℕ × Bool)) (buffer : List ℕ) (size : ℕ) (k : numb
   unfolding firstRefusal
   buffer-fits z l = rw (first-append tests _ k, sym e ∙ z, le-ltb (length buffer) size l)
 
-first-none : (a b : ℕ) → firstOf a b ≡ 0 → (a ≡ 0) × (b ≡ 0)
-first-none zero b h = (refl, h)
-first-none (suc a) b h = absurd (omega (arith, rw (ne-eqb (suc a) 0 (omega arith)) at h))
-
 pub buffer-allowed : (tests : List (ℕ × Bool)) (buffer : List ℕ) (size : ℕ) → numbered tests ≡ true
     → firstRefusal (bufferTests tests buffer size) ≡ 0 → (firstRefusal tests ≡ 0) × (size ≤ length buffer)
 buffer-allowed tests buffer size k h =
@@ -81,10 +76,6 @@ opening-allowed capacity s e z =
     (not-false (settingsInRange (openSettings capacity)) (none-applies _ (n .0) .0 (omega arith)), n .1)
 
 -- two consoles: the tests as the code makes them
-not-both : (a b : Bool) → not a || not b ≡ not (a && b)
-not-both true b = refl
-not-both false b = refl
-
 pub pair-tested : (s : List ℕ) (c d : ℕ) → firstRefusal (pairTests s c d)
     ≡ cond (not (isConsole c && isConsole d)) 3 (cond (not (holdsStore s)) 11 (cond (not (present (roomIn s) c && present (roomIn s) d)) 12 0))
 unfolding firstRefusal
@@ -113,10 +104,6 @@ pair-allowed s c d e z =
     }
 
 -- a console is asked after as two that are the same
-or-same : (b : Bool) → b || b ≡ b
-or-same true = refl
-or-same false = refl
-
 pub pair-sole : (s : List ℕ) (c : ℕ) → firstRefusal (pairTests s c c) ≡ firstRefusal (consoleTests s c)
 pair-sole s c = rw (or-same (not (isConsole c)), or-same (absent (roomIn s) c))
 

@@ -12,7 +12,7 @@ use lib.ListN.{length-map}
 use Rattle.laws.proofs.Logic.{bool-ext}
 use Rattle.graph.specs.declared.Node.{Node}
 use Rattle.graph.specs.declared.Node.the-variants.{Entry, Merge}
-use Rattle.graph.specs.Graph.{Graph, entry, merge, versionCount, ancestor, nodeOf, entryNode, isEntry}
+use Rattle.graph.specs.Graph.{Graph, entry, merge, versionCount, ancestor, nodeOf, isEntryNode, isEntry}
 use Rattle.room.proofs.Counters.{entryIs}
 use Rattle.unit.specs.Journal.{madeBy, leads, madeAs, wasEntered, callOf}
 
@@ -32,7 +32,7 @@ unfolding madeAs nodeOf
 made-node [] v = refl
 made-node (n ∷ g) v = cc (length-map g madeBy, made-node g v, made-chosen (eqb v (versionCount g)) (some n) (nodeOf g v))
 
-node-entered : (o : Option Node) → wasEntered (Option·map madeBy o) ≡ entryNode o
+node-entered : (o : Option Node) → wasEntered (Option·map madeBy o) ≡ isEntryNode o
 node-entered none = refl
 node-entered (some (Entry p code strip operand)) = refl
 node-entered (some (Merge p q)) = refl

@@ -18,7 +18,7 @@ use Rattle.room.specs.Room.{Room}
 use Rattle.store.specs.Layout.{storeSize, encode, roomIn, holdsStore}
 use Rattle.store.proofs.RoundTrip.{encode-length, room-encode, holds-encode, holds-sound, holds-front}
 use Rattle.tape.specs.Tape.{Content, contentOf, contentTests, contentRefusal, roomOf, tapeOf}
-use Rattle.tape.proofs.Records.{Bytes}
+use Rattle.buffer.proofs.Parts.{Bytes}
 use Rattle.tape.proofs.Accepted.{Accepted, accepted, accepts}
 use Rattle.tape.proofs.RoundTrip.{contentIn, tape-content, tape-room, tape-accepted, tape-forth}
 use Rattle.unit.specs.Calls.{replied, written, pauseTests, pauseOutcome, resumeTests, resumed, resumeOutcome}

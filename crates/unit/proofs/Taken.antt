@@ -4,6 +4,7 @@ use mathlib.Core.Path.{_≡_, refl, sym, _∙_}
 use mathlib.Core.Bool.{Bool, true, false, cond}
 use lib.Dec.{eqb}
 use mathlib.Core.List.{List}
+use Rattle.laws.proofs.Logic.{cond-same}
 use mathlib.Core.Option.{Option, none, some}
 use Prim.Native.Nat.{ℕ}
 use Rattle.refusal.specs.Refusal.{firstRefusal}
@@ -22,10 +23,6 @@ resume-refused (some t) store = refl
 resumed-none : (old : List ℕ) → resumedStore none old ≡ old
 unfolding resumedStore firstRefusal
 resumed-none old = refl
-
-cond-same : (t : Bool) (x : List ℕ) → cond t x x ≡ x
-cond-same true x = refl
-cond-same false x = refl
 
 resumed-told : (o : Option Content) (old new : List ℕ) (n : ℕ) → n ≡ resumeRefusal o old → new ≡ resumedStore o old
     → Went (replied n 0) new (resumed o old)

@@ -1,6 +1,6 @@
 -- "A refusal returns its number, counts 0, and changes no lent byte. An accepted call returns 0, and with it a question its number, pause
 -- and the copied board the bytes written, all others count 0." For each call its reply and the lent buffer that it may write, afterwards;
--- a command, a tape to resume, and the store of a question are lent for reading alone, so that nothing can change them.
+-- a command, a tape to resume, and the store of a question or a pause are lent for reading alone, so that nothing can change them.
 use Prim.Native.Nat.{ℕ}
 use mathlib.Core.Bool.{Bool, cond, not, _||_}
 use mathlib.Core.List.{List, [], _∷_, _++_}
@@ -44,7 +44,7 @@ tooShort buffer size = ltb (length buffer) size
 abbrev pub holdsNoStore : List ℕ → Bool
 holdsNoStore store = not (holdsStore store)
 
--- The last test of a call that writes so many bytes at the front of a lent buffer is 19, after these.
+-- The last test of opening, resume, pause and the copied board, which write so many bytes at the front of a lent buffer, is 19.
 abbrev pub bufferTests : List (ℕ × Bool) → List ℕ → ℕ → List (ℕ × Bool)
 bufferTests tests buffer size = tests ++ (19 when tooShort buffer size ∷ [])
 
@@ -82,11 +82,12 @@ resumed (some t) store = written (firstRefusal (resumeTests (some t) store)) 0 (
 unfoldable pub resumeOutcome : List ℕ → List ℕ → Outcome
 resumeOutcome tape store = resumed (contentOf tape) store
 
--- The calls that ask a store. A question's reply: refused by the first of its tests that applies, else its number.
+-- The calls that ask a store: the three questions and pause. One that answers a number: refused by the first of its tests that applies,
+-- else that number.
 abbrev pub questionReply : List (ℕ × Bool) → ℕ → Reply
 questionReply tests number = replied (firstRefusal tests) number
 
--- a question that writes so many bytes at the front of a lent output, and counts them
+-- one that writes so many bytes at the front of a lent output, and counts them
 abbrev pub outputOutcome : List (ℕ × Bool) → ℕ → List ℕ → List ℕ → Outcome
 outputOutcome tests size new output = written (firstRefusal (bufferTests tests output size)) size new output
 
@@ -133,7 +134,7 @@ pauseOutcome store output =
     let tape : List ℕ = tapeOf (roomIn store) in
     outputOutcome (pauseTests store) (length tape) tape output
 
--- A question to a store, with the output lent to it.
+-- What a store is asked, with the output lent for it: "the three questions (board, heard count, common version)", and its tape.
 pub data Question : Type 0 where
   heard : ℕ → Question
   commonVersion : ℕ → ℕ → Question
@@ -147,7 +148,7 @@ answerTo store (commonVersion first second) = record { reply = commonReply store
 answerTo store (board console output) = boardOutcome store console output
 answerTo store (pause output) = pauseOutcome store output
 
--- A call on a store: one that changes it, or a question.
+-- A call on a store: one that changes it, or one that asks it.
 pub data Call : Type 0 where
   opening : ℕ → Call
   command : List ℕ → Call
@@ -161,16 +162,9 @@ replyTo store (command c) = (commandOutcome store c) .reply
 replyTo store (resume tape) = (resumeOutcome tape store) .reply
 replyTo store (question q) = (answerTo store q) .reply
 
--- and the store's buffer afterwards, which a question leaves as it is
+-- and the store's buffer afterwards, which a call that asks leaves as it is
 unfoldable pub storeAfter : List ℕ → Call → List ℕ
 storeAfter store (opening capacity) = (openOutcome capacity store) .buffer
 storeAfter store (command c) = (commandOutcome store c) .buffer
 storeAfter store (resume tape) = (resumeOutcome tape store) .buffer
 storeAfter store (question q) = store
-
--- and the output lent to a question, which no other call has
-unfoldable pub outputAfter : List ℕ → Call → List ℕ
-outputAfter store (opening capacity) = []
-outputAfter store (command c) = []
-outputAfter store (resume tape) = []
-outputAfter store (question q) = (answerTo store q) .buffer

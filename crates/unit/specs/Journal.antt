@@ -8,8 +8,8 @@ use lib.Dec.{eqb}
 use lib.ListN.{length, getD, set, replicate}
 use Rattle.graph.specs.Below.{countBelow}
 use Rattle.graph.specs.declared.Node.{Node}
-use Rattle.graph.specs.declared.Node.the-variants.{Entry, Merge}
-use Rattle.graph.specs.Graph.{entry, merge, isSome}
+use Rattle.graph.specs.declared.Node.the-variants as node-is
+use Rattle.graph.specs.Graph.{isSome}
 use Rattle.command.specs.declared.Command.the-variants.{Fork, Entry, Merge, FastForward}
 use Rattle.command.specs.declared.Decoded.{Decoded}
 use Rattle.command.specs.declared.Decoded.the-variants.{Whole, Refused}
@@ -71,8 +71,8 @@ afterCommand j (Refused n) = j
 -- "Resume: version 0 anew, then a version for each record 21 or 22 in order, with the parents, code and strip written there, then the
 -- heads of records 23."
 abbrev pub madeBy : Node → Made
-madeBy (Entry p code strip operand) = entered (p .0) code (strip .0)
-madeBy (Merge p q) = merged (p .0) (q .0)
+madeBy (node-is.Entry p code strip operand) = entered (p .0) code (strip .0)
+madeBy (node-is.Merge p q) = merged (p .0) (q .0)
 
 unfoldable pub afterTape : Journal → Option Content → Journal
 afterTape j none = j

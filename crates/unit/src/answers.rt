@@ -1,7 +1,7 @@
 // Replies, and the numbers of calls in the machine's width.
 use crate::Reply;
 ghost use mathlib.Core.Path.{_≡_};
-ghost use Prim.Native.Nat.{_≤_};
+ghost use Prim.Native.Nat.{_<_, _^_};
 ghost use Rattle.unit.specs.Calls.{replied};
 
 // The reply of a call that counts nothing: refused with this number, or accepted.
@@ -16,7 +16,7 @@ pub fn reply_of(n: u32) -> Reply
 
 // The reply of an accepted call with this count.
 pub fn counted(n: usize) -> Reply
-    requires { ⌜ n ≤ 8192 ⌝ }
+    requires { ⌜ n < 2 ^ 32 ⌝ }
     ensures { λ r. ⌜ r ≡ replied 0 n ⌝ }
 {
     Reply {

@@ -22,7 +22,7 @@ use Rattle.buffer.proofs.Sets.{row-ext, row-with}
 use Rattle.buffer.proofs.Stands.{Stands, stands-kept}
 use Rattle.board.specs.Board.{boardSize}
 use Rattle.graph.specs.declared.Node.{Node}
-use Rattle.graph.specs.Graph.{Graph, entry, merge, versionCount, ancestor, nodeOf, entryNode, isEntry, baseOf, everyVersion, parentsLower}
+use Rattle.graph.specs.Graph.{Graph, entry, merge, versionCount, ancestor, nodeOf, isEntryNode, isEntry, baseOf, everyVersion, parentsLower}
 use Rattle.room.specs.Sound.{maxCapacity}
 use Rattle.room.specs.Boards.{boardMade, boardOf}
 use Rattle.room.proofs.Lengths.{boardOf-length}
@@ -65,7 +65,7 @@ entry-listed : (g : Graph) (p code strip operand u : ℕ)
 unfolding nodeOf
 entry-listed g p code strip operand u = go (eqb u (versionCount g))
   where
-    go : (b : Bool) → (b || isEntry g u) ≡ entryNode (cond b (some (entry p code strip operand)) (nodeOf g u))
+    go : (b : Bool) → (b || isEntry g u) ≡ isEntryNode (cond b (some (entry p code strip operand)) (nodeOf g u))
     go true = refl
     go false = refl
 
@@ -73,7 +73,7 @@ merge-unlisted : (g : Graph) (p q u : ℕ) → isEntry g u ≡ isEntry (merge p 
 unfolding nodeOf
 merge-unlisted g p q u = go (eqb u (versionCount g)) refl
   where
-    go : (b : Bool) → eqb u (versionCount g) ≡ b → isEntry g u ≡ entryNode (cond b (some (merge p q)) (nodeOf g u))
+    go : (b : Bool) → eqb u (versionCount g) ≡ b → isEntry g u ≡ isEntryNode (cond b (some (merge p q)) (nodeOf g u))
     go true e = no-entry g u (omega (arith, eqb-true u (versionCount g) e))
     go false e = refl
 

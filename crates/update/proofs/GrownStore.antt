@@ -28,9 +28,9 @@ use Rattle.room.proofs.Sound.{Sound, facts-sound}
 use Rattle.room.proofs.Steps.{head-named, entry-grown, merge-grown}
 use Rattle.store.specs.Layout.{headerSize, rowSize, blockSize, countAt, entriesAt, commonsAt, commonsEnd, commonAt, blockAt, commonField, encode, roomIn, holdsStore}
 use Rattle.store.specs.Check.{commonIn}
-use Rattle.store.proofs.Joined.{Placed, placed, join-encode}
+use Rattle.store.proofs.Joined.{Placed, placed}
 use Rattle.store.proofs.Moved.{commonField-sym, grown-self, grown-other, entry-row, entry-column, merge-row, merge-column}
-use Rattle.store.proofs.Overwritten.{overwritten}
+use Rattle.store.proofs.Changed.{changed-store}
 use Rattle.store.proofs.Reading.{common-read}
 use Rattle.store.proofs.Whole.{whole-sound, whole-ranges, whole-front, whole-long, whole-header}
 use Rattle.update.specs.Append.{withEntry, withMerge}
@@ -46,21 +46,6 @@ in-range code strip operand a b c = and-i _ _ (and-i _ _ a (lt-ltb strip stripCo
 common-base : (r : Room) (c d : ℕ) → common r c d ≡ baseOf (r .versions) (head r c) (head r d)
 unfolding common
 common-base r c d = refl
-
--- the unused blocks, of which the first ones are used
-pub free-later : {s u : List ℕ} (n m capacity : ℕ) → n ≤ m → m ≤ capacity → Stands s (blockAt n) (zeros (blockSize * (capacity - n)))
-    → ((k : ℕ) → blockAt m ≤ k → getD u k 0 ≡ getD s k 0) → Stands u (blockAt m) (zeros (blockSize * (capacity - m)))
-free-later {s} n m capacity a l h kept =
-    record {
-      read = λ i b.
-          let small : i < blockSize * (capacity - m) = rw zeros-length at b in
-          let there : blockSize * (m - n) + i < blockSize * (capacity - n) = omega arith in
-          kept (blockAt m + i) (omega arith)
-          ∙ ap (λ (k : ℕ). getD s k 0) (omega arith)
-          ∙ h .read (blockSize * (m - n) + i) (rw zeros-length there)
-          ∙ getD-replicate (blockSize * (capacity - n)) (blockSize * (m - n) + i) 0 0 there
-          ∙ sym (getD-replicate (blockSize * (capacity - m)) i 0 0 small);
-    }
 
 -- a store that holds fewer versions than it may
 module _ (s : List ℕ) (t : holdsStore s ≡ true) (left : versionCount (roomIn s .versions) < roomIn s .settings .capacity) where
@@ -118,26 +103,23 @@ module _ (s : List ℕ) (t : holdsStore s ≡ true) (left : versionCount (roomIn
         → ((j k : ℕ) → j < consoleCount → k < consoleCount → Stands u (commonAt j k) (word (commonField (grown r c m) j k)))
         → u ≡ overwrite (encode (grown r c m)) s
     grown-store u c sound long table commons =
-        let same : (k : ℕ) → Old k → (commonsAt ≤ k → k < commonsEnd → ⊥) → getD u k 0 ≡ getD s k 0 =
-        λ k o b. table k b ∙ counted-kept k o in
         let stays : (k : ℕ) → (countAt ≤ k → k < countAt + 2 → ⊥) → (commonsAt ≤ k → k < commonsEnd → ⊥) → getD u k 0 ≡ getD a k 0 =
         λ k o b. table k b ∙ count-kept k o in
         let header = left-fits in
         let whole = grew .long in
         let wide = rowFrom-length (isEntry (m ∷ g)) 0 rowSize in
-        overwritten s u (grown r c m) (facts-sound (grown r c m) sound)
-        (join-encode (grown r c m)
+        changed-store parts
         (record {
-          settings = stands-kept (parts .settings) (λ i x y. same i (omega arith) (omega arith));
+          settings = refl;
+          more = omega arith;
+          fits = left;
+          kept = λ k o. table k (λ x y. o .1 (omega arith) y) ∙ counted-kept k (o .0, λ x y. o .1 x (omega arith), o .2);
           count = stands-kept (put-stands a countAt (suc n) (omega arith)) (λ i x y. table i (omega arith));
-          gap = stands-kept (parts .gap) (λ i x y. same i (omega arith) (omega arith));
           entries = stands-kept (grew .standing .entries) (λ i x y. stays i (omega arith) (omega arith));
           commons = commons;
-          rest = stands-kept (parts .rest) (λ i x y. same i (omega (arith, zeros-length (headerSize - commonsEnd))) (omega arith));
           versions = λ v l. stands-kept (grew .standing .versions v l) (λ i x y. stays i (omega arith) (omega arith));
-          free = free-later n (suc n) (r .settings .capacity) (omega arith) left (parts .free) (λ k l. same k (omega arith) (omega arith));
-        }))
-        (whole-long s t) (long ∙ counted-long) (λ k l. same k (omega arith) (omega arith))
+        })
+        s (facts-sound (grown r c m) sound) (whole-long s t) (long ∙ counted-long) (λ k l. refl)
 
   -- a present console
   module _ (c : ℕ) (cl : c < consoleCount) (p : present (roomIn s) c ≡ true) where

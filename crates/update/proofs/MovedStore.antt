@@ -1,6 +1,6 @@
 -- A store whose table of common versions was changed for a console that moved to another's head is the encoding of the room after the move.
 -- Assumes nothing.
-use mathlib.Core.Path.{_≡_, sym, _∙_}
+use mathlib.Core.Path.{_≡_, refl, sym, _∙_}
 use mathlib.Core.Bool.{true}
 use mathlib.Core.List.{List}
 use Prim.Native.Nat.{ℕ, _≤_, _<_}
@@ -17,9 +17,9 @@ use Rattle.room.proofs.Sound.{facts-sound}
 use Rattle.room.proofs.Moves.{moved-sound}
 use Rattle.store.specs.Layout.{rowSize, commonsAt, commonsEnd, commonField, encode, roomIn, holdsStore}
 use Rattle.store.specs.Check.{commonIn}
-use Rattle.store.proofs.Joined.{Placed, placed, join-encode}
+use Rattle.store.proofs.Joined.{placed}
 use Rattle.store.proofs.Moved.{moved-self, moved-row, moved-column, moved-other}
-use Rattle.store.proofs.Overwritten.{overwritten}
+use Rattle.store.proofs.Changed.{changed-store}
 use Rattle.store.proofs.Reading.{common-read}
 use Rattle.store.proofs.Whole.{whole-sound, whole-ranges, whole-front, whole-long, whole-header}
 use Rattle.update.specs.Commons.{joinedCommons, putHead}
@@ -37,32 +37,34 @@ module _ (s : List ℕ) (t : holdsStore s ≡ true) (c d : ℕ) (cl : c < consol
   read = common-read s (roomIn s) (whole-front s t) (whole-ranges s t)
 
   -- bytes before and behind the table stay
-  before : (i : ℕ) → i < commonsAt → getD changed i 0 ≡ getD s i 0
-  before i l = table-kept s c d cl dl (commonIn s d d) (whole-header s t) i (λ k kl. omega arith)
+  outside : (i : ℕ) → (commonsAt ≤ i → i < commonsEnd → ⊥) → getD changed i 0 ≡ getD s i 0
+  outside i o =
+      table-kept s c d cl dl (commonIn s d d) (whole-header s t) i
+      (λ k kl. (
+        λ x. o (omega arith) (omega arith),
+        λ x. o (omega arith) (omega arith),
+        λ x. o (omega arith) (omega arith),
+        λ x. o (omega arith) (omega arith),
+      ))
 
-  behind : (i : ℕ) → commonsEnd ≤ i → getD changed i 0 ≡ getD s i 0
-  behind i l = table-kept s c d cl dl (commonIn s d d) (whole-header s t) i (λ k kl. omega arith)
-
-  moved-placed : Placed changed after
-  moved-placed =
+  pub moved-store : changed ≡ overwrite (encode after) s
+  moved-store =
       let r = roomIn s in
       let sound = whole-sound s t in
       let p = placed r (whole-front s t) in
-      record {
-        settings = stands-kept (p .settings) (λ i _ l. before i (omega arith));
-        count = stands-kept (p .count) (λ i _ l. before i (omega arith));
-        gap = stands-kept (p .gap) (λ i _ l. before i (omega arith));
-        entries = stands-kept (p .entries) (λ i _ l. before i (omega (arith, rowFrom-length (isEntry (r .versions)) 0 rowSize)));
+      let wide = rowFrom-length (isEntry (r .versions)) 0 rowSize in
+      changed-store p
+      (record {
+        settings = refl;
+        more = omega arith;
+        fits = whole-ranges s t .count;
+        kept = λ k o. outside k (λ x y. o .1 (omega arith) y);
+        count = stands-kept (p .count) (λ i x y. outside i (omega arith));
+        entries = stands-kept (p .entries) (λ i x y. outside i (omega arith));
         commons = table-stands s c d cl dl (commonIn s d d) (whole-header s t) (commonField r) (commonField after)
             (p .commons) read
             (moved-self r sound c d cl q b ∙ sym (read d d dl dl))
             (moved-row r sound c d cl q b) (moved-column r sound c d cl q b) (moved-other r sound c d cl q b);
-        rest = stands-kept (p .rest) (λ i l _. behind i l);
-        versions = λ v l. stands-kept (p .versions v l) (λ i m _. behind i (omega arith));
-        free = stands-kept (p .free) (λ i m _. behind i (omega arith));
-      }
-
-  pub moved-store : changed ≡ overwrite (encode after) s
-  moved-store =
-      overwritten s changed after (facts-sound after (moved-sound (roomIn s) (whole-sound s t) c d cl q b)) (join-encode after moved-placed)
-      (whole-long s t) (table-length s c d cl dl (commonIn s d d) (whole-header s t)) (λ i l. behind i (omega arith))
+        versions = λ v l. stands-kept (p .versions v l) (λ i x y. outside i (omega arith));
+      })
+      s (facts-sound after (moved-sound r sound c d cl q b)) (whole-long s t) (table-length s c d cl dl (commonIn s d d) (whole-header s t)) (λ k l. refl)

@@ -25,7 +25,7 @@ use Rattle.room.proofs.Steps.{fresh-sound}
 use Rattle.store.specs.Layout.{rowSize, storeSize, blockAt, commonAt, commonField, nodeBytes, block, encode}
 use Rattle.store.proofs.Diagonal.{meetNumber-self}
 use Rattle.store.proofs.Behind.{empty-row}
-use Rattle.store.proofs.Versions.{root-line}
+use Rattle.store.proofs.Lineage.{root-lineage}
 use Rattle.store.proofs.Joined.{Placed, join-block, join-encode}
 use Rattle.store.proofs.Overwritten.{overwritten}
 
@@ -94,7 +94,7 @@ module _ {s t : List ℕ} {capacity : ℕ} (room : 1 ≤ capacity) (o : Opened s
   root =
       join-block [] 0
       (none-stands 4096 32 (omega arith) (omega (arith, room)) (λ k a b. omega arith))
-      (subst (Stands t 4128) root-line own-row)
+      (subst (Stands t 4128) root-lineage own-row)
       (none-stands 4256 384 (omega arith) (omega (arith, room)) (λ k a b. omega arith))
 
   placed : Placed t r

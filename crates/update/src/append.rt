@@ -33,7 +33,8 @@ ghost use lib.ListN.{length, set};
 ghost use Rattle.buffer.specs.Field.{byte, withPart};
 ghost use Rattle.buffer.specs.Row.{withMember, union};
 ghost use Rattle.board.specs.Board.{stripCount, enter, mergeBoard};
-ghost use Rattle.store.specs.Layout.{headerSize, nodeSize, entriesAt, blockAt, rowAt, boardAt, entryNodeBytes, mergeNodeBytes};
+ghost use Rattle.room.specs.Sound.{maxCapacity};
+ghost use Rattle.store.specs.Layout.{headerSize, nodeSize, entriesAt, blockAt, rowAt, boardAt, isEntryNodeBytes, mergeNodeBytes};
 ghost use Rattle.store.specs.Rules.{nodeInRange};
 ghost use Rattle.store.specs.Check.{rowPart, boardPart, entriesPart};
 ghost use Rattle.update.specs.Append.{withEntry, withMerge, appended, nodeWith};
@@ -49,7 +50,7 @@ fn put_byte(s: &mut [u8], at: usize, x: usize)
 // Writes the node of an entry, all of its bytes.
 fn write_entry(node: &mut [u8], p: Version, code: usize, strip: Strip, operand: usize)
     requires { ⌜ length (now node) ≡ nodeSize ⌝ }
-    ensures { λ _. ⌜ now (node .exit) ≡ entryNodeBytes (p .0) code (strip .0) operand ⌝ }
+    ensures { λ _. ⌜ now (node .exit) ≡ isEntryNodeBytes (p .0) code (strip .0) operand ⌝ }
 {
     clear(node);
     put_byte(node, 0, code);
@@ -88,7 +89,7 @@ fn write_node(bytes: &mut [u8], node: Node, base: Version)
 
 // Puts the node of version n into its block.
 fn put_node(s: &mut [u8], n: Version, node: Node, base: Version)
-    requires { ⌜ (n .0 < 1024) × (blockAt (suc (n .0)) ≤ length (now s)) ⌝ }
+    requires { ⌜ (n .0 < maxCapacity) × (blockAt (suc (n .0)) ≤ length (now s)) ⌝ }
     ensures { λ _. ⌜ now (s .exit) ≡ withPart (now (s .entry)) (blockAt (n .0)) (nodeWith node (base .0)) ⌝ }
 {
     let at = block_at(n);
@@ -98,7 +99,7 @@ fn put_node(s: &mut [u8], n: Version, node: Node, base: Version)
 
 // Puts the row of an entry: its parent's, with the version besides.
 fn put_entry_row(s: &mut [u8], n: Version, p: Version)
-    requires { ⌜ (p .0 < n .0) × (n .0 < 1024) × (blockAt (suc (n .0)) ≤ length (now s)) ⌝ }
+    requires { ⌜ (p .0 < n .0) × (n .0 < maxCapacity) × (blockAt (suc (n .0)) ≤ length (now s)) ⌝ }
     ensures { λ _. ⌜ now (s .exit) ≡ withPart (now (s .entry)) (rowAt (n .0)) (withMember (rowPart (now (s .entry)) (p .0)) (n .0)) ⌝ }
 {
     put_extended(s, row_at(p), row_at(n), n.0);
@@ -106,7 +107,7 @@ fn put_entry_row(s: &mut [u8], n: Version, p: Version)
 
 // Puts the board of an entry: its parent's, with the entry made on it.
 fn put_entry_board(s: &mut [u8], n: Version, p: Version, code: usize, strip: Strip, operand: usize)
-    requires { ⌜ (p .0 < n .0) × (n .0 < 1024) × (blockAt (suc (n .0)) ≤ length (now s)) ⌝ }
+    requires { ⌜ (p .0 < n .0) × (n .0 < maxCapacity) × (blockAt (suc (n .0)) ≤ length (now s)) ⌝ }
     requires { ⌜ (strip .0 < stripCount) ⌝ }
     ensures { λ _. ⌜ now (s .exit) ≡ withPart (now (s .entry)) (boardAt (n .0)) (enter code (strip .0) operand (boardPart (now (s .entry)) (p .0))) ⌝ }
 {
@@ -118,7 +119,7 @@ fn put_entry_board(s: &mut [u8], n: Version, p: Version, code: usize, strip: Str
 
 // Puts version n among the entries.
 fn list_entry(s: &mut [u8], n: Version)
-    requires { ⌜ (n .0 < 1024) × (headerSize ≤ length (now s)) ⌝ }
+    requires { ⌜ (n .0 < maxCapacity) × (headerSize ≤ length (now s)) ⌝ }
     ensures { λ _. ⌜ now (s .exit) ≡ withPart (now (s .entry)) entriesAt (withMember (entriesPart (now (s .entry))) (n .0)) ⌝ }
 {
     let at = ENTRIES;
@@ -128,7 +129,7 @@ fn list_entry(s: &mut [u8], n: Version)
 
 // Writes version n, an entry on version p.
 fn append_entry(s: &mut [u8], n: Version, p: Version, code: usize, strip: Strip, operand: usize)
-    requires { ⌜ (p .0 < n .0) × (n .0 < 1024) × (blockAt (suc (n .0)) ≤ length (now s)) ⌝ }
+    requires { ⌜ (p .0 < n .0) × (n .0 < maxCapacity) × (blockAt (suc (n .0)) ≤ length (now s)) ⌝ }
     requires { ⌜ (strip .0 < stripCount) ⌝ }
     ensures { λ _. ⌜ now (s .exit) ≡ withEntry (now (s .entry)) (n .0) (p .0) code (strip .0) operand ⌝ }
 {
@@ -146,7 +147,7 @@ fn append_entry(s: &mut [u8], n: Version, p: Version, code: usize, strip: Strip,
 
 // Puts the row of a merge: its parents', with the version besides.
 fn put_merge_row(s: &mut [u8], n: Version, p: Version, q: Version)
-    requires { ⌜ (p .0 < n .0) × (q .0 < n .0) × (n .0 < 1024) × (blockAt (suc (n .0)) ≤ length (now s)) ⌝ }
+    requires { ⌜ (p .0 < n .0) × (q .0 < n .0) × (n .0 < maxCapacity) × (blockAt (suc (n .0)) ≤ length (now s)) ⌝ }
     ensures { λ _. ⌜ now (s .exit) ≡ withPart (now (s .entry)) (rowAt (n .0)) (withMember (union (rowPart (now (s .entry)) (p .0)) (rowPart (now (s .entry)) (q .0))) (n .0)) ⌝ }
 {
     put_extended_union(s, row_at(p), row_at(q), row_at(n), n.0);
@@ -154,7 +155,7 @@ fn put_merge_row(s: &mut [u8], n: Version, p: Version, q: Version)
 
 // Puts the board of a merge of q into p over the base l. Two parts of one slice cannot be lent at once, so the three boards are copied first.
 fn put_merge_board(s: &mut [u8], n: Version, p: Version, q: Version, l: Version)
-    requires { ⌜ (p .0 < n .0) × (q .0 < n .0) × (l .0 < n .0) × (n .0 < 1024) × (blockAt (suc (n .0)) ≤ length (now s)) ⌝ }
+    requires { ⌜ (p .0 < n .0) × (q .0 < n .0) × (l .0 < n .0) × (n .0 < maxCapacity) × (blockAt (suc (n .0)) ≤ length (now s)) ⌝ }
     ensures { λ _. ⌜ now (s .exit) ≡ withPart (now (s .entry)) (boardAt (n .0)) (mergeBoard (boardPart (now (s .entry)) (l .0)) (boardPart (now (s .entry)) (p .0)) (boardPart (now (s .entry)) (q .0))) ⌝ }
 {
     let mut base = [0u8; BOARD];
@@ -170,7 +171,7 @@ fn put_merge_board(s: &mut [u8], n: Version, p: Version, q: Version, l: Version)
 
 // Writes version n, a merge of version q into version p with the base l.
 fn append_merge(s: &mut [u8], n: Version, p: Version, q: Version, l: Version)
-    requires { ⌜ (p .0 < n .0) × (q .0 < n .0) × (l .0 < n .0) × (n .0 < 1024) × (blockAt (suc (n .0)) ≤ length (now s)) ⌝ }
+    requires { ⌜ (p .0 < n .0) × (q .0 < n .0) × (l .0 < n .0) × (n .0 < maxCapacity) × (blockAt (suc (n .0)) ≤ length (now s)) ⌝ }
     ensures { λ _. ⌜ now (s .exit) ≡ withMerge (now (s .entry)) (n .0) (p .0) (q .0) (l .0) ⌝ }
 {
     let node = Node::Merge {
@@ -184,7 +185,7 @@ fn append_merge(s: &mut [u8], n: Version, p: Version, q: Version, l: Version)
 
 // Writes version n, whatever made it; of a merge, with its base.
 pub fn append_version(s: &mut [u8], n: Version, node: Node, base: Version)
-    requires { ⌜ (n .0 < 1024) × (blockAt (suc (n .0)) ≤ length (now s)) ⌝ }
+    requires { ⌜ (n .0 < maxCapacity) × (blockAt (suc (n .0)) ≤ length (now s)) ⌝ }
     requires { ⌜ (nodeInRange (n .0) node ≡ true) × (base .0 < n .0) ⌝ }
     ensures { λ _. ⌜ now (s .exit) ≡ appended (now (s .entry)) (n .0) node (base .0) ⌝ }
 {

@@ -14,7 +14,7 @@ returns c =
     let level = heading .before .before .before .before in
     let start = level .before .before .before .before .before .before in
     let a = start .args in
-    strip-built (a .l .now) (a .a .now) (a .b .now) (a .s .now) (start .pre .0) (level .merge-setting-at .ensures) (heading .merge-setting-at2 .ensures)
+    strip-built (a .l .now) (a .a .now) (a .b .now) (a .s .now) (start .pre .0) (level .merge-value-at .ensures) (heading .merge-value-at2 .ensures)
     (marks .merge-marks-at .ensures) (calls .merge-count-at .ensures) (alerts .merge-alerts .ensures)
 
 pub merge-strip-spec : {M : Type 1} → statement M

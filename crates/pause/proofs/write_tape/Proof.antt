@@ -13,31 +13,31 @@ use Rattle.pause.proofs.write_tape.Tie as tie
 settings-of-requires : tie.Need-settings-of-requires
 settings-of-requires c κs = c .before .before .before .pre .0
 
-put-start-requires : tie.Need-put-start-requires
-put-start-requires c κs =
+put-start-record-requires : tie.Need-put-start-record-requires
+put-start-record-requires c κs =
     let s = c .before .before .before .before .args .s .now in omega (arith, tape-size s (length (roomIn s .versions)) refl)
 
 version-count-requires : tie.Need-version-count-requires
 version-count-requires c κs = c .before .before .before .before .before .before .before .pre .0
 
-sub-put-versions : tie.Need-sub-put-versions
-sub-put-versions c = omega arith
+sub-put-version-records : tie.Need-sub-put-version-records
+sub-put-version-records c = omega arith
 
-put-versions-requires : tie.Need-put-versions-requires
-put-versions-requires c κs =
+put-version-records-requires : tie.Need-put-version-records-requires
+put-version-records-requires c κs =
     let count = c .before in
     let start = count .before .before .before .before .before .before .before .before in
     let n = count .version-count .result - 1 in
     ((omega arith, whole-block (start .args .s .now) (start .pre .0) n (omega arith)), omega (arith, tape-size (start .args .s .now) n (omega arith)))
 
-put-heads-requires : tie.Need-put-heads-requires
-put-heads-requires c κs =
+put-head-records-requires : tie.Need-put-head-records-requires
+put-head-records-requires c κs =
     let count = c .before .before .before .before .before in
     let start = count .before .before .before .before .before .before .before .before in
     (start .pre .0, omega (arith, tape-size (start .args .s .now) (count .version-count .result - 1) (omega arith)))
 
-put-end-requires : tie.Need-put-end-requires
-put-end-requires c κs =
+put-end-record-requires : tie.Need-put-end-record-requires
+put-end-record-requires c κs =
     let count = c .before .before .before .before .before .before .before .before .before in
     let start = count .before .before .before .before .before .before .before .before in
     omega (arith, tape-size (start .args .s .now) (count .version-count .result - 1) (omega arith))
@@ -54,18 +54,18 @@ returns c =
     let first = count .before .before .before in
     let start = first .before .before .before .before .before in
     tape-written (start .args .s .now) (count .version-count .result - 1) (omega arith) (start .args .tape .now) (start .pre .1)
-    (rw (first .before .settings-of .ensures .0) at (first .put-start .ensures)) (versions .put-versions .ensures) (heads .put-heads .ensures) (end .put-end .ensures)
+    (rw (first .before .settings-of .ensures .0) at (first .put-start-record .ensures)) (versions .put-version-records .ensures) (heads .put-head-records .ensures) (end .put-end-record .ensures)
 
 pub write-tape-spec : {M : Type 1} → statement M
 write-tape-spec =
     tie.close
     (tie.spec
     settings-of-requires
-    put-start-requires
+    put-start-record-requires
     version-count-requires
-    sub-put-versions
-    put-versions-requires
-    put-heads-requires
-    put-end-requires
+    sub-put-version-records
+    put-version-records-requires
+    put-head-records-requires
+    put-end-record-requires
     same-length
     returns)

@@ -2,12 +2,12 @@
 -- Assumes nothing.
 use mathlib.Core.Path.{_≡_}
 use native.Mathlib.Omega.{arith}
-use Rattle.resume.proofs.Highest.{Apart, apart-start, apart-more, apart-found, apart-all}
+use Rattle.resume.proofs.Highest.{NoneAbove, apart-start, apart-more, apart-found, apart-all}
 use Rattle.resume.proofs.rows.highest_common.Statement.{statement}
 use Rattle.resume.proofs.rows.highest_common.Tie as tie
 
 abbrev Inv-loop : tie.InvT-loop
-Inv-loop p q k₀ k = Apart p q k
+Inv-loop p q k₀ k = NoneAbove p q k
 
 abbrev μ-loop : tie.MeasureT-loop
 μ-loop p q k₀ k = k

@@ -4,7 +4,7 @@ use Prim.Native.Nat.{_-_, _<_}
 use lib.ListN.{length}
 use Rattle.room.proofs.Sound.{sound-facts}
 use Rattle.tape.specs.Tape.{roomOf}
-use Rattle.tape.proofs.Records.{Bytes}
+use Rattle.buffer.proofs.Parts.{Bytes}
 use Rattle.resume.specs.Content.{contentIn}
 use Rattle.resume.proofs.Along.{Versions, version-inside}
 use Rattle.resume.proofs.VersionsWritten.{Built, sound-ready, written-none, written-all, written-more, next-fits, next-ranged, next-based}

@@ -7,7 +7,8 @@ use Rattle.refusal.specs.Refusal.{_when_, firstRefusal, firstOf}
 use Rattle.refusal.proofs.Refusals.{first-append}
 use Rattle.room.specs.Step.{receiverGiverTests}
 use Rattle.store.specs.Layout.{roomIn}
-use Rattle.step.proofs.Groups.{first-given, first-later, both-present}
+use Rattle.refusal.proofs.Refusals.{first-given, first-later}
+use Rattle.step.proofs.Groups.{both-present}
 use Rattle.step.proofs.refusals.merge_refusal.Statement.{statement}
 use Rattle.step.proofs.refusals.merge_refusal.Tie as tie
 

@@ -20,8 +20,8 @@ loop-holds c = scanning-starts _ _ _ (omega arith)
 read-at-requires : tie.Need-read-at-requires Inv-loop μ-loop
 read-at-requires c κs = omega arith
 
-kind-of-requires : tie.Need-kind-of-requires Inv-loop μ-loop
-kind-of-requires c κs = tt
+role-of-requires : tie.Need-role-of-requires Inv-loop μ-loop
+role-of-requires c κs = tt
 
 enum-told : tie.Need-enum-told Inv-loop μ-loop
 enum-told c = search needs
@@ -30,7 +30,7 @@ returns : tie.Need-returns Inv-loop μ-loop
 returns c =
     let k = c .before .before in
     let r = k .before in
-    scanning-refused (r .before .before .loop .inv) (r .before .loop-test .taken) (r .read-at .ensures .0) (k .kind-of .ensures) (c .enum-told .given .1)
+    scanning-refused (r .before .before .loop .inv) (r .before .loop-test .taken) (r .read-at .ensures .0) (k .role-of .ensures) (c .enum-told .given .1)
 
 enum-told-2 : tie.Need-enum-told-2 Inv-loop μ-loop
 enum-told-2 c = search needs
@@ -42,14 +42,14 @@ loop-less : tie.Need-loop-less Inv-loop μ-loop
 loop-less c =
     let k = c .before .before in
     let r = k .before in
-    let on = scanning-version (r .before .before .loop .inv) (r .before .loop-test .taken) (r .read-at .ensures .0) (k .kind-of .ensures) (r .read-at .ensures .1) (r .read-at .ensures .2) (c .enum-told2 .given .1) in
+    let on = scanning-version (r .before .before .loop .inv) (r .before .loop-test .taken) (r .read-at .ensures .0) (k .role-of .ensures) (r .read-at .ensures .1) (r .read-at .ensures .2) (c .enum-told2 .given .1) in
     omega (arith, on .0)
 
 loop-again : tie.Need-loop-again Inv-loop μ-loop
 loop-again c =
     let k = c .before .before in
     let r = k .before in
-    scanning-version (r .before .before .loop .inv) (r .before .loop-test .taken) (r .read-at .ensures .0) (k .kind-of .ensures) (r .read-at .ensures .1) (r .read-at .ensures .2) (c .enum-told2 .given .1) .1
+    scanning-version (r .before .before .loop .inv) (r .before .loop-test .taken) (r .read-at .ensures .0) (k .role-of .ensures) (r .read-at .ensures .1) (r .read-at .ensures .2) (c .enum-told2 .given .1) .1
 
 enum-told-3 : tie.Need-enum-told-3 Inv-loop μ-loop
 enum-told-3 c = search needs
@@ -61,14 +61,14 @@ loop-less-2 : tie.Need-loop-less-2 Inv-loop μ-loop
 loop-less-2 c =
     let k = c .before .before in
     let r = k .before in
-    let on = scanning-head (r .before .before .loop .inv) (r .before .loop-test .taken) (r .read-at .ensures .0) (k .kind-of .ensures) (r .read-at .ensures .1) (r .read-at .ensures .2) (c .enum-told3 .given .1) in
+    let on = scanning-head (r .before .before .loop .inv) (r .before .loop-test .taken) (r .read-at .ensures .0) (k .role-of .ensures) (r .read-at .ensures .1) (r .read-at .ensures .2) (c .enum-told3 .given .1) in
     omega (arith, on .0)
 
 loop-again-2 : tie.Need-loop-again-2 Inv-loop μ-loop
 loop-again-2 c =
     let k = c .before .before in
     let r = k .before in
-    scanning-head (r .before .before .loop .inv) (r .before .loop-test .taken) (r .read-at .ensures .0) (k .kind-of .ensures) (r .read-at .ensures .1) (r .read-at .ensures .2) (c .enum-told3 .given .1) .1
+    scanning-head (r .before .before .loop .inv) (r .before .loop-test .taken) (r .read-at .ensures .0) (k .role-of .ensures) (r .read-at .ensures .1) (r .read-at .ensures .2) (c .enum-told3 .given .1) .1
 
 enum-told-4 : tie.Need-enum-told-4 Inv-loop μ-loop
 enum-told-4 c = search needs
@@ -80,7 +80,7 @@ returns-2 : tie.Need-returns-2 Inv-loop μ-loop
 returns-2 c =
     let k = c .before .before .before in
     let r = k .before in
-    scanning-ended (r .before .before .loop .inv) (r .before .loop-test .taken) (r .read-at .ensures .0) (k .kind-of .ensures) (r .read-at .ensures .1) (c .before .enum-told4 .given .1) _ (c .scan-end .ensures)
+    scanning-ended (r .before .before .loop .inv) (r .before .loop-test .taken) (r .read-at .ensures .0) (k .role-of .ensures) (r .read-at .ensures .1) (c .before .enum-told4 .given .1) _ (c .scan-end .ensures)
 
 returns-3 : tie.Need-returns-3 Inv-loop μ-loop
 returns-3 c = scanning-out (c .before .loop .inv) (c .loop-test .left)
@@ -93,7 +93,7 @@ scan-on-spec =
     μ-loop
     loop-holds
     read-at-requires
-    kind-of-requires
+    role-of-requires
     enum-told
     returns
     enum-told-2

@@ -1,10 +1,10 @@
--- `tape::scan::kind_of` meets its contract.
+-- `tape::scan::role_of` meets its contract.
 -- Assumes nothing.
-use Rattle.tape.specs.Reader.{kindOf}
+use Rattle.tape.specs.Reader.{roleOf}
 use borrow.Author.Needs.{needs}
 use Rattle.tape.proofs.Sorts.{misplaced}
-use Rattle.tape.proofs.scan.kind_of.Statement.{statement}
-use Rattle.tape.proofs.scan.kind_of.Tie as tie
+use Rattle.tape.proofs.scan.role_of.Statement.{statement}
+use Rattle.tape.proofs.scan.role_of.Tie as tie
 
 enum-told : tie.Need-enum-told
 enum-told c = search needs
@@ -22,22 +22,22 @@ by-heads-requires-2 : tie.Need-by-heads-requires-2
 by-heads-requires-2 c κs = tt
 
 returns : tie.Need-returns
-unfolding kindOf
+unfolding roleOf
 returns c = rw (c .before .enum-told .given .1) (c .by-heads .ensures)
 
 returns-2 : tie.Need-returns-2
-unfolding kindOf
+unfolding roleOf
 returns-2 c = rw (c .enum-told2 .given .1)
 
 returns-3 : tie.Need-returns-3
-unfolding kindOf
+unfolding roleOf
 returns-3 c = rw (c .before .enum-told3 .given .1) (c .by-heads2 .ensures)
 
 returns-4 : tie.Need-returns-4
 returns-4 c = misplaced _ _ (c .match .keys4)
 
-pub kind-of-spec : {M : Type 1} → statement M
-kind-of-spec =
+pub role-of-spec : {M : Type 1} → statement M
+role-of-spec =
     tie.close
     (tie.spec
     enum-told

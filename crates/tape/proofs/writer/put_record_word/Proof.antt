@@ -1,10 +1,10 @@
--- `tape::writer::put_field` meets its contract.
+-- `tape::writer::put_record_word` meets its contract.
 -- Assumes nothing.
 use mathlib.Core.Path.{refl, _∙_}
 use native.Mathlib.Omega.{arith}
 use Rattle.tape.proofs.Laid.{word-part}
-use Rattle.tape.proofs.writer.put_field.Statement.{statement}
-use Rattle.tape.proofs.writer.put_field.Tie as tie
+use Rattle.tape.proofs.writer.put_record_word.Statement.{statement}
+use Rattle.tape.proofs.writer.put_record_word.Tie as tie
 
 put-word-requires : tie.Need-put-word-requires
 put-word-requires c κs = omega arith
@@ -21,5 +21,5 @@ returns c =
     let start = call .before .before .before in
     (refl, call .put-word .ensures ∙ word-part (start .args .tape .now) (start .args .at) (start .args .x) (start .pre))
 
-pub put-field-spec : {M : Type 1} → statement M
-put-field-spec = tie.close (tie.spec put-word-requires add-result same-length returns)
+pub put-record-word-spec : {M : Type 1} → statement M
+put-record-word-spec = tie.close (tie.spec put-word-requires add-result same-length returns)

@@ -1,0 +1,35 @@
+-- `tape::writer::put_head_record` meets its contract.
+-- Assumes nothing.
+use native.Mathlib.Omega.{arith}
+use mathlib.Core.List.{[], _∷_}
+use Rattle.buffer.specs.Field.{byte, word}
+use Rattle.command.specs.Code.{headRecord}
+use Rattle.tape.proofs.Laid.{laid-one, laid-more}
+use Rattle.tape.proofs.writer.put_head_record.Statement.{statement}
+use Rattle.tape.proofs.writer.put_head_record.Tie as tie
+
+put-record-byte-requires : tie.Need-put-record-byte-requires
+put-record-byte-requires c κs = omega arith
+
+put-record-byte-requires-2 : tie.Need-put-record-byte-requires-2
+put-record-byte-requires-2 c κs = omega arith
+
+put-record-word-requires : tie.Need-put-record-word-requires
+put-record-word-requires c κs = omega arith
+
+same-length : tie.Need-same-length
+same-length c = omega arith
+
+returns : tie.Need-returns
+returns c =
+    let last = c .before .before in
+    let next = last .before .before .before .before in
+    let first = next .before .before .before .before in
+    let a = first .before .before .before .args in
+    let coded = laid-one (headRecord ∷ []) (omega arith) (first .put-record-byte .ensures) in
+    let named = laid-more (byte (a .console .0) ∷ []) coded (omega arith) (next .put-record-byte2 .ensures) in
+    laid-more (word (a .version .0)) named (omega arith) (last .put-record-word .ensures) .put
+
+pub put-head-record-spec : {M : Type 1} → statement M
+put-head-record-spec =
+    tie.close (tie.spec put-record-byte-requires put-record-byte-requires-2 put-record-word-requires same-length returns)

@@ -1,0 +1,28 @@
+-- `tape::writer::put_start_record` meets its contract.
+-- Assumes nothing.
+use native.Mathlib.Omega.{arith}
+use mathlib.Core.List.{[], _∷_}
+use Rattle.buffer.specs.Field.{word}
+use Rattle.command.specs.Code.{startRecord}
+use Rattle.tape.proofs.Laid.{laid-one, laid-more}
+use Rattle.tape.proofs.writer.put_start_record.Statement.{statement}
+use Rattle.tape.proofs.writer.put_start_record.Tie as tie
+
+put-record-byte-requires : tie.Need-put-record-byte-requires
+put-record-byte-requires c κs = omega arith
+
+put-record-word-requires : tie.Need-put-record-word-requires
+put-record-word-requires c κs = omega arith
+
+same-length : tie.Need-same-length
+same-length c = omega arith
+
+returns : tie.Need-returns
+returns c =
+    let last = c .before .before in
+    let first = last .before .before .before .before in
+    let coded = laid-one (startRecord ∷ []) (omega arith) (first .put-record-byte .ensures) in
+    laid-more (word (first .before .before .before .args .settings .capacity)) coded (omega arith) (last .put-record-word .ensures) .put
+
+pub put-start-record-spec : {M : Type 1} → statement M
+put-start-record-spec = tie.close (tie.spec put-record-byte-requires put-record-word-requires same-length returns)
