@@ -135,8 +135,8 @@ header r =
     ++ zeros (headerSize - commonsEnd)
 
 -- The node of a version: a merge has a code of its own, version 0 has 0; what a version does not have is 0.
-abbrev pub isEntryNodeBytes : ℕ → ℕ → ℕ → ℕ → List ℕ
-isEntryNodeBytes p code strip operand = byte code ∷ byte strip ∷ word operand ++ word p ++ zeros (nodeSize - 6)
+abbrev pub entryNodeBytes : ℕ → ℕ → ℕ → ℕ → List ℕ
+entryNodeBytes p code strip operand = byte code ∷ byte strip ∷ word operand ++ word p ++ zeros (nodeSize - 6)
 
 -- with l, the base of the merge of q into p
 abbrev pub mergeNodeBytes : ℕ → ℕ → ℕ → List ℕ
@@ -144,7 +144,7 @@ mergeNodeBytes p q l = mergeNodeCode ∷ 0 ∷ 0 ∷ 0 ∷ word p ++ word q ++ w
 
 unfoldable pub nodeBytes : Graph → Option Node → List ℕ
 nodeBytes g none = zeros nodeSize
-nodeBytes g (some (Entry p code strip operand)) = isEntryNodeBytes (p .0) code (strip .0) operand
+nodeBytes g (some (Entry p code strip operand)) = entryNodeBytes (p .0) code (strip .0) operand
 nodeBytes g (some (Merge p q)) = mergeNodeBytes (p .0) (q .0) (baseOf g (p .0) (q .0))
 
 -- the block of version v of a graph

@@ -109,8 +109,8 @@ unfoldable pub headsNamed : Graph → List (ℕ × ℕ) → Bool
 headsNamed g [] = true
 headsNamed g (h ∷ before) = ltb (h .1) (versionCount g) && headsNamed g before
 
--- None of "9 on a tape: more versions than capacity, a parent not below its own version, an entry code, strip or operand out of range, the first
--- console not 0, a console not above the one before it or above 15, a head that names no version."
+-- None of "9 on a tape: more versions than capacity, a parent not below its own version, an entry code, strip or operand out of range, the
+-- first console not 0, a console not above the one before it or above 15, a head that names no version."
 abbrev pub inRange : Content → Bool
 inRange t =
     leb (versionCount (t .versions)) (t .settings .capacity)

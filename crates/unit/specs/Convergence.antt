@@ -1,6 +1,6 @@
 -- Demand 3, "one claim about the whole list": what holds of the store and of the journal after any list of calls, refused ones included,
--- from a store that an accepted opening or an accepted resume has just given. Of the store it says that its bytes hold a sound store, whose heads
--- are the journal's, and speaks otherwise by what the calls answer; heard, holds and leads are the journal's.
+-- from a store that an accepted opening or an accepted resume has just given. Of the store it says that its bytes hold a sound store,
+-- whose heads are the journal's, and speaks otherwise by what the calls answer; heard, holds and leads are the journal's.
 use Prim.Native.Nat.{ℕ, _≤_, _<_}
 use mathlib.Core.Path.{_≡_}
 use mathlib.Core.Bool.{Bool, true, false, _&&_}

@@ -15,13 +15,13 @@ use Rattle.board.specs.Board.{boardSize, enter, mergeBoard}
 use Rattle.board.proofs.Length.{enter-length, mergeBoard-length}
 use Rattle.graph.specs.declared.Node.{Node}
 use Rattle.graph.specs.declared.Node.the-variants.{Entry, Merge}
-use Rattle.store.specs.Layout.{nodeSize, rowSize, blockSize, entriesAt, blockAt, rowAt, boardAt, isEntryNodeBytes, mergeNodeBytes}
+use Rattle.store.specs.Layout.{nodeSize, rowSize, blockSize, entriesAt, blockAt, rowAt, boardAt, entryNodeBytes, mergeNodeBytes}
 use Rattle.store.specs.Check.{rowPart, boardPart, entriesPart}
 use Rattle.update.specs.Append.{entryBlock, mergeBlock, withEntry, withMerge, nodeWith}
 
 -- the nodes, from their first byte on
 pub entry-node-made : (node z a b c d : List ℕ) (p code strip operand : ℕ) → length node ≡ nodeSize → z ≡ zeros (length node)
-    → a ≡ set z 0 (byte code) → b ≡ set a 1 (byte strip) → c ≡ putWord b 2 operand → d ≡ putWord c 4 p → d ≡ isEntryNodeBytes p code strip operand
+    → a ≡ set z 0 (byte code) → b ≡ set a 1 (byte strip) → c ≡ putWord b 2 operand → d ≡ putWord c 4 p → d ≡ entryNodeBytes p code strip operand
 entry-node-made node z a b c d p code strip operand l ez ea eb ec ed = rw (ed, ec, eb, ea, ez, l)
 
 pub merge-node-made : (node z a b c d : List ℕ) (p q l : ℕ) → length node ≡ nodeSize → z ≡ zeros (length node)
@@ -92,14 +92,14 @@ module _ (s : List ℕ) (n : ℕ) (fits : blockAt (suc n) ≤ length s) where
     pub entryBlock-length : length (entryBlock s n p code strip operand) ≡ blockSize
     unfolding entryBlock
     entryBlock-length =
-        block-long s (isEntryNodeBytes p code strip operand) entryLine entryBoard n fits refl entryLine-length entryBoard-length
+        block-long s (entryNodeBytes p code strip operand) entryLine entryBoard n fits refl entryLine-length entryBoard-length
 
-    pub entry-appended : (a b c d : List ℕ) → a ≡ withPart s (blockAt n) (isEntryNodeBytes p code strip operand)
+    pub entry-appended : (a b c d : List ℕ) → a ≡ withPart s (blockAt n) (entryNodeBytes p code strip operand)
         → b ≡ withPart a (rowAt n) (withMember (rowPart a p) n) → c ≡ withPart b (boardAt n) (enter code strip operand (boardPart b p))
         → d ≡ withPart c entriesAt (withMember (entriesPart c) n) → d ≡ withEntry s n p code strip operand
     unfolding withEntry entryBlock
     entry-appended a b c d ea eb ec ed =
-        let node : List ℕ = isEntryNodeBytes p code strip operand in
+        let node : List ℕ = entryNodeBytes p code strip operand in
         let ln : length node ≡ nodeSize = refl in
         let ll = entryLine-length in
         let one : rowPart a p ≡ rowPart s p = rw ea (row-kept s node n (blockAt n) p lower (omega arith) (omega arith)) in

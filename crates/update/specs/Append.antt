@@ -6,13 +6,13 @@ use Rattle.buffer.specs.Row.{withMember, union}
 use Rattle.board.specs.Board.{enter, mergeBoard}
 use Rattle.graph.specs.declared.Node.{Node}
 use Rattle.graph.specs.declared.Node.the-variants.{Entry, Merge}
-use Rattle.store.specs.Layout.{entriesAt, blockAt, isEntryNodeBytes, mergeNodeBytes}
+use Rattle.store.specs.Layout.{entriesAt, blockAt, entryNodeBytes, mergeNodeBytes}
 use Rattle.store.specs.Check.{rowPart, boardPart, entriesPart}
 
 -- the block of version n, an entry on p
 unfoldable pub entryBlock : List ℕ → ℕ → ℕ → ℕ → ℕ → ℕ → List ℕ
 entryBlock s n p code strip operand =
-    isEntryNodeBytes p code strip operand ++ withMember (rowPart s p) n ++ enter code strip operand (boardPart s p)
+    entryNodeBytes p code strip operand ++ withMember (rowPart s p) n ++ enter code strip operand (boardPart s p)
 
 -- the block of version n, a merge of q into p with the base l
 unfoldable pub mergeBlock : List ℕ → ℕ → ℕ → ℕ → ℕ → List ℕ
@@ -36,5 +36,5 @@ appended s n (Merge p q) l = withMerge s n (p .0) (q .0) l
 
 -- the bytes of its node
 abbrev pub nodeWith : Node → ℕ → List ℕ
-nodeWith (Entry p code strip operand) l = isEntryNodeBytes (p .0) code (strip .0) operand
+nodeWith (Entry p code strip operand) l = entryNodeBytes (p .0) code (strip .0) operand
 nodeWith (Merge p q) l = mergeNodeBytes (p .0) (q .0) l

@@ -1,5 +1,5 @@
--- What the code does to the table of common versions when a console moves. That this gives the encoding of the room after the move is a theorem, so a reader need not
--- believe this file.
+-- What the code does to the table of common versions when a console moves. That this gives the encoding of the room after the move is a
+-- theorem, so a reader need not believe this file.
 use Prim.Native.Nat.{ℕ, zero, suc, max}
 use mathlib.Core.Bool.{cond}
 use mathlib.Core.List.{List}

@@ -34,7 +34,7 @@ ghost use Rattle.buffer.specs.Field.{byte, withPart};
 ghost use Rattle.buffer.specs.Row.{withMember, union};
 ghost use Rattle.board.specs.Board.{stripCount, enter, mergeBoard};
 ghost use Rattle.room.specs.Sound.{maxCapacity};
-ghost use Rattle.store.specs.Layout.{headerSize, nodeSize, entriesAt, blockAt, rowAt, boardAt, isEntryNodeBytes, mergeNodeBytes};
+ghost use Rattle.store.specs.Layout.{headerSize, nodeSize, entriesAt, blockAt, rowAt, boardAt, entryNodeBytes, mergeNodeBytes};
 ghost use Rattle.store.specs.Rules.{nodeInRange};
 ghost use Rattle.store.specs.Check.{rowPart, boardPart, entriesPart};
 ghost use Rattle.update.specs.Append.{withEntry, withMerge, appended, nodeWith};
@@ -50,7 +50,7 @@ fn put_byte(s: &mut [u8], at: usize, x: usize)
 // Writes the node of an entry, all of its bytes.
 fn write_entry(node: &mut [u8], p: Version, code: usize, strip: Strip, operand: usize)
     requires { ⌜ length (now node) ≡ nodeSize ⌝ }
-    ensures { λ _. ⌜ now (node .exit) ≡ isEntryNodeBytes (p .0) code (strip .0) operand ⌝ }
+    ensures { λ _. ⌜ now (node .exit) ≡ entryNodeBytes (p .0) code (strip .0) operand ⌝ }
 {
     clear(node);
     put_byte(node, 0, code);
