@@ -5,8 +5,8 @@ mod write;
 
 use query::settings_of;
 use query::version_count;
-use tape::END_LENGTH;
-use tape::START_LENGTH;
+use tape::lengths::end_length;
+use tape::lengths::start_length;
 use tape::writer::put_end_record;
 use tape::writer::put_start_record;
 ghost use mathlib.Core.Path.{_≡_};
@@ -23,10 +23,10 @@ pub fn tape_length(s: &[u8]) -> usize
     requires { ⌜ holdsStore (now s) ≡ true ⌝ }
     ensures { λ r. ⌜ (r ≡ length (tapeOf (roomIn (now (s .entry))))) × (r ≤ longestTape) ⌝ }
 {
-    START_LENGTH
+    start_length()
         + measure::versions_length(s, version_count(s) - 1)
         + measure::heads_length(s)
-        + END_LENGTH
+        + end_length()
 }
 
 // Writes the tape of a store over the front of an output buffer.

@@ -4,8 +4,8 @@ use graph::Console;
 use graph::Version;
 use query::is_present;
 use store::nodes::read_node;
-use tape::HEAD_LENGTH;
-use tape::writer::version_length;
+use tape::lengths::head_length;
+use tape::lengths::version_length;
 ghost use mathlib.Core.Path.{_≡_};
 ghost use mathlib.Core.Bool.{true};
 ghost use Prim.Native.Nat.{suc, _*_, _<_, _≤_};
@@ -31,13 +31,13 @@ pub fn versions_length(s: &[u8], n: usize) -> usize
 }
 
 // The length of the head record of a console; 0 where it is absent.
-fn head_length(s: &[u8], c: Console) -> usize
+fn console_length(s: &[u8], c: Console) -> usize
     requires { ⌜ holdsStore (now s) ≡ true ⌝ }
     requires { ⌜ c .0 < consoleCount ⌝ }
     ensures { λ r. ⌜ (r ≡ length (headPiece (roomIn (now (s .entry))) (c .0))) × (r ≤ longestRecord) ⌝ }
 {
     if is_present(s, c) {
-        return HEAD_LENGTH;
+        return head_length();
     }
     0
 }
@@ -50,7 +50,7 @@ pub fn heads_length(s: &[u8]) -> usize
     let mut sum = 0;
     let mut c = 0;
     while c < CONSOLES {
-        sum += head_length(s, Console(c));
+        sum += console_length(s, Console(c));
         c += 1;
     }
     sum

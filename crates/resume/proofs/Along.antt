@@ -12,10 +12,9 @@ use Rattle.laws.proofs.Lists.{all-first, none-first}
 use Rattle.graph.specs.declared.Node.{Node}
 use Rattle.graph.specs.Graph.{Graph, versionCount, everyVersion}
 use Rattle.graph.proofs.Ancestor.{every-old}
-use Rattle.command.specs.Code.{shapeOf, lengthOf}
 use Rattle.tape.specs.Record.{recordIn}
 use Rattle.tape.specs.Tape.{Content, contentOf}
-use Rattle.tape.specs.Reader.{placeAfter, nodeOn, headOn, firstVersions, nextNode, firstHeads, nextHead, versionPlace, headPlace}
+use Rattle.tape.specs.Reader.{placeAfter, nodeOn, headOn, firstVersions, nextNode, firstHeads, nextHead, startLength, versionPlace, headPlace}
 use Rattle.buffer.proofs.Parts.{Bytes}
 use Rattle.tape.proofs.Located.{VersionAt, HeadAt, first-place, version-at, head-at}
 
@@ -54,13 +53,9 @@ every-drop f (suc m) (n ∷ g) h = every-drop f m g (every-old f n g h)
 abbrev pub Versions : Content → (Graph → Type 0) → ℕ → ℕ → Type 0
 Versions t = Along (t .versions) (versionPlace (t .versions))
 
--- the first stands behind the three bytes of the start
-first-at : (t : Content) → 3 ≡ versionPlace (t .versions) 0
-unfolding shapeOf lengthOf
-first-at t = first-place (t .versions)
-
-pub versions-none : (t : Content) (Built : Graph → Type 0) → Built [] → Versions t Built 0 3
-versions-none t Built b = along-none (t .versions) (versionPlace (t .versions)) Built (first-at t) b
+-- the first stands behind the start
+pub versions-none : (t : Content) {at : ℕ} → at ≡ startLength → (Built : Graph → Type 0) → Built [] → Versions t Built 0 at
+versions-none t e Built b = along-none (t .versions) (versionPlace (t .versions)) Built (e ∙ first-place (t .versions)) b
 
 module _ (tape : List ℕ) (t : Content) (bytes : Bytes tape) (says : contentOf tape ≡ some t) {Old : Graph → Type 0} {k at : ℕ}
     (a : Versions t Old k at) (l : k < length (t .versions)) where

@@ -19,7 +19,7 @@ use Rattle.room.specs.Sound.{entryInRange}
 use Rattle.store.specs.Rules.{nodeInRange}
 use Rattle.tape.specs.Record.{recordIn}
 use Rattle.tape.specs.Tape.{Content, contentOf, consolesRise, headsNamed, inRange}
-use Rattle.tape.specs.Reader.{placeAfter, nodeOn, headOn, headPlace}
+use Rattle.tape.specs.Reader.{placeAfter, nodeOn, headOn, startLength, headPlace}
 use Rattle.buffer.proofs.Parts.{Bytes}
 use Rattle.resume.specs.Ranges.{versionsInRange, consoleFollows, headInRange}
 use Rattle.resume.proofs.Along.{Versions, Heads, along-none, along-all, versions-none, version-number, version-more, head-more}
@@ -34,9 +34,9 @@ node-ranged g (Merge p q) = sym (and-true _)
 abbrev pub Ranged : Bool → Graph → Type 0
 Ranged ok g = ok ≡ versionsInRange g
 
-pub ranged-none : (t : Content) → Versions t (Ranged true) 0 3
+pub ranged-none : (t : Content) {at : ℕ} → at ≡ startLength → Versions t (Ranged true) 0 at
 unfolding everyVersion
-ranged-none t = versions-none t (Ranged true) refl
+ranged-none t e = versions-none t e (Ranged true) refl
 
 pub ranged-all : (t : Content) {k at : ℕ} {ok : Bool} → Versions t (Ranged ok) k at → length (t .versions) ≤ k
     → (ok ≡ versionsInRange (t .versions)) × (at ≡ headPlace t 0)

@@ -23,7 +23,7 @@ use Rattle.store.specs.Rules.{nodeInRange}
 use Rattle.update.specs.Commons.{putHead}
 use Rattle.tape.specs.Record.{recordIn}
 use Rattle.tape.specs.Tape.{Content, contentOf, consolesRise, headsNamed}
-use Rattle.tape.specs.Reader.{placeAfter, nodeOn, headOn, firstVersions, headPlace}
+use Rattle.tape.specs.Reader.{placeAfter, nodeOn, headOn, firstVersions, startLength, headPlace}
 use Rattle.buffer.proofs.Parts.{Bytes}
 use Rattle.resume.specs.Ranges.{versionsInRange}
 use Rattle.resume.specs.Rows.{RowsOf}
@@ -55,9 +55,9 @@ module _ {rows : List ℕ} {g : Graph} where
 abbrev pub Rowed : List ℕ → Bool → Graph → Type 0
 Rowed rows based g = RowsOf rows g × (based ≡ everyVersion mergeHasBase g)
 
-pub rowed-none : (t : Content) {rows : List ℕ} → RowsOf rows [] → Versions t (Rowed rows true) 0 3
+pub rowed-none : (t : Content) {rows : List ℕ} {at : ℕ} → at ≡ startLength → RowsOf rows [] → Versions t (Rowed rows true) 0 at
 unfolding everyVersion
-rowed-none t {rows} r = versions-none t (Rowed rows true) (r, refl)
+rowed-none t {rows} e r = versions-none t e (Rowed rows true) (r, refl)
 
 pub rowed-all : (t : Content) {k at : ℕ} {rows : List ℕ} {based : Bool} → Versions t (Rowed rows based) k at → length (t .versions) ≤ k
     → (based ≡ everyVersion mergeHasBase (t .versions)) × RowsOf rows (t .versions)

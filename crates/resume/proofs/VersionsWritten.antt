@@ -27,7 +27,7 @@ use Rattle.update.specs.Append.{appended}
 use Rattle.update.proofs.AppendedBlocks.{Standing, Grew, entry-grew, merge-grew}
 use Rattle.tape.specs.Record.{recordIn}
 use Rattle.tape.specs.Tape.{Content, contentOf, roomOf}
-use Rattle.tape.specs.Reader.{placeAfter, nodeOn, firstVersions}
+use Rattle.tape.specs.Reader.{placeAfter, nodeOn, firstVersions, startLength}
 use Rattle.buffer.proofs.Parts.{Bytes}
 use Rattle.resume.specs.Rows.{ownRow, RowsOf, fieldWhen, meetField}
 use Rattle.resume.specs.Versions.{baseIn}
@@ -90,9 +90,9 @@ module _ {rows : List ℕ} {g : Graph} where
       )
 
   -- the base of a merge is the highest version that the rows of its parents have in common
-  base-is : (p q : ℕ) → Ready rows (merge p q ∷ g) → baseIn rows (merge p q) ≡ baseOf g p q
+  base-read : (p q : ℕ) → Ready rows (merge p q ∷ g) → baseIn rows (merge p q) ≡ baseOf g p q
   unfolding meetField
-  base-is p q r = go (meet g p q) refl (every-new mergeHasBase (merge p q) g (r .based))
+  base-read p q r = go (meet g p q) refl (every-new mergeHasBase (merge p q) g (r .based))
     where
       go : (o : Option ℕ) → meet g p q ≡ o → servesAsBase p q o ≡ true → baseIn rows (merge p q) ≡ Option·getD o 0
       go none e b = clash b refl
@@ -106,7 +106,7 @@ module _ {rows : List ℕ} {g : Graph} where
 
   base-new : (n : Node) → Ready rows (n ∷ g) → baseIn rows n < versionCount g
   base-new (Entry p code strip operand) r = omega arith
-  base-new (Merge p q) r = rw (base-is (p .0) (q .0) r) (meetNumber-below g (p .0) (q .0))
+  base-new (Merge p q) r = rw (base-read (p .0) (q .0) r) (meetNumber-below g (p .0) (q .0))
 
   grew : (s : List ℕ) (n : Node) → Ready rows (n ∷ g) → Standing s g → blockAt (suc (versionCount g)) ≤ length s
       → Grew s (appended s (versionCount g) n (baseIn rows n)) g n
@@ -116,7 +116,7 @@ module _ {rows : List ℕ} {g : Graph} where
       (ltb-true (p .0) (versionCount g) (every-new parentsLower (entry (p .0) code (strip .0) operand) g (r .lower)))
   grew s (Merge p q) r h fits =
       let small = r .small in
-      merge-grew s g h (ready-old r .lower) (omega arith) fits (p .0) (q .0) (baseIn rows (merge (p .0) (q .0))) (parents (p .0) (q .0) r .0) (parents (p .0) (q .0) r .1) (base-is (p .0) (q .0) r)
+      merge-grew s g h (ready-old r .lower) (omega arith) fits (p .0) (q .0) (baseIn rows (merge (p .0) (q .0))) (parents (p .0) (q .0) r .0) (parents (p .0) (q .0) r .1) (base-read (p .0) (q .0) r)
 
 -- bytes in which version 0 stands became bytes in which a graph stands, and nothing else changed
 pub record Built (s t : List ℕ) (g : Graph) : Type 0 where
@@ -133,8 +133,8 @@ built-more b w =
     }
 
 -- the versions read so far have been written into s, which is a fresh store
-pub written-none : (t : Content) {s : List ℕ} → Standing s [] → Versions t (Built s s) 0 3
-written-none t {s} h = versions-none t (Built s s) (record { long = refl; standing = h; kept = λ k outside apart. refl })
+pub written-none : (t : Content) {s : List ℕ} {at : ℕ} → at ≡ startLength → Standing s [] → Versions t (Built s s) 0 at
+written-none t {s} e h = versions-none t e (Built s s) (record { long = refl; standing = h; kept = λ k outside apart. refl })
 
 pub written-all : (t : Content) {s now : List ℕ} {k at : ℕ} → Versions t (Built s now) k at → length (t .versions) ≤ k → Built s now (t .versions)
 written-all t a l = along-all _ _ a l .0

@@ -4,7 +4,7 @@ use graph::Console;
 use graph::Version;
 use room::Settings;
 use store::rules::node_in_range;
-use tape::START_LENGTH;
+use tape::lengths::start_length;
 use tape::reader::read_head;
 use tape::reader::read_version;
 ghost use mathlib.Core.Path.{_≡_};
@@ -47,7 +47,7 @@ fn versions_in_range(tape: &[u8], versions: usize) -> Seen
     ensures { λ r. ⌜ (r .ok ≡ versionsInRange (contentIn (now (tape .entry)) .versions)) × (r .at ≡ headPlace (contentIn (now (tape .entry))) 0) ⌝ }
 {
     let mut k = 0;
-    let mut at = START_LENGTH;
+    let mut at = start_length();
     let mut ok = true;
     while k < versions {
         let read = read_version(tape, at);

@@ -7,7 +7,7 @@ use graph::Node;
 use graph::Version;
 use store::consoles::heads_reach_all;
 use store::places::ROW;
-use tape::START_LENGTH;
+use tape::lengths::start_length;
 use tape::reader::read_version;
 ghost use mathlib.Core.Path.{_≡_};
 ghost use mathlib.Core.Bool.{true};
@@ -46,7 +46,7 @@ fn build_rows(tape: &[u8], versions: usize, rows: &mut [u8]) -> bool
     ensures { λ r. ⌜ (r ≡ everyVersion mergeHasBase (contentIn (now (tape .entry)) .versions)) × RowsOf (now (rows .exit)) (contentIn (now (tape .entry)) .versions) ⌝ }
 {
     put_root(rows);
-    let mut at = START_LENGTH;
+    let mut at = start_length();
     let mut based = true;
     for k in 0..versions {
         let read = read_version(tape, at);

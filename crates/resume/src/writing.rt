@@ -7,7 +7,7 @@ use room::Settings;
 use store::places::COMMONS;
 use store::places::COMMONS_END;
 use store::places::COUNT;
-use tape::START_LENGTH;
+use tape::lengths::start_length;
 use tape::reader::read_version;
 use update::append::append_version;
 use update::open::open;
@@ -53,7 +53,7 @@ pub fn write_store(
     ensures { λ _. ⌜ now (store .exit) ≡ overwrite (encode (roomOf (contentIn (now (tape .entry))))) (now (store .entry)) ⌝ }
 {
     open(store, settings);
-    let mut at = START_LENGTH;
+    let mut at = start_length();
     let mut k = 0;
     while k < versions {
         let read = read_version(tape, at);

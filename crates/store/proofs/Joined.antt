@@ -19,14 +19,14 @@ use Rattle.store.specs.Layout.{headerSize, rowSize, blockSize, settingsA
 use Rattle.store.proofs.Blocks.{commonFields-length, commonTable-length, header-length, nodeBytes-length, blocks-length, stands-header, stands-settings, stands-count, stands-entries, stands-common, stands-block, stands-spare, stands-rest, stands-free, spare, headerRest, startOf, entriesOf, tableOf, filledOf, freeOf}
 use Rattle.store.proofs.Lineage.{lineage}
 
-stands-none : {s : List ℕ} {at : ℕ} → Stands s at []
-stands-none = record { read = λ i p. absurd (omega arith) }
+nothing-stands : {s : List ℕ} {at : ℕ} → Stands s at []
+nothing-stands = record { read = λ i p. absurd (omega arith) }
 
 -- a row of the table, the table, the blocks
 join-fields : {s : List ℕ} {at : ℕ} (r : Room) (c d n : ℕ) → ((k : ℕ) → k < n → Stands s (at + 2 * k) (word (commonField r c (d + k))))
     → Stands s at (commonFields r c d n)
 unfolding commonFields
-join-fields r c d zero h = stands-none
+join-fields r c d zero h = nothing-stands
 join-fields {s} {at} r c d (suc n) h =
     stands-join {to = at + 2} (word (commonField r c d)) (commonFields r c (suc d) n)
     (subst₂ (λ (i j : ℕ). Stands s i (word (commonField r c j))) (omega arith) (omega arith) (h 0 (omega arith)))
@@ -37,7 +37,7 @@ join-fields {s} {at} r c d (suc n) h =
 join-table : {s : List ℕ} {at : ℕ} (r : Room) (c n : ℕ) → ((k : ℕ) → k < n → Stands s (at + 32 * k) (commonFields r (c + k) 0 16))
     → Stands s at (commonTable r c n)
 unfolding commonTable
-join-table r c zero h = stands-none
+join-table r c zero h = nothing-stands
 join-table {s} {at} r c (suc n) h =
     stands-join {to = at + 32} (commonFields r c 0 16) (commonTable r (suc c) n)
     (subst₂ (λ (i j : ℕ). Stands s i (commonFields r j 0 16)) (omega arith) (omega arith) (h 0 (omega arith)))
@@ -47,7 +47,7 @@ join-table {s} {at} r c (suc n) h =
 
 join-blocks : {s : List ℕ} (g : Graph) (n : ℕ) → ((v : ℕ) → v < n → Stands s (blockAt v) (block g v)) → Stands s headerSize (blocks g n)
 unfolding blocks
-join-blocks g zero h = stands-none
+join-blocks g zero h = nothing-stands
 join-blocks g (suc n) h =
     stands-join (blocks g n) (block g n) (join-blocks g n (λ v l. h v (omega arith))) (h n (omega arith)) (rw blocks-length)
 

@@ -13,13 +13,13 @@ use Rattle.laws.proofs.Logic.{cond-false}
 use Rattle.laws.proofs.Lists.{all-first, none-first, one-more}
 use Rattle.graph.specs.declared.Node.{Node}
 use Rattle.graph.specs.Graph.{Graph, merge}
-use Rattle.command.specs.Code.{headRecord, shapeOf, lengthOf}
+use Rattle.command.specs.Code.{shapeOf, lengthOf}
 use Rattle.buffer.proofs.Parts.{Bytes}
 use Rattle.tape.specs.declared.Record.{Record}
 use Rattle.tape.specs.declared.Record.the-variants.{Start, Version, End}
 use Rattle.tape.specs.Record.{recordIn, recordBytes}
 use Rattle.tape.specs.Tape.{Content, contentOf, versionRecords}
-use Rattle.tape.specs.Reader.{placeAfter, nodeOn, headOn, firstVersions, nextNode, firstHeads, nextHead, versionPlace, headPlace}
+use Rattle.tape.specs.Reader.{placeAfter, nodeOn, headOn, firstVersions, nextNode, firstHeads, nextHead, startLength, headLength, versionPlace, headPlace}
 use Rattle.tape.proofs.Records.{Fits, record-read, record-length}
 use Rattle.tape.proofs.Heads.{headBytes}
 use Rattle.tape.proofs.Written.{recordOfHead, AllFit, tape-written, tape-fits}
@@ -73,13 +73,13 @@ module _ {A : Type 0} (recordOf : A → Record) (bytesOf : List A → List ℕ) 
       (record-between (front ++ first) (bytesOf (take m xs) ++ rest) (recordOf x) _ _ (fit-at xs m d fit (omega arith)) (length-append front first)
       (rw (length-append first (recordBytes (recordOf x))) (omega arith)))
 
-head-bytes-length : (heads : List (ℕ × ℕ)) → length (headBytes heads) ≡ lengthOf (shapeOf headRecord) * length heads
+head-bytes-length : (heads : List (ℕ × ℕ)) → length (headBytes heads) ≡ headLength * length heads
 unfolding shapeOf lengthOf
 head-bytes-length [] = refl
 head-bytes-length (h ∷ before) = simp length-append (omega (arith, head-bytes-length before))
 
--- the record of version 1 stands behind the start, at `START_LENGTH`
-pub first-place : (g : Graph) → 3 ≡ versionPlace g 0
+-- the record of version 1 stands behind the start
+pub first-place : (g : Graph) → startLength ≡ versionPlace g 0
 unfolding versionRecords shapeOf lengthOf
 first-place g = rw (none-first g)
 

@@ -7,7 +7,7 @@ use lib.Dec.{eqb, ltb}
 use lib.ListN.{length, getD, drop}
 use Rattle.graph.specs.declared.Node.{Node}
 use Rattle.graph.specs.Graph.{Graph, merge}
-use Rattle.command.specs.Code.{startRecord, headRecord, shapeOf, lengthOf}
+use Rattle.command.specs.Code.{startRecord, headRecord, endRecord, shapeOf, lengthOf}
 use Rattle.room.specs.declared.Settings.{Settings}
 use Rattle.tape.specs.declared.Record.{Record}
 use Rattle.tape.specs.declared.Record.the-variants as record-is
@@ -15,7 +15,7 @@ use Rattle.tape.specs.declared.scan.Role.{Role}
 use Rattle.tape.specs.declared.scan.Role.the-variants as role-is
 use Rattle.tape.specs.declared.scan.Scanned.{Scanned}
 use Rattle.tape.specs.declared.scan.Scanned.the-variants.{Whole, Broken}
-use Rattle.tape.specs.Record.{recordIn, recordLength}
+use Rattle.tape.specs.Record.{recordIn, recordLength, noTape}
 use Rattle.tape.specs.Tape.{Content, versionRecords}
 
 -- the place past the record at a place; where no whole record stands there, the place itself
@@ -54,23 +54,33 @@ firstHeads j heads = drop (length heads - j) heads
 abbrev pub nextHead : List (ℕ × ℕ) → ℕ → ℕ × ℕ
 nextHead heads j = getD heads (length heads - suc j) (0, 0)
 
+-- how many bytes the first record, a head's and the last take
+abbrev pub startLength : ℕ
+startLength = lengthOf (shapeOf startRecord)
+
+abbrev pub headLength : ℕ
+headLength = lengthOf (shapeOf headRecord)
+
+abbrev pub endLength : ℕ
+endLength = lengthOf (shapeOf endRecord)
+
 -- the place of the record of version suc k
 abbrev pub versionPlace : Graph → ℕ → ℕ
-versionPlace g k = lengthOf (shapeOf startRecord) + length (versionRecords (firstVersions k g))
+versionPlace g k = startLength + length (versionRecords (firstVersions k g))
 
 -- the place of the head record number j
 abbrev pub headPlace : Content → ℕ → ℕ
-headPlace t j = versionPlace (t .versions) (length (t .versions)) + lengthOf (shapeOf headRecord) * j
+headPlace t j = versionPlace (t .versions) (length (t .versions)) + headLength * j
 
 -- the scan's answer: what the room is set to, and how many versions and heads it has, where it "is such a sequence of whole records"
 abbrev pub scannedOf : Option Content → Scanned
 scannedOf none = Broken
 scannedOf (some t) = Whole (t .settings) (length (t .versions)) (length (t .heads))
 
--- the paper's number for the scan's answer: 0, or "7 tape isn't such a sequence of whole records, with at least one head."
+-- the paper's number for the scan's answer: 0, or that of a tape which is none
 abbrev pub scanRefusal : Scanned → ℕ
 scanRefusal (Whole settings versions heads) = 0
-scanRefusal Broken = 7
+scanRefusal Broken = noTape
 
 -- what a record is to the scan after so many heads
 unfoldable pub roleOf : Record → ℕ → Role

@@ -51,10 +51,14 @@ recordBytes Broken = []
 abbrev pub longestRecord : ℕ
 longestRecord = length (versionBytes (entry 0 0 0 0))
 
--- the paper's number for each record: 0, and for what is none "7 tape isn't such a sequence of whole records"
+-- "7 tape isn't such a sequence of whole records, with at least one head."
+abbrev pub noTape : ℕ
+noTape = 7
+
+-- the paper's number for each record: 0, or that of a tape which is none
 abbrev pub recordRefusal : Record → ℕ
 recordRefusal (Start settings) = 0
 recordRefusal (Version node) = 0
 recordRefusal (Head console version) = 0
 recordRefusal End = 0
-recordRefusal Broken = 7
+recordRefusal Broken = noTape

@@ -15,7 +15,7 @@ use Rattle.room.specs.declared.Settings.{Settings}
 use Rattle.room.specs.Sound.{settingsInRange, entryInRange, soundRoom}
 use Rattle.tape.specs.declared.Record.{Record}
 use Rattle.tape.specs.declared.Record.the-variants.{Start, Version, Head, End, Broken}
-use Rattle.tape.specs.Record.{recordIn, recordLength, versionBytes, recordBytes}
+use Rattle.tape.specs.Record.{recordIn, recordLength, versionBytes, recordBytes, noTape}
 
 -- The tape of a room: "one record per version from 1 upward"
 unfoldable pub versionRecords : Graph → List ℕ
@@ -127,9 +127,9 @@ contentTests t =
     ∷ 10 when not (soundRoom (roomOf t))
     ∷ []
 
--- "7 tape isn't such a sequence of whole records, with at least one head.", and 8 to 10 of one that is
+-- 7 for what is no tape, and 8 to 10 for one
 abbrev pub tapeTests : Option Content → List (ℕ × Bool)
-tapeTests none = 7 when true ∷ []
+tapeTests none = noTape when true ∷ []
 tapeTests (some t) = contentTests t
 
 unfoldable pub contentRefusal : Option Content → ℕ

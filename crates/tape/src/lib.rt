@@ -5,6 +5,7 @@ use graph::Node;
 use graph::Version;
 use room::Settings;
 
+pub mod lengths;
 mod place;
 pub mod reader;
 pub mod scan;
@@ -18,14 +19,3 @@ pub enum Record {
     End,
     Broken,
 }
-
-// How many bytes each record takes, its code included.
-pub const START_LENGTH: usize = 3;
-
-pub const ENTRY_LENGTH: usize = 7;
-
-pub const MERGE_LENGTH: usize = 5;
-
-pub const HEAD_LENGTH: usize = 4;
-
-pub const END_LENGTH: usize = 1;

@@ -1,5 +1,6 @@
 // The reading place: the record that stands there, and the place past it. By value first, then lent.
 use crate::Record;
+use crate::lengths::coded_length;
 use buffer::wide;
 use command::Operands;
 use command::codes::END_RECORD;
@@ -7,7 +8,6 @@ use command::codes::ENTRY_RECORD;
 use command::codes::HEAD_RECORD;
 use command::codes::MERGE_RECORD;
 use command::codes::START_RECORD;
-use command::decoder::length_of;
 use command::decoder::operands_of;
 use command::decoder::widths_of;
 use graph::Console;
@@ -78,7 +78,7 @@ fn front_code(t: &[u8]) -> usize
 fn record_length(t: &[u8]) -> usize
     ensures { λ r. ⌜ r ≡ recordLength (now (t .entry)) ⌝ }
 {
-    length_of(widths_of(front_code(t)))
+    coded_length(front_code(t))
 }
 
 // The record at the front of a tape, where it is there whole: the tape begins with the paper's bytes of it and goes on behind them.

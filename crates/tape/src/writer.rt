@@ -1,6 +1,4 @@
 // Records of the tape, each written at a place of a buffer that has room for it there; a writer says where its record ends.
-use crate::ENTRY_LENGTH;
-use crate::MERGE_LENGTH;
 use buffer::put_word;
 use command::codes::END_RECORD;
 use command::codes::ENTRY_RECORD;
@@ -19,7 +17,7 @@ ghost use lib.ListN.{length};
 ghost use Rattle.buffer.specs.Field.{byte, word, withPart};
 ghost use Rattle.graph.specs.declared.Node.the-variants.{Entry, Merge};
 ghost use Rattle.tape.specs.declared.Record.the-variants.{Start, Head, End};
-ghost use Rattle.tape.specs.Record.{versionBytes, recordBytes, longestRecord};
+ghost use Rattle.tape.specs.Record.{versionBytes, recordBytes};
 
 // Writes a number's 8 bits at a place, and says where they end.
 fn put_record_byte(tape: &mut [u8], at: usize, x: usize) -> usize
@@ -75,24 +73,6 @@ fn put_merge_record(tape: &mut [u8], at: usize, receiver: Version, giver: Versio
     let coded = put_record_byte(tape, at, MERGE_RECORD);
     let second = put_record_word(tape, coded, receiver.0);
     put_record_word(tape, second, giver.0)
-}
-
-// How many bytes the record of a version takes.
-pub fn version_length(node: Node) -> usize
-    ensures { λ r. ⌜ (r ≡ length (versionBytes node)) × (r ≤ longestRecord) ⌝ }
-{
-    match node {
-        Node::Entry {
-            parent: _,
-            code: _,
-            strip: _,
-            operand: _,
-        } => ENTRY_LENGTH,
-        Node::Merge {
-            receiver: _,
-            giver: _,
-        } => MERGE_LENGTH,
-    }
 }
 
 // Writes the record of a version at a place.

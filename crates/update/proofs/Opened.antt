@@ -45,9 +45,9 @@ module _ {s t : List ℕ} {capacity : ℕ} (room : 1 ≤ capacity) (o : Opened s
   r = fresh capacity
 
   -- a run of zeros that meets none of the bytes that are not 0
-  none-stands : (at n : ℕ) → 2 ≤ at → at + n ≤ storeSize capacity → ((k : ℕ) → at ≤ k → k < at + n → (k ≡ 3 → ⊥) × (k ≡ 257 → ⊥) × (k ≡ 4128 → ⊥))
+  zeros-stand : (at n : ℕ) → 2 ≤ at → at + n ≤ storeSize capacity → ((k : ℕ) → at ≤ k → k < at + n → (k ≡ 3 → ⊥) × (k ≡ 257 → ⊥) × (k ≡ 4128 → ⊥))
       → Stands t at (zeros n)
-  none-stands at n low high apart =
+  zeros-stand at n low high apart =
       record {
         read = λ i l.
             let l′ : i < n = rw (zeros-length n) at l in
@@ -71,7 +71,7 @@ module _ {s t : List ℕ} {capacity : ℕ} (room : 1 ≤ capacity) (o : Opened s
   no-field : (c d : ℕ) → present r c && present r d ≡ false → 0 < c + d → c < consoleCount → d < consoleCount
       → Stands t (commonAt c d) (word (commonField r c d))
   no-field c d e l i j =
-      rw e (none-stands (commonAt c d) 2 (omega arith) (omega (arith, room)) (λ k a b. omega arith))
+      rw e (zeros-stand (commonAt c d) 2 (omega arith) (omega (arith, room)) (λ k a b. omega arith))
 
   fields : (c d : ℕ) → c < consoleCount → d < consoleCount → Stands t (commonAt c d) (word (commonField r c d))
   unfolding common
@@ -93,9 +93,9 @@ module _ {s t : List ℕ} {capacity : ℕ} (room : 1 ≤ capacity) (o : Opened s
   unfolding nodeBytes nodeOf boardOf
   root =
       join-block [] 0
-      (none-stands 4096 32 (omega arith) (omega (arith, room)) (λ k a b. omega arith))
+      (zeros-stand 4096 32 (omega arith) (omega (arith, room)) (λ k a b. omega arith))
       (subst (Stands t 4128) root-lineage own-row)
-      (none-stands 4256 384 (omega arith) (omega (arith, room)) (λ k a b. omega arith))
+      (zeros-stand 4256 384 (omega arith) (omega (arith, room)) (λ k a b. omega arith))
 
   placed : Placed t r
   unfolding nodeOf
@@ -103,14 +103,14 @@ module _ {s t : List ℕ} {capacity : ℕ} (room : 1 ≤ capacity) (o : Opened s
       record {
         settings = word-here 0 capacity (o .high) (o .low);
         count = word-here 2 1 (o .none 2 (omega arith) (omega arith) (omega arith) (omega arith) (omega arith)) (o .one);
-        gap = none-stands 4 124 (omega arith) (omega arith) (λ k a b. omega arith);
+        gap = zeros-stand 4 124 (omega arith) (omega arith) (λ k a b. omega arith);
         entries =
             subst (Stands t 128) empty-row
-            (none-stands 128 128 (omega arith) (omega arith) (λ k a b. omega arith));
+            (zeros-stand 128 128 (omega arith) (omega arith) (λ k a b. omega arith));
         commons = fields;
-        rest = none-stands 768 3328 (omega arith) (omega arith) (λ k a b. omega arith);
+        rest = zeros-stand 768 3328 (omega arith) (omega arith) (λ k a b. omega arith);
         versions = λ v l. let e : v ≡ 0 = omega arith in rw e root;
-        free = none-stands 4640 (544 * (capacity - 1)) (omega arith) (omega (arith, room)) (λ k a b. omega arith);
+        free = zeros-stand 4640 (544 * (capacity - 1)) (omega arith) (omega (arith, room)) (λ k a b. omega arith);
       }
 
 -- the two bytes of a field that was written

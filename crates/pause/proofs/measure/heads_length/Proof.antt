@@ -19,8 +19,8 @@ abbrev μ-loop : tie.MeasureT-loop
 loop-holds : tie.Need-loop-holds Inv-loop μ-loop
 loop-holds c = measured-none (head-pieces (roomIn (c .before .args .s .now))) consoleCount
 
-head-length-requires : tie.Need-head-length-requires Inv-loop μ-loop
-head-length-requires c κs = (c .before .before .before .pre, omega arith)
+console-length-requires : tie.Need-console-length-requires Inv-loop μ-loop
+console-length-requires c κs = (c .before .before .before .pre, omega arith)
 
 add-sum : tie.Need-add-sum Inv-loop μ-loop
 add-sum c = omega arith
@@ -34,7 +34,7 @@ loop-less c = omega arith
 loop-again : tie.Need-loop-again Inv-loop μ-loop
 loop-again c =
     let loop = c .before in
-    measured-more (head-pieces (roomIn (loop .before .before .before .args .s .now))) (loop .before .loop .inv) (loop .loop-test .taken) (c .head-length .ensures .0) (c .head-length .ensures .1)
+    measured-more (head-pieces (roomIn (loop .before .before .before .args .s .now))) (loop .before .loop .inv) (loop .loop-test .taken) (c .console-length .ensures .0) (c .console-length .ensures .1)
 
 returns : tie.Need-returns Inv-loop μ-loop
 returns c = measured-all (c .before .loop .inv) (omega arith)
@@ -46,7 +46,7 @@ heads-length-spec =
     Inv-loop
     μ-loop
     loop-holds
-    head-length-requires
+    console-length-requires
     add-sum
     add-c
     loop-less

@@ -27,23 +27,23 @@ open-requires c κs =
 
 loop-holds : tie.Need-loop-holds Inv-loop μ-loop
 loop-holds c =
-    let opened = c .before .before in
+    let opened = c .before .before .before in
     let start = opened .before .before .before .before .before .before in
     let a = start .args in
     let p = start .pre in
     let t = contentIn (a .tape .now) in
-    written-none t (opened-standing t (p .1 .1 .0 .0) (a .store .now) (a .settings) (p .1 .0 .0) (p .1 .1 .1 .1) (opened .«open» .ensures))
+    written-none t (c .start-length .ensures) (opened-standing t (p .1 .1 .0 .0) (a .store .now) (a .settings) (p .1 .0 .0) (p .1 .1 .1 .1) (opened .«open» .ensures))
 
 read-version-requires : tie.Need-read-version-requires Inv-loop μ-loop
 read-version-requires c κs =
-    let known = c .before .before .before .before .before .before .before .before in
+    let known = c .before .before .before .before .before .before .before .before .before in
     let start = known .before .before in
     version-inside (start .args .tape .now) _ (λ i. known .shared-slice-known .given i .fits) (start .pre .0) (c .before .loop .inv) (omega arith)
 
 base-in-requires : tie.Need-base-in-requires Inv-loop μ-loop
 base-in-requires c κs =
     let turn = c .before .before .before in
-    let opened = turn .before .before .before in
+    let opened = turn .before .before .before .before in
     let known = opened .before .before .before .before in
     let start = known .before .before in
     let a = start .args in
@@ -58,7 +58,7 @@ base-in-requires c κs =
 append-version-requires : tie.Need-append-version-requires Inv-loop μ-loop
 append-version-requires c κs =
     let turn = c .before .before .before .before in
-    let opened = turn .before .before .before in
+    let opened = turn .before .before .before .before in
     let known = opened .before .before .before .before in
     let start = known .before .before in
     let a = start .args in
@@ -81,7 +81,7 @@ loop-again c =
     let made = c .before .before in
     let read = c .before .before .before .before .before .read-version .ensures in
     let turn = c .before .before .before .before .before .before .before in
-    let opened = turn .before .before .before in
+    let opened = turn .before .before .before .before in
     let known = opened .before .before .before .before in
     let start = known .before .before in
     let a = start .args in
@@ -96,14 +96,14 @@ loop-again c =
 
 add-put-header : tie.Need-add-put-header Inv-loop μ-loop
 add-put-header c =
-    let start = c .before .before .before .before .before .before .before .before .before .before .before in
+    let start = c .before .before .before .before .before .before .before .before .before .before .before .before in
     let small = sound-ready (contentIn (start .args .tape .now)) (start .pre .1 .1 .0 .0) (start .pre .1 .1 .0 .1) .small in
     omega arith
 
 put-header-requires : tie.Need-put-header-requires Inv-loop μ-loop
 put-header-requires c κs =
     let turn = c .before .before in
-    let opened = turn .before .before .before in
+    let opened = turn .before .before .before .before in
     let start = opened .before .before .before .before .before .before in
     let a = start .args in
     let p = start .pre in
@@ -117,7 +117,7 @@ returns : tie.Need-returns Inv-loop μ-loop
 returns c =
     let done = c .before .before in
     let turn = done .before .before .before in
-    let opened = turn .before .before .before in
+    let opened = turn .before .before .before .before in
     let start = opened .before .before .before .before .before .before in
     let a = start .args in
     let p = start .pre in
@@ -127,4 +127,4 @@ returns c =
 
 pub write-store-spec : {M : Type 1} → statement M
 write-store-spec =
-    tie.close (tie.spec Inv-loop μ-loop open-requires loop-holds read-version-requires (λ c. omega arith) base-in-requires append-version-requires (λ c. omega arith) (λ c. omega arith) loop-again add-put-header put-header-requires (λ c. omega arith) returns)
+    tie.close (tie.spec Inv-loop μ-loop open-requires (λ c κs. tt) loop-holds read-version-requires (λ c. omega arith) base-in-requires append-version-requires (λ c. omega arith) (λ c. omega arith) loop-again add-put-header put-header-requires (λ c. omega arith) returns)
