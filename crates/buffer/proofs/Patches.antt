@@ -1,6 +1,6 @@
 -- A list with a part of it replaced: how long it is, what stands in the new part and outside it, and parts replaced one after the other.
 -- Assumes nothing.
-use Prim.Native.Nat.{ℕ, _+_, _-_, _<_, _≤_}
+use Prim.Native.Nat.{ℕ, _+_, _-_, _/_, _<_, _≤_}
 use mathlib.Core.Path.{_≡_, refl, sym, ap, ap₂, _∙_}
 use mathlib.Core.List.{List, [], _∷_, _++_, append-assoc}
 use native.Mathlib.Nat.{zero-add}
@@ -10,9 +10,9 @@ use native.Mathlib.Omega.{arith}
 use lib.ListN.{length, getD, take, drop, set, length-append, length-drop, length-set, List·getD-append}
 use lib.Seq.{length-take-le, getD-take, getD-drop, getD-append-add, drop-drop, take-at, drop-append-add, set-split, ext-getD, paste, paste-zero, paste-suc}
 use Rattle.laws.proofs.Lists.{part-at, take-put}
-use Rattle.buffer.specs.Field.{part, withPart, overwrite}
+use Rattle.buffer.specs.Field.{byte, word, putWord, part, withPart, overwrite}
 use Rattle.buffer.proofs.Fields.{part-length}
-use Rattle.buffer.proofs.Stands.{Stands}
+use Rattle.buffer.proofs.Stands.{Stands, stands-kept}
 
 put-back : (s new : List ℕ) (at n : ℕ) → length new ≡ n → take at s ++ (new ++ drop n (drop at s)) ≡ withPart s at new
 unfolding withPart
@@ -73,6 +73,11 @@ module _ (s new : List ℕ) (at : ℕ) (fits : at + length new ≤ length s) whe
   pub with-stands : Stands (withPart s at new) at new
   with-stands = record { read = with-inside }
 
+  -- so is what stands apart from it
+  pub with-kept : {to : ℕ} {xs : List ℕ} → Stands s to xs → ((k : ℕ) → to ≤ k → k < to + length xs → at ≤ k → k < at + length new → ⊥)
+      → Stands (withPart s at new) to xs
+  with-kept h apart = stands-kept h (λ k x y. with-outside k (apart k x y))
+
   -- so is another part
   pub with-part : (to n : ℕ) → to + n ≤ length s → ((k : ℕ) → k < n → at ≤ to + k → to + k < at + length new → ⊥)
       → part (withPart s at new) to n ≡ part s to n
@@ -119,6 +124,14 @@ module _ (s new : List ℕ) (at : ℕ) (fits : at + length new ≤ length s) whe
       ∙ append-assoc (take at s) new (next ++ drop (to + length next) s)
       ∙ rw (length-append new next, append-assoc new next)
       (let there : to + length next ≡ at + (length new + length next) = omega arith in rw there)
+
+-- a 16-bit field is the part of its two bytes
+pub word-part : (s : List ℕ) (at x : ℕ) → at + 1 < length s → putWord s at x ≡ withPart s at (word x)
+word-part s at x inside =
+    let high : ℕ = byte (x / 256) in
+    set-part (set s at high) (at + 1) (byte x) (omega (arith, length-set s at high))
+    ∙ ap (λ (t : List ℕ). withPart t (at + 1) (byte x ∷ [])) (set-part s at high (omega arith))
+    ∙ with-next s (high ∷ []) at (omega arith) (at + 1) (byte x ∷ []) refl
 
 -- the n bytes at a place that were lent, and came back as they are now
 pub put-lent : (s new xs : List ℕ) (at to n : ℕ) → at ≡ to → new ≡ xs → length xs ≡ n

@@ -1,13 +1,13 @@
 -- Bytes written one behind the other from a place on: what stands there so far, where it ends, and what one more piece adds.
 -- Assumes nothing.
 use mathlib.Core.Path.{_≡_, refl, sym, ap, _∙_}
-use mathlib.Core.List.{List, [], _∷_, _++_}
-use Prim.Native.Nat.{ℕ, _+_, _/_, _<_, _≤_}
+use mathlib.Core.List.{List, [], _++_}
+use Prim.Native.Nat.{ℕ, _+_, _≤_}
 use native.Mathlib.Nat.{add-zero}
 use native.Mathlib.Omega.{arith}
-use lib.ListN.{length, set, length-append, length-set, take-append-drop}
-use Rattle.buffer.specs.Field.{byte, word, putWord, withPart}
-use Rattle.buffer.proofs.Patches.{set-part, with-length, with-next}
+use lib.ListN.{length, length-append, take-append-drop}
+use Rattle.buffer.specs.Field.{withPart}
+use Rattle.buffer.proofs.Patches.{with-length, with-next}
 
 -- a piece was written at a place, and this is where it ends
 abbrev pub Put : List ℕ → ℕ → List ℕ → List ℕ → ℕ → Type 0
@@ -34,11 +34,3 @@ laid-more {s} {new} {t} {t′} {at} {to} next g l p =
     let long = length-append new next in
     laid-one (new ++ next) (omega arith)
     (omega arith, p .1 ∙ ap (λ (u : List ℕ). withPart u to next) (g .put .1) ∙ with-next s new at (g .fits) to next (sym there))
-
--- a 16-bit field is the part of its two bytes
-pub word-part : (s : List ℕ) (at x : ℕ) → at + 1 < length s → putWord s at x ≡ withPart s at (word x)
-word-part s at x inside =
-    let high : ℕ = byte (x / 256) in
-    set-part (set s at high) (at + 1) (byte x) (omega (arith, length-set s at high))
-    ∙ ap (λ (t : List ℕ). withPart t (at + 1) (byte x ∷ [])) (set-part s at high (omega arith))
-    ∙ with-next s (high ∷ []) at (omega arith) (at + 1) (byte x ∷ []) refl

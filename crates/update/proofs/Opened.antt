@@ -1,186 +1,154 @@
--- A buffer cleared and given the fields of a fresh room holds the fresh room's store.
+-- A buffer cleared and given the parts of a fresh room holds the fresh room's store.
 -- Assumes nothing.
-use mathlib.Core.Path.{_≡_, sym, ap, _∙_, subst}
-use mathlib.Core.Bool.{false, _&&_, true}
-use mathlib.Core.List.{List, [], _++_}
+use mathlib.Core.Path.{_≡_, refl, sym, ap, _∙_, subst}
+use mathlib.Core.Bool.{Bool, false, _&&_, true}
+use mathlib.Core.List.{List, [], _∷_, _++_}
 use mathlib.Core.Option.{none}
-use Prim.Native.Nat.{ℕ, zero, suc, _+_, _-_, _*_, _/_, _≤_, _<_}
-use native.Mathlib.Decide.{ℕ-discrete}
+use Prim.Native.Nat.{ℕ, zero, suc, _+_, _-_, _*_, _≤_, _<_}
 use native.Mathlib.Omega.{arith}
-use lib.ListN.{length, getD, set, take, drop, length-set, length-append, length-drop, length-replicate, getD-replicate, List·getD-append}
-use lib.Seq.{length-take-le, getD-set-same, getD-set-other, getD-drop, getD-append-add}
-use Rattle.buffer.specs.Field.{byte, word, zeros, putWord, overwrite}
-use Rattle.buffer.specs.Row.{withMember}
+use lib.ListN.{length, getD, set, take, drop, length-append, length-drop, length-replicate, getD-replicate, List·getD-append}
+use lib.Seq.{length-take-le, getD-drop, getD-append-add}
+use Rattle.buffer.specs.Field.{word, zeros, putWord, withPart, overwrite}
 use Rattle.buffer.proofs.Fields.{zeros-length}
-use Rattle.buffer.proofs.Writes.{put-length, put-other}
 use Rattle.buffer.proofs.Stands.{Stands}
+use Rattle.buffer.proofs.Parts.{stands-join}
+use Rattle.buffer.proofs.Patches.{set-part, with-length, with-outside, with-stands, with-kept, word-part}
 use Rattle.graph.specs.Graph.{nodeOf, isSome}
 use Rattle.command.specs.Code.{consoleCount}
-use Rattle.command.proofs.Limits.{within-i, within-true}
-use Rattle.room.specs.Room.{Room, present, common, openSettings, fresh}
+use Rattle.command.proofs.Limits.{within-true}
+use Rattle.room.specs.Room.{Room, present, common, freshRoom}
 use Rattle.room.specs.declared.Settings.{Settings}
 use Rattle.room.specs.Sound.{maxCapacity, settingsInRange}
 use Rattle.room.specs.Boards.{boardOf}
 use Rattle.room.proofs.Steps.{fresh-sound}
-use Rattle.store.specs.Layout.{rowSize, storeSize, blockAt, commonAt, commonField, nodeBytes, block, encode}
+use Rattle.store.specs.Layout.{headerSize, nodeSize, rowSize, blockSize, storeSize, settingsAt, settingsEnd, countAt, spareAt, entriesAt, commonsEnd, commonAt, headAt, blockAt, rowAt, boardAt, commonField, settingsBytes, nodeBytes, block, encode}
+use Rattle.board.specs.Board.{boardSize}
 use Rattle.store.proofs.Diagonal.{meetNumber-self}
 use Rattle.store.proofs.Behind.{empty-row}
 use Rattle.store.proofs.Lineage.{root-lineage}
 use Rattle.store.proofs.Joined.{Placed, join-block, join-encode}
 use Rattle.store.proofs.Overwritten.{overwritten}
 
--- the bytes of a fresh store: all zero but for these, and behind the store the old ones
-record Opened (s t : List ℕ) (capacity : ℕ) : Type 0 where
+-- no byte of the parts that are written
+abbrev Elsewhere : ℕ → Type 0
+Elsewhere k =
+    (settingsAt ≤ k → k < settingsEnd → ⊥) × (countAt ≤ k → k < countAt + 2 → ⊥) × (headAt 0 ≤ k → k < headAt 0 + 2 → ⊥)
+    × (rowAt 0 ≤ k → k < rowAt 0 + 1 → ⊥)
+
+-- the bytes of a fresh store: these parts, zero elsewhere, and behind the store the old ones
+record Opened (s t : List ℕ) (settings : Settings) : Type 0 where
   long : length t ≡ length s
-  high : getD t 0 0 ≡ byte (capacity / 256)
-  low : getD t 1 0 ≡ byte capacity
-  one : getD t 3 0 ≡ 1
-  field : getD t 257 0 ≡ 1
-  own : getD t 4128 0 ≡ 1
-  none : (k : ℕ) → 2 ≤ k → k < storeSize capacity → (k ≡ 3 → ⊥) → (k ≡ 257 → ⊥) → (k ≡ 4128 → ⊥) → getD t k 0 ≡ 0
-  kept : (k : ℕ) → storeSize capacity ≤ k → getD t k 0 ≡ getD s k 0
+  set-to : Stands t settingsAt (settingsBytes settings)
+  one : Stands t countAt (word 1)
+  field : Stands t (headAt 0) (word 1)
+  own : Stands t (rowAt 0) (1 ∷ [])
+  none : (k : ℕ) → Elsewhere k → k < storeSize (settings .capacity) → getD t k 0 ≡ 0
+  kept : (k : ℕ) → storeSize (settings .capacity) ≤ k → getD t k 0 ≡ getD s k 0
 
-module _ {s t : List ℕ} {capacity : ℕ} (room : 1 ≤ capacity) (o : Opened s t capacity) where
+module _ {s t : List ℕ} {settings : Settings} (room : 1 ≤ settings .capacity) (o : Opened s t settings) where
   abbrev r : Room
-  r = fresh capacity
+  r = freshRoom settings
 
-  -- a run of zeros that meets none of the bytes that are not 0
-  zeros-stand : (at n : ℕ) → 2 ≤ at → at + n ≤ storeSize capacity → ((k : ℕ) → at ≤ k → k < at + n → (k ≡ 3 → ⊥) × (k ≡ 257 → ⊥) × (k ≡ 4128 → ⊥))
-      → Stands t at (zeros n)
-  zeros-stand at n low high apart =
+  -- a run of zeros that meets none of those parts
+  zeros-stand : (at n : ℕ) → at + n ≤ storeSize (settings .capacity) → ((k : ℕ) → at ≤ k → k < at + n → Elsewhere k) → Stands t at (zeros n)
+  zeros-stand at n high apart =
       record {
         read = λ i l.
             let l′ : i < n = rw (zeros-length n) at l in
-            let a = apart (at + i) (omega arith) (omega arith) in
-            o .none (at + i) (omega arith) (omega arith) (a .0) (a .1) (a .2) ∙ sym (getD-replicate n i 0 0 l′);
+            o .none (at + i) (apart (at + i) (omega arith) (omega arith)) (omega arith) ∙ sym (getD-replicate n i 0 0 l′);
       }
-
-  word-here : (at x : ℕ) → getD t at 0 ≡ byte (x / 256) → getD t (at + 1) 0 ≡ byte x → Stands t at (word x)
-  word-here at x a b = record { read = go }
-    where
-      go : (i : ℕ) → i < 2 → getD t (at + i) 0 ≡ getD (word x) i 0
-      go zero l = ap (λ (k : ℕ). getD t k 0) (omega arith) ∙ a
-      go (suc zero) l = b
-      go (suc (suc i)) l = absurd (omega arith)
 
   away : (c : ℕ) → 0 < c → c < consoleCount → present r c ≡ false
   away zero l k = absurd (omega arith)
-  away (suc c) l k = ap isSome (getD-replicate 15 c none none (omega arith))
+  away (suc c) l k = ap isSome (getD-replicate (consoleCount - 1) c none none (omega arith))
 
   -- the table: console 0 alone is present, on version 0
   no-field : (c d : ℕ) → present r c && present r d ≡ false → 0 < c + d → c < consoleCount → d < consoleCount
       → Stands t (commonAt c d) (word (commonField r c d))
-  no-field c d e l i j =
-      rw e (zeros-stand (commonAt c d) 2 (omega arith) (omega (arith, room)) (λ k a b. omega arith))
+  no-field c d e l i j = rw e (zeros-stand (commonAt c d) 2 (omega (arith, room)) (λ k a b. omega arith))
 
   fields : (c d : ℕ) → c < consoleCount → d < consoleCount → Stands t (commonAt c d) (word (commonField r c d))
   unfolding common
-  fields zero zero i j = rw (meetNumber-self [] 0 (omega arith)) (word-here 256 1 (o .none 256 (omega arith) (omega (arith, room)) (omega arith) (omega arith) (omega arith)) (o .field))
+  fields zero zero i j = rw (meetNumber-self [] 0 (omega arith)) (o .field)
   fields zero (suc d) i j = no-field zero (suc d) (rw (away (suc d) (omega arith) j)) (omega arith) i j
   fields (suc c) d i j = no-field (suc c) d (rw (away (suc c) (omega arith) i)) (omega arith) i j
 
   -- the block of version 0
-  own-row : Stands t 4128 (withMember (zeros rowSize) 0)
-  own-row = record { read = go }
-    where
-      go : (i : ℕ) → i < 128 → getD t (4128 + i) 0 ≡ getD (withMember (zeros rowSize) 0) i 0
-      go zero l = o .own
-      go (suc i) l =
-          o .none (4128 + suc i) (omega arith) (omega (arith, room)) (omega arith) (omega arith) (omega arith)
-          ∙ sym (getD-replicate 127 i 0 0 (omega arith))
-
   root : Stands t (blockAt 0) (block [] 0)
   unfolding nodeBytes nodeOf boardOf
   root =
       join-block [] 0
-      (zeros-stand 4096 32 (omega arith) (omega (arith, room)) (λ k a b. omega arith))
-      (subst (Stands t 4128) root-lineage own-row)
-      (zeros-stand 4256 384 (omega arith) (omega (arith, room)) (λ k a b. omega arith))
+      (zeros-stand (blockAt 0) nodeSize (omega (arith, room)) (λ k a b. omega arith))
+      (subst (Stands t (rowAt 0)) root-lineage
+      (stands-join (1 ∷ []) (zeros (rowSize - 1)) (o .own) (zeros-stand (rowAt 0 + 1) (rowSize - 1) (omega (arith, room)) (λ k a b. omega arith)) refl))
+      (zeros-stand (boardAt 0) boardSize (omega (arith, room)) (λ k a b. omega arith))
 
   placed : Placed t r
   unfolding nodeOf
   placed =
       record {
-        settings = word-here 0 capacity (o .high) (o .low);
-        count = word-here 2 1 (o .none 2 (omega arith) (omega arith) (omega arith) (omega arith) (omega arith)) (o .one);
-        gap = zeros-stand 4 124 (omega arith) (omega arith) (λ k a b. omega arith);
-        entries =
-            subst (Stands t 128) empty-row
-            (zeros-stand 128 128 (omega arith) (omega arith) (λ k a b. omega arith));
+        settings = o .set-to;
+        count = o .one;
+        gap = zeros-stand spareAt (entriesAt - spareAt) (omega arith) (λ k a b. omega arith);
+        entries = subst (Stands t entriesAt) empty-row (zeros-stand entriesAt rowSize (omega arith) (λ k a b. omega arith));
         commons = fields;
-        rest = zeros-stand 768 3328 (omega arith) (omega arith) (λ k a b. omega arith);
+        rest = zeros-stand commonsEnd (headerSize - commonsEnd) (omega arith) (λ k a b. omega arith);
         versions = λ v l. let e : v ≡ 0 = omega arith in rw e root;
-        free = zeros-stand 4640 (544 * (capacity - 1)) (omega arith) (omega (arith, room)) (λ k a b. omega arith);
+        free = zeros-stand (blockAt 1) (blockSize * (settings .capacity - 1)) (omega (arith, room)) (λ k a b. omega arith);
       }
 
--- the two bytes of a field that was written
-put-high : (s : List ℕ) (at x : ℕ) → at < length s → getD (putWord s at x) at 0 ≡ byte (x / 256)
-put-high s at x l =
-    getD-set-other (set s at (byte (x / 256))) (at + 1) at (byte x) 0 (omega arith) ∙ getD-set-same s at (byte (x / 256)) 0 l
-
-put-low : (s : List ℕ) (at x : ℕ) → at + 1 < length s → getD (putWord s at x) (at + 1) 0 ≡ byte x
-put-low s at x l = getD-set-same (set s at (byte (x / 256))) (at + 1) (byte x) 0 (omega (arith, length-set s at (byte (x / 256))))
-
--- a list with the fields of a fresh room
-module _ (l : List ℕ) (capacity : ℕ) (long : 4640 ≤ length l) where
+-- a list with the parts of a fresh room, one written after the other
+module _ (l : List ℕ) (settings : Settings) where
   abbrev first : List ℕ
-  first = putWord l 0 capacity
+  first = withPart l settingsAt (settingsBytes settings)
 
   abbrev second : List ℕ
-  second = putWord first 2 1
+  second = withPart first countAt (word 1)
 
   abbrev third : List ℕ
-  third = putWord second 256 1
+  third = withPart second (headAt 0) (word 1)
 
   abbrev filled : List ℕ
-  filled = set third 4128 1
+  filled = withPart third (rowAt 0) (1 ∷ [])
 
-  filled-length : length filled ≡ length l
-  filled-length = simp length-set
+  module _ (long : blockAt 1 ≤ length l) where
+    first-long : length first ≡ length l
+    first-long = with-length l (settingsBytes settings) settingsAt (omega arith)
 
-  third-length : length third ≡ length l
-  third-length = simp length-set
+    second-long : length second ≡ length l
+    second-long = with-length first (word 1) countAt (omega (arith, first-long)) ∙ first-long
 
-  -- what the writes behind a byte leave of it
-  after-first : (k : ℕ) → k < 2 → getD filled k 0 ≡ getD first k 0
-  after-first k b =
-      getD-set-other third 4128 k 1 0 (omega arith) ∙ put-other second 256 1 k (omega arith) (omega arith)
-      ∙ put-other first 2 1 k (omega arith) (omega arith)
+    third-long : length third ≡ length l
+    third-long = with-length second (word 1) (headAt 0) (omega (arith, second-long)) ∙ second-long
 
-  after-second : (k : ℕ) → 2 ≤ k → k < 4 → getD filled k 0 ≡ getD second k 0
-  after-second k a b = getD-set-other third 4128 k 1 0 (omega arith) ∙ put-other second 256 1 k (omega arith) (omega arith)
+    others : (k : ℕ) → Elsewhere k → getD filled k 0 ≡ getD l k 0
+    others k e =
+        with-outside third (1 ∷ []) (rowAt 0) (omega (arith, third-long)) k (e .3)
+        ∙ with-outside second (word 1) (headAt 0) (omega (arith, second-long)) k (e .2)
+        ∙ with-outside first (word 1) countAt (omega (arith, first-long)) k (e .1)
+        ∙ with-outside l (settingsBytes settings) settingsAt (omega arith) k (e .0)
 
-  after-third : (k : ℕ) → k < 4128 → getD filled k 0 ≡ getD third k 0
-  after-third k b = getD-set-other third 4128 k 1 0 (omega arith)
+    -- what the later writes leave standing
+    past-third : {at : ℕ} {xs : List ℕ} → Stands third at xs → at + length xs ≤ rowAt 0 → Stands filled at xs
+    past-third h b = with-kept third (1 ∷ []) (rowAt 0) (omega (arith, third-long)) h (λ k x y. omega arith)
 
-  others : (k : ℕ) → 4 ≤ k → (k ≡ 256 → ⊥) → (k ≡ 257 → ⊥) → (k ≡ 4128 → ⊥) → getD filled k 0 ≡ getD l k 0
-  others k b p q o =
-      getD-set-other third 4128 k 1 0 o ∙ put-other second 256 1 k p q ∙ put-other first 2 1 k (omega arith) (omega arith)
-      ∙ put-other l 0 capacity k (omega arith) (omega arith)
+    past-second : {at : ℕ} {xs : List ℕ} → Stands second at xs → at + length xs ≤ headAt 0 → Stands filled at xs
+    past-second h b =
+        past-third (with-kept second (word 1) (headAt 0) (omega (arith, second-long)) h (λ k x y. omega arith)) (omega arith)
 
-  filled-opened : (s : List ℕ) → length l ≡ length s → ((k : ℕ) → k < storeSize capacity → getD l k 0 ≡ 0)
-      → ((k : ℕ) → storeSize capacity ≤ k → getD l k 0 ≡ getD s k 0) → 1 ≤ capacity → Opened s filled capacity
-  filled-opened s e clear kept room =
-      let first-length = put-length l 0 capacity in
-      let second-length = put-length first 2 1 in
-      record {
-        long = filled-length ∙ e;
-        high = after-first 0 (omega arith) ∙ put-high l 0 capacity (omega arith);
-        low = after-first 1 (omega arith) ∙ put-low l 0 capacity (omega arith);
-        one = after-second 3 (omega arith) (omega arith) ∙ put-low first 2 1 (omega arith);
-        field = after-third 257 (omega arith) ∙ put-low second 256 1 (omega arith);
-        own = getD-set-same third 4128 1 0 (omega (arith, third-length));
-        none = λ k a b p q o.
-            elim (ℕ-discrete k 2) [
-              | yes f ↦ rw f (after-second 2 (omega arith) (omega arith) ∙ put-high first 2 1 (omega arith))
-              | no f ↦
-                  elim (ℕ-discrete k 256) [
-                    | yes g ↦ rw g (after-third 256 (omega arith) ∙ put-high second 256 1 (omega arith))
-                    | no g ↦ others k (omega arith) g q o ∙ clear k b
-                  ]
-            ];
-        kept = λ k a. others k (omega arith) (omega arith) (omega arith) (omega arith) ∙ kept k a;
-      }
+    filled-opened : (s : List ℕ) → length l ≡ length s → ((k : ℕ) → k < storeSize (settings .capacity) → getD l k 0 ≡ 0)
+        → ((k : ℕ) → storeSize (settings .capacity) ≤ k → getD l k 0 ≡ getD s k 0) → 1 ≤ settings .capacity → Opened s filled settings
+    filled-opened s e clear kept room =
+        let there = with-stands l (settingsBytes settings) settingsAt (omega arith) in
+        record {
+          long = with-length third (1 ∷ []) (rowAt 0) (omega (arith, third-long)) ∙ third-long ∙ e;
+          set-to = past-second (with-kept first (word 1) countAt (omega (arith, first-long)) there (λ k x y. omega arith)) (omega arith);
+          one = past-second (with-stands first (word 1) countAt (omega (arith, first-long))) (omega arith);
+          field = past-third (with-stands second (word 1) (headAt 0) (omega (arith, second-long))) (omega arith);
+          own = with-stands third (1 ∷ []) (rowAt 0) (omega (arith, third-long));
+          none = λ k a b. others k a ∙ clear k b;
+          kept = λ k a. others k (omega arith) ∙ kept k a;
+        }
 
 -- a cleared front, and the bytes behind it
 module _ (s : List ℕ) (n : ℕ) (fits : n ≤ length s) where
@@ -200,21 +168,29 @@ module _ (s : List ℕ) (n : ℕ) (fits : n ≤ length s) where
       ap (λ (i : ℕ). getD cleared i 0) (sym at) ∙ getD-append-add (zeros n) (drop n s) (k - n) 0 ∙ getD-drop n s (k - n) 0
       ∙ ap (λ (i : ℕ). getD s i 0) past
 
-filled-fresh : (s : List ℕ) (capacity : ℕ) → 1 ≤ capacity → capacity ≤ 1024 → (fits : storeSize capacity ≤ length s)
-    → set (putWord (putWord (putWord (cleared s (storeSize capacity) fits) 0 capacity) 2 1) 256 1) 4128 1 ≡ overwrite (encode (fresh capacity)) s
-filled-fresh s capacity room few fits =
-    let n = storeSize capacity in
-    let long = cleared-length s n fits in
-    let o = filled-opened (cleared s n fits) capacity (omega arith) s long (cleared-front s n fits) (cleared-rest s n fits) room in
-    overwritten s _ (fresh capacity) (fresh-sound (openSettings capacity) (within-i 1 maxCapacity capacity room few)) (join-encode (fresh capacity) (placed room o)) fits (o .long) (o .kept)
-
 -- settings in range have a capacity of 1 to 1,024
-pub in-size : (settings : Settings) → settingsInRange settings ≡ true → (1 ≤ settings .capacity) × (settings .capacity ≤ 1024)
+pub in-size : (settings : Settings) → settingsInRange settings ≡ true → (1 ≤ settings .capacity) × (settings .capacity ≤ maxCapacity)
 in-size settings h = within-true 1 maxCapacity (settings .capacity) h
 
+filled-fresh : (s : List ℕ) (settings : Settings) → settingsInRange settings ≡ true → (fits : storeSize (settings .capacity) ≤ length s)
+    → filled (cleared s (storeSize (settings .capacity)) fits) settings ≡ overwrite (encode (freshRoom settings)) s
+filled-fresh s settings range fits =
+    let n = storeSize (settings .capacity) in
+    let room = in-size settings range .0 in
+    let long = cleared-length s n fits in
+    let o = filled-opened (cleared s n fits) settings (omega arith) s long (cleared-front s n fits) (cleared-rest s n fits) room in
+    overwritten s _ (freshRoom settings) (fresh-sound settings range) (join-encode (freshRoom settings) (placed room o)) fits (o .long) (o .kept)
+
 -- the same, write by write
-pub opened : (s x a b d : List ℕ) (capacity end : ℕ) → 1 ≤ capacity → capacity ≤ 1024 → storeSize capacity ≤ length s
-    → end ≡ storeSize capacity → x ≡ zeros (length (take end s)) → a ≡ putWord (x ++ drop end s) 0 capacity
-    → b ≡ putWord a 2 1 → d ≡ putWord b 256 1 → set d 4128 1 ≡ overwrite (encode (fresh capacity)) s
-opened s x a b d capacity end room few fits there front e₁ e₂ e₃ =
-    rw (e₃, e₂, e₁, front, there, length-take-le (storeSize capacity) s fits) (filled-fresh s capacity room few fits)
+pub opened : (s x a b d : List ℕ) (settings : Settings) (end : ℕ) → settingsInRange settings ≡ true → storeSize (settings .capacity) ≤ length s
+    → end ≡ storeSize (settings .capacity) → x ≡ zeros (length (take end s)) → a ≡ withPart (x ++ drop end s) settingsAt (settingsBytes settings)
+    → b ≡ putWord a countAt 1 → d ≡ putWord b (headAt 0) 1 → set d (rowAt 0) 1 ≡ overwrite (encode (freshRoom settings)) s
+opened s x a b d settings end range fits there front e₁ e₂ e₃ =
+    let n = storeSize (settings .capacity) in
+    let room = in-size settings range .0 in
+    let l : List ℕ = cleared s n fits in
+    let long : blockAt 1 ≤ length l = omega (arith, cleared-length s n fits) in
+    let is₁ : a ≡ first l settings = rw (e₁, front, there, length-take-le n s fits) in
+    let is₂ : b ≡ second l settings = e₂ ∙ rw is₁ (word-part (first l settings) countAt 1 (omega (arith, first-long l settings long))) in
+    let is₃ : d ≡ third l settings = e₃ ∙ rw is₂ (word-part (second l settings) (headAt 0) 1 (omega (arith, second-long l settings long))) in
+    rw is₃ (set-part (third l settings) (rowAt 0) 1 (omega (arith, third-long l settings long))) ∙ filled-fresh s settings range fits

@@ -1,13 +1,15 @@
 // A fresh store: version 0, and console 0 on it.
+use crate::commons::put_head;
 use buffer::clear;
 use buffer::put_word;
+use graph::Console;
 use graph::Version;
 use room::Settings;
-use store::places::CAPACITY;
-use store::places::COMMONS;
 use store::places::COUNT;
+use store::places::field_of;
 use store::places::row_at;
 use store::places::store_size;
+use store::settings::put_settings;
 ghost use mathlib.Core.Path.{_≡_};
 ghost use Prim.Native.Nat.{_≤_};
 ghost use lib.ListN.{length};
@@ -26,10 +28,9 @@ pub fn open(s: &mut [u8], settings: Settings)
     let end = store_size(settings.capacity);
     let row = row_at(Version(0));
     clear(&mut s[..end]);
-    put_word(s, CAPACITY, settings.capacity);
+    put_settings(s, settings);
     put_word(s, COUNT, 1);
-    // console 0 is on version 0, and a field is 1 more than its version
-    put_word(s, COMMONS, 1);
+    put_head(s, Console(0), field_of(Version(0)));
     // version 0 is its own only ancestor
     s[row] = 1;
 }

@@ -2,7 +2,7 @@
 -- Assumes nothing.
 use mathlib.Core.Path.{refl, _∙_}
 use native.Mathlib.Omega.{arith}
-use Rattle.tape.proofs.Laid.{word-part}
+use Rattle.buffer.proofs.Patches.{word-part}
 use Rattle.tape.proofs.writer.put_record_word.Statement.{statement}
 use Rattle.tape.proofs.writer.put_record_word.Tie as tie
 
