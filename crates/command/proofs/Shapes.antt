@@ -10,7 +10,7 @@ use Rattle.command.specs.declared.Kind.{Kind}
 use Rattle.command.specs.declared.Kind.the-variants as kind-is
 use Rattle.command.specs.declared.Shape.{Shape}
 use Rattle.command.specs.declared.Shape.the-variants.{Known, Unknown}
-use Rattle.command.specs.Code.{within, mergeCommand, fastForwardCommand, kindOf, kindRefusal, shapeOf, shapeRefusal, lengthOf}
+use Rattle.command.specs.Code.{within, kindOf, kindRefusal, shapeOf, shapeRefusal, lengthOf}
 use Rattle.command.specs.Decode.{isCommandCode}
 use Rattle.command.specs.Decoding.{narrow}
 use Rattle.command.proofs.Limits.{within-false, either, each-entry}

@@ -1,7 +1,7 @@
 -- The rows of a graph in their array, one version after the other: version 0's, and the row of an entry or a merge behind those of the
 -- versions before it.
 -- Assumes nothing.
-use mathlib.Core.Path.{_≡_, refl, sym, ap, ap₂, _∙_}
+use mathlib.Core.Path.{_≡_, sym, ap, ap₂, _∙_}
 use mathlib.Core.Bool.{_||_}
 use mathlib.Core.List.{List, [], _∷_}
 use Prim.Native.Nat.{ℕ, _*_, _<_}
@@ -10,7 +10,7 @@ use native.Mathlib.Omega.{arith}
 use lib.Dec.{eqb}
 use lib.ListN.{length}
 use Rattle.buffer.specs.Field.{zeros, withPart}
-use Rattle.buffer.specs.Row.{rowFrom, withMember, union}
+use Rattle.buffer.specs.Row.{withMember, union}
 use Rattle.buffer.proofs.Rows.{rowFrom-length}
 use Rattle.buffer.proofs.Sets.{row-ext}
 use Rattle.buffer.proofs.Patches.{with-length, with-here, with-part}

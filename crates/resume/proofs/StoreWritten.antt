@@ -3,11 +3,10 @@
 use mathlib.Core.Path.{_≡_, refl, ap, subst, _∙_}
 use mathlib.Core.Bool.{true}
 use mathlib.Core.List.{List, []}
-use Prim.Native.Nat.{ℕ, _+_, _-_, _≤_, _<_}
+use Prim.Native.Nat.{ℕ, _+_, _≤_, _<_}
 use native.Mathlib.Omega.{arith}
 use lib.ListN.{length, getD, drop, length-append, length-drop}
 use Rattle.buffer.specs.Field.{putWord, part, overwrite, withPart}
-use Rattle.buffer.proofs.Fields.{zeros-length}
 use Rattle.buffer.proofs.Rows.{rowFrom-length}
 use Rattle.buffer.proofs.Stands.{Stands, stands-front, stands-kept}
 use Rattle.buffer.proofs.Parts.{put-stands, overwrite-behind}
@@ -20,7 +19,7 @@ use Rattle.room.specs.Room.{Room, freshRoom}
 use Rattle.room.specs.Sound.{soundRoom}
 use Rattle.room.proofs.Sound.{sound-facts}
 use Rattle.room.proofs.Steps.{fresh-sound}
-use Rattle.store.specs.Layout.{headerSize, rowSize, storeSize, countAt, entriesAt, commonsAt, commonsSize, commonsEnd, blockAt, commonTable, encode}
+use Rattle.store.specs.Layout.{headerSize, rowSize, storeSize, countAt, commonsAt, commonsSize, commonsEnd, blockAt, commonTable, encode}
 use Rattle.store.proofs.Blocks.{commonTable-length, block-length, table-field}
 use Rattle.store.proofs.Joined.{Placed, placed}
 use Rattle.store.proofs.Changed.{Changed, changed-store}

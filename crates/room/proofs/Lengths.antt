@@ -11,7 +11,7 @@ use Rattle.board.specs.Board.{boardSize}
 use Rattle.board.proofs.Length.{enter-length, mergeBoard-length}
 use Rattle.graph.specs.declared.Node.{Node}
 use Rattle.graph.specs.declared.Node.the-variants.{Entry, Merge}
-use Rattle.graph.specs.Graph.{Graph, entry, merge, versionCount, meetNumber}
+use Rattle.graph.specs.Graph.{Graph, versionCount, meetNumber}
 use Rattle.room.specs.Boards.{boardMade, boardOf}
 
 boardMade-length : (board : ℕ → List ℕ) (base : ℕ → ℕ → ℕ) (n : Node)

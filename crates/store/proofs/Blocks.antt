@@ -16,7 +16,7 @@ use Rattle.buffer.proofs.Stands.{Stands, stands-left, stands-right}
 use Rattle.buffer.proofs.Rows.{rowFrom-length}
 use Rattle.graph.specs.declared.Node.{Node}
 use Rattle.graph.specs.declared.Node.the-variants.{Entry, Merge}
-use Rattle.graph.specs.Graph.{Graph, entry, merge, versionCount, ancestor, isEntry, nodeOf}
+use Rattle.graph.specs.Graph.{Graph, versionCount, ancestor, isEntry, nodeOf}
 use Rattle.command.specs.Code.{consoleCount}
 use Rattle.room.specs.Room.{Room}
 use Rattle.room.specs.Boards.{boardOf}

@@ -3,7 +3,7 @@
 use mathlib.Core.Path.{_≡_, _∙_}
 use mathlib.Core.Bool.{true}
 use mathlib.Core.List.{List}
-use Prim.Native.Nat.{ℕ, _+_, _-_, _*_, _<_}
+use Prim.Native.Nat.{ℕ, _-_, _*_, _<_}
 use native.Mathlib.Omega.{arith}
 use lib.ListN.{length}
 use borrow.Author.Tests.{eqb-false, lt-ltb}
@@ -16,7 +16,7 @@ use Rattle.command.specs.Code.{consoleCount}
 use Rattle.room.specs.Room.{Room}
 use Rattle.room.specs.Sound.{behindHead}
 use Rattle.room.proofs.Sound.{Sound, present-console}
-use Rattle.store.specs.Layout.{headerSize, rowSize, blockSize, countAt, spareAt, entriesAt, commonsEnd, blockAt, roomIn, holdsStore}
+use Rattle.store.specs.Layout.{headerSize, rowSize, blockSize, spareAt, entriesAt, commonsEnd, blockAt, roomIn, holdsStore}
 use Rattle.store.specs.Check.{rowPart, commonIn, storeRight}
 use Rattle.store.proofs.Reading.{count-read}
 use Rattle.store.proofs.Shown.{no-entry}

@@ -2,21 +2,20 @@
 -- Assumes nothing.
 use mathlib.Core.Path.{refl, subst, subst₂}
 use mathlib.Core.List.{List, [], _++_}
-use Prim.Native.Nat.{ℕ, zero, suc, _+_, _-_, _*_, _<_}
+use Prim.Native.Nat.{ℕ, zero, suc, _+_, _*_, _<_}
 use native.Mathlib.Nat.{zero-add}
 use native.Mathlib.Omega.{arith}
 use lib.ListN.{length-append}
-use Rattle.buffer.specs.Field.{word, zeros}
-use Rattle.buffer.specs.Row.{row}
+use Rattle.buffer.specs.Field.{word}
 use Rattle.buffer.proofs.Rows.{rowFrom-length}
-use Rattle.buffer.proofs.Stands.{Stands, stands-left, stands-right}
+use Rattle.buffer.proofs.Stands.{Stands}
 use Rattle.buffer.proofs.Parts.{stands-join}
-use Rattle.graph.specs.Graph.{Graph, versionCount, isEntry, nodeOf}
+use Rattle.graph.specs.Graph.{Graph, versionCount, nodeOf}
 use Rattle.command.specs.Code.{consoleCount}
 use Rattle.room.specs.Room.{Room}
 use Rattle.room.specs.Boards.{boardOf}
-use Rattle.store.specs.Layout.{headerSize, rowSize, blockSize, settingsAt, countAt, spareAt, entriesAt, commonsAt, commonsEnd, commonAt, blockAt, rowAt, boardAt, commonField, commonFields, commonTable, settingsBytes, header, nodeBytes, block, blocks, encode}
-use Rattle.store.proofs.Blocks.{commonFields-length, commonTable-length, header-length, nodeBytes-length, blocks-length, stands-header, stands-settings, stands-count, stands-entries, stands-common, stands-block, stands-spare, stands-rest, stands-free, spare, headerRest, startOf, entriesOf, tableOf, filledOf, freeOf}
+use Rattle.store.specs.Layout.{headerSize, settingsAt, countAt, spareAt, entriesAt, commonsAt, commonsEnd, commonAt, blockAt, rowAt, boardAt, commonField, commonFields, commonTable, settingsBytes, header, nodeBytes, block, blocks, encode}
+use Rattle.store.proofs.Blocks.{commonFields-length, commonTable-length, header-length, nodeBytes-length, blocks-length, stands-settings, stands-count, stands-entries, stands-common, stands-block, stands-spare, stands-rest, stands-free, spare, headerRest, startOf, entriesOf, tableOf, filledOf, freeOf}
 use Rattle.store.proofs.Lineage.{lineage}
 
 nothing-stands : {s : List ℕ} {at : ℕ} → Stands s at []

@@ -16,7 +16,7 @@ use Rattle.buffer.specs.Field.{wordAt}
 use Rattle.buffer.proofs.Stands.{Stands, stands-first, stands-field, stands-word}
 use Rattle.graph.specs.declared.Node.{Node}
 use Rattle.graph.specs.declared.Node.the-variants.{Entry, Merge}
-use Rattle.graph.specs.Graph.{isSome, Graph, entry, merge, versionCount, nodeOf, everyVersion, parentsLower}
+use Rattle.graph.specs.Graph.{isSome, Graph, versionCount, nodeOf, everyVersion, parentsLower}
 use Rattle.graph.proofs.Ancestor.{nodeOf-new, nodeOf-old}
 use Rattle.command.specs.Code.{consoleCount}
 use Rattle.room.specs.Room.{Room, headOf, present, head, common}

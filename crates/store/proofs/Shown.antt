@@ -14,7 +14,7 @@ use Rattle.buffer.specs.Row.{row}
 use Rattle.buffer.proofs.Sets.{row-ext}
 use Rattle.graph.specs.declared.Node.{Node}
 use Rattle.graph.specs.declared.Node.the-variants.{Entry, Merge}
-use Rattle.graph.specs.Graph.{Graph, entry, merge, versionCount, someParent, ancestor, nodeOf, isEntryNode, isEntry, baseOf, everyVersion, parentsLower}
+use Rattle.graph.specs.Graph.{Graph, versionCount, someParent, ancestor, nodeOf, isEntryNode, isEntry, baseOf, everyVersion, parentsLower}
 use Rattle.graph.proofs.Ancestor.{every-new, every-old, ancestor-new, ancestor-old, nodeOf-new, nodeOf-old, nodeOf-named, isEntry-new, isEntry-old, isEntry-named}
 use Rattle.graph.proofs.Parent.{Parent, parent-lower, receiver, giver}
 use Rattle.graph.proofs.Meet.{meet-old}

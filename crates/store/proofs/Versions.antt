@@ -12,11 +12,11 @@ use lib.ListN.{length}
 use borrow.Author.Tests.{eqb-true, ne-eqb, ltb-true, lt-ltb}
 use Rattle.laws.proofs.Logic.{and-l, and-r, and-i, not-e, not-i}
 use Rattle.buffer.specs.Field.{zeros, part, same, allZero}
-use Rattle.buffer.specs.Row.{rowFrom, member, withMember, union, intersection}
+use Rattle.buffer.specs.Row.{member, withMember, union, intersection}
 use Rattle.buffer.proofs.Fields.{same-true}
 use Rattle.buffer.proofs.Parts.{Bytes, same-of, zero-stands, stands-zero, zero-part, part-zero}
 use Rattle.board.specs.Board.{boardSize, enter, mergeBoard}
-use Rattle.graph.specs.Graph.{Graph, versionCount, ancestor, nodeOf, baseOf, everyVersion}
+use Rattle.graph.specs.Graph.{Graph, versionCount, nodeOf, baseOf, everyVersion}
 use Rattle.graph.proofs.Ancestor.{ancestor-below}
 use Rattle.graph.proofs.Meet.{Meet, meet-found}
 use Rattle.graph.proofs.Growth.{merge-base}

@@ -1,9 +1,9 @@
 -- What the calls answer: the reply and the lent bytes where the code found this refusal or none, and what holds where none is given.
 -- Assumes nothing.
 use mathlib.Core.Path.{_≡_, refl, sym, _∙_}
-use mathlib.Core.Bool.{Bool, true, false, cond, not, _&&_, _||_}
+use mathlib.Core.Bool.{Bool, true, false, cond, not, _&&_}
 use mathlib.Core.List.{List, [], _∷_}
-use Prim.Native.Nat.{ℕ, zero, suc, _≤_, _<_}
+use Prim.Native.Nat.{ℕ, _≤_, _<_}
 use native.Mathlib.Omega.{arith}
 use lib.Dec.{eqb}
 use lib.ListN.{length}
@@ -13,14 +13,12 @@ use Rattle.buffer.specs.Field.{overwrite}
 use Rattle.board.specs.Board.{boardSize}
 use Rattle.refusal.specs.Refusal.{_when_, firstRefusal}
 use Rattle.command.specs.Code.{consoleCount, isConsole}
-use Rattle.command.proofs.Limits.{within-true}
 use Rattle.room.specs.Room.{present, openSettings}
 use Rattle.room.specs.Sound.{settingsInRange}
 use Rattle.room.specs.Step.{absent}
 use Rattle.store.specs.Layout.{storeSize, roomIn, holdsStore}
 use Rattle.unit.specs.declared.Reply.{Reply}
 use Rattle.unit.specs.Calls.{Outcome, replied, written, bufferTests, openTests, consoleTests, pairTests}
-use Rattle.refusal.specs.Refusal.{firstOf}
 use Rattle.refusal.proofs.Refusals.{none-applies, numbered, first-append, first-none}
 
 -- a call with this reply, which left this in the lent buffer, went as it should

@@ -12,7 +12,7 @@ use lib.ListN.{length-map}
 use Rattle.laws.proofs.Logic.{bool-ext}
 use Rattle.graph.specs.declared.Node.{Node}
 use Rattle.graph.specs.declared.Node.the-variants.{Entry, Merge}
-use Rattle.graph.specs.Graph.{Graph, entry, merge, versionCount, ancestor, nodeOf, isEntryNode, isEntry}
+use Rattle.graph.specs.Graph.{Graph, versionCount, ancestor, nodeOf, isEntryNode, isEntry}
 use Rattle.room.proofs.Counters.{entryIs}
 use Rattle.unit.specs.Journal.{madeBy, leads, madeAs, wasEntered, callOf}
 

@@ -1,7 +1,6 @@
 -- The reply of resume and the lent buffer, from what the crate `resume` says of them.
 -- Assumes nothing.
 use mathlib.Core.Path.{_≡_, refl, sym, _∙_}
-use mathlib.Core.Bool.{Bool, true, false, cond}
 use lib.Dec.{eqb}
 use mathlib.Core.List.{List}
 use Rattle.laws.proofs.Logic.{cond-same}

@@ -1,18 +1,16 @@
 -- A store in which a version was appended and counted, and whose console moved to it, is the encoding of the room that grew by it.
 -- Assumes nothing.
-use Prim.Native.Nat.{ℕ, suc, _+_, _-_, _*_, _≤_, _<_}
-use mathlib.Core.Path.{_≡_, refl, sym, ap, ap₂, _∙_}
+use Prim.Native.Nat.{ℕ, suc, _+_, _*_, _≤_, _<_}
+use mathlib.Core.Path.{_≡_, refl, ap₂, _∙_}
 use mathlib.Core.Bool.{true, false, _&&_}
 use mathlib.Core.List.{List, _∷_}
 use native.Mathlib.Decide.{ℕ-discrete}
 use native.Mathlib.Numerals.{add-one}
 use native.Mathlib.Omega.{arith}
-use lib.ListN.{length, getD, getD-replicate}
-use lib.Dec.{ltb}
+use lib.ListN.{length, getD}
 use borrow.Author.Tests.{lt-ltb}
 use Rattle.laws.proofs.Logic.{and-i}
-use Rattle.buffer.specs.Field.{word, putWord, zeros, overwrite}
-use Rattle.buffer.proofs.Fields.{zeros-length}
+use Rattle.buffer.specs.Field.{word, putWord, overwrite}
 use Rattle.buffer.proofs.Rows.{rowFrom-length}
 use Rattle.buffer.proofs.Parts.{put-stands}
 use Rattle.buffer.proofs.Stands.{Stands, stands-kept}
@@ -26,7 +24,7 @@ use Rattle.room.specs.Sound.{maxCapacity}
 use Rattle.room.specs.Step.{behind, someThirdSplits, grown}
 use Rattle.room.proofs.Sound.{Sound, facts-sound}
 use Rattle.room.proofs.Steps.{head-named, entry-grown, merge-grown}
-use Rattle.store.specs.Layout.{headerSize, rowSize, blockSize, countAt, entriesAt, commonsAt, commonsEnd, commonAt, blockAt, commonField, encode, roomIn, holdsStore}
+use Rattle.store.specs.Layout.{headerSize, rowSize, countAt, entriesAt, commonsAt, commonsEnd, commonAt, blockAt, commonField, encode, roomIn, holdsStore}
 use Rattle.store.specs.Check.{commonIn}
 use Rattle.store.proofs.Joined.{Placed, placed}
 use Rattle.store.proofs.Moved.{commonField-sym, grown-self, grown-other, entry-row, entry-column, merge-row, merge-column}
