@@ -3,18 +3,18 @@
 use Prim.Native.Nat.{ℕ, zero, suc, _+_, _-_, _*_, _<_}
 use mathlib.Core.Path.{_≡_, refl, sym, _∙_, ap}
 use mathlib.Core.List.{List, _++_}
-use mathlib.Core.Bool.{Bool, true, false, cond, _&&_}
+use mathlib.Core.Bool.{true, false, _&&_}
 use native.Mathlib.Omega.{arith}
 use native.Mathlib.Decide.{decLt}
 use borrow.Author.Tests.{eqb-false}
 use lib.Dec.{eqb}
 use lib.ListN.{length, getD, set, List·getD-append}
 use lib.Seq.{getD-append-add, getD-set-other}
-use Rattle.laws.proofs.Logic.{and-rest}
+use Rattle.laws.proofs.Logic.{either, and-rest}
 use Rattle.buffer.specs.Field.{wordAt, putWord}
 use Rattle.buffer.proofs.Fields.{bytes-word}
 use Rattle.buffer.proofs.Writes.{put-same, put-apart}
-use Rattle.board.specs.Board.{stripSize, stripCount, mergeStrip, mergeStrips, mergeBoard, levelAt, headingAt, marksAt, callsAt, alertsAt, flagAt, enter}
+use Rattle.board.specs.Board.{stripSize, stripCount, mergeStrip, mergeStrips, mergeBoard, levelAt, headingAt, marksAt, callsAt, alertsAt, flagAt, levelEntry, headingEntry, markPutEntry, markTakenEntry, callEntry, alertOnEntry, alertOffEntry, enter}
 use Rattle.board.proofs.Length.{mergeStrips-length}
 
 -- a byte of a merged board is a byte of the merged strip
@@ -54,14 +54,6 @@ module _ (l a b : List ℕ) (k : ℕ) (h : k < stripCount) where
   unfolding mergeStrip
   alerts-merged small = board-word 8 (omega arith) ∙ bytes-word _ small
 
--- what holds of both branches holds of a choice; the first may lean on its test
-chosen : (P : List ℕ → Type 0) (t : Bool) (x y : List ℕ) → (t ≡ true → P x) → P y → P (cond t x y)
-chosen P true x y p q = p refl
-chosen P false x y p q = q
-
-either : (P : List ℕ → Type 0) (t : Bool) (x y : List ℕ) → P x → P y → P (cond t x y)
-either P t x y p q = chosen P t x y (λ _. p) q
-
 -- the 16 bits at i share no byte with those at a place
 record Apart (i at : ℕ) : Type 0 where
   same : i ≡ at → ⊥
@@ -79,28 +71,28 @@ flag-kept s k x i a =
 
 module _ (code k x : ℕ) (s : List ℕ) where
   -- a 16-bit cell that an entry does not write stays as it was
-  cell-kept : (i : ℕ) → Apart i (levelAt k) → Apart i (headingAt k) → Apart i (marksAt k) → (eqb code 6 ≡ true → Apart i (callsAt k))
-      → (eqb code 7 ≡ true → Apart i (alertsAt k)) → Apart i (flagAt k) → wordAt (enter code k x s) i ≡ wordAt s i
+  cell-kept : (i : ℕ) → Apart i (levelAt k) → Apart i (headingAt k) → Apart i (marksAt k) → (eqb code callEntry ≡ true → Apart i (callsAt k))
+      → (eqb code alertOnEntry ≡ true → Apart i (alertsAt k)) → Apart i (flagAt k) → wordAt (enter code k x s) i ≡ wordAt s i
   unfolding enter
   cell-kept i level heading marks calls alerts flag =
       let P : List ℕ → Type 0 = λ t. wordAt t i ≡ wordAt s i in
-      either P (eqb code 2) _ _ (put-kept s (levelAt k) x i level)
-      (either P (eqb code 3) _ _ (put-kept s (headingAt k) x i heading)
-      (either P (eqb code 4) _ _ (put-kept s (marksAt k) _ i marks)
-      (either P (eqb code 5) _ _ (put-kept s (marksAt k) _ i marks)
-      (chosen P (eqb code 6) _ _ (λ six. put-kept s (callsAt k) _ i (calls six))
-      (chosen P (eqb code 7) _ _
+      either P (eqb code levelEntry) (λ _. put-kept s (levelAt k) x i level)
+      (either P (eqb code headingEntry) (λ _. put-kept s (headingAt k) x i heading)
+      (either P (eqb code markPutEntry) (λ _. put-kept s (marksAt k) _ i marks)
+      (either P (eqb code markTakenEntry) (λ _. put-kept s (marksAt k) _ i marks)
+      (either P (eqb code callEntry) (λ six. put-kept s (callsAt k) _ i (calls six))
+      (either P (eqb code alertOnEntry)
       (λ seven. flag-kept (putWord s (alertsAt k) (wordAt s (alertsAt k) + 1)) k 1 i flag ∙ put-kept s (alertsAt k) _ i (alerts seven))
-      (either P (eqb code 8) _ _ (flag-kept s k 0 i flag) refl))))))
+      (either P (eqb code alertOffEntry) (λ _. flag-kept s k 0 i flag) refl))))))
 
   -- no entry but a call changes the calls, and none those of another strip; likewise the alert count
-  pub calls-kept : (j : ℕ) → eqb code 6 && eqb j k ≡ false → wordAt (enter code k x s) (callsAt j) ≡ wordAt s (callsAt j)
+  pub calls-kept : (j : ℕ) → eqb code callEntry && eqb j k ≡ false → wordAt (enter code k x s) (callsAt j) ≡ wordAt s (callsAt j)
   calls-kept j other =
       cell-kept (callsAt j) (omega arith) (omega arith) (omega arith)
       (λ six. let ne : j ≡ k → ⊥ = eqb-false j k (and-rest _ _ six other) in omega arith)
       (λ seven. omega arith) (omega arith)
 
-  pub alerts-kept : (j : ℕ) → eqb code 7 && eqb j k ≡ false → wordAt (enter code k x s) (alertsAt j) ≡ wordAt s (alertsAt j)
+  pub alerts-kept : (j : ℕ) → eqb code alertOnEntry && eqb j k ≡ false → wordAt (enter code k x s) (alertsAt j) ≡ wordAt s (alertsAt j)
   alerts-kept j other =
       cell-kept (alertsAt j) (omega arith) (omega arith) (omega arith) (λ six. omega arith)
       (λ seven. let ne : j ≡ k → ⊥ = eqb-false j k (and-rest _ _ seven other) in omega arith)
@@ -108,11 +100,11 @@ module _ (code k x : ℕ) (s : List ℕ) where
 
 module _ (k x : ℕ) (s : List ℕ) (inside : alertsAt k + 1 < length s) where
   -- "06 adds 1 to calls; 07 adds 1 to the alert count"
-  pub call-counted : wordAt s (callsAt k) + 1 < 65536 → wordAt (enter 6 k x s) (callsAt k) ≡ wordAt s (callsAt k) + 1
+  pub call-counted : wordAt s (callsAt k) + 1 < 65536 → wordAt (enter callEntry k x s) (callsAt k) ≡ wordAt s (callsAt k) + 1
   unfolding enter
   call-counted small = put-same s (callsAt k) (wordAt s (callsAt k) + 1) (omega arith) small
 
-  pub alert-counted : wordAt s (alertsAt k) + 1 < 65536 → wordAt (enter 7 k x s) (alertsAt k) ≡ wordAt s (alertsAt k) + 1
+  pub alert-counted : wordAt s (alertsAt k) + 1 < 65536 → wordAt (enter alertOnEntry k x s) (alertsAt k) ≡ wordAt s (alertsAt k) + 1
   unfolding enter
   alert-counted small =
       flag-kept (putWord s (alertsAt k) (wordAt s (alertsAt k) + 1)) k 1 (alertsAt k) (omega arith)

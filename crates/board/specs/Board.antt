@@ -50,7 +50,7 @@ markCount = 16
 abbrev pub markBit : ℕ → ℕ
 markBit x = 2 ^ (x % markCount)
 
--- a flag is on when its byte is 1
+-- a flag is on when its byte is 1; in a sound store it is 0 or 1
 abbrev pub flagOn : List ℕ → ℕ → Bool
 flagOn s k = eqb (getD s (flagAt k) 0) 1
 
@@ -66,7 +66,7 @@ mergeValue l a b = cond (eqb a l) b a
 abbrev pub mergeMarks : ℕ → ℕ → ℕ → ℕ
 mergeMarks l a b = bitOr (bitOr (bitAnd a b) (without a l)) (without b l)
 
--- "calls and alert count: a + b − l."
+-- "calls and alert count: a + b − l."; in a sound store neither a nor b is below l
 abbrev pub mergeCount : ℕ → ℕ → ℕ → ℕ
 mergeCount l a b = a + b - l
 
@@ -96,14 +96,36 @@ mergeStrips l a b (suc n) = mergeStrips l a b n ++ mergeStrip l a b n
 abbrev pub mergeBoard : List ℕ → List ℕ → List ℕ → List ℕ
 mergeBoard l a b = mergeStrips l a b stripCount
 
+-- The codes of entries: "02 level", "03 heading", "04 mark put, 05 mark taken", "06 call counted", "07 alert on, 08 alert off".
+abbrev pub levelEntry : ℕ
+levelEntry = 0x02
+
+abbrev pub headingEntry : ℕ
+headingEntry = 0x03
+
+abbrev pub markPutEntry : ℕ
+markPutEntry = 0x04
+
+abbrev pub markTakenEntry : ℕ
+markTakenEntry = 0x05
+
+abbrev pub callEntry : ℕ
+callEntry = 0x06
+
+abbrev pub alertOnEntry : ℕ
+alertOnEntry = 0x07
+
+abbrev pub alertOffEntry : ℕ
+alertOffEntry = 0x08
+
 -- "06 adds 1 to calls; 07 adds 1 to the alert count and sets the flag; 08 clears the flag only." 02 writes the level, 03 the heading,
 -- 04 puts the mark, 05 takes it. The board after an entry of this code on strip k with operand x.
 unfoldable pub enter : ℕ → ℕ → ℕ → List ℕ → List ℕ
 enter code k x s =
-    cond (eqb code 0x02) (putWord s (levelAt k) x)
-    (cond (eqb code 0x03) (putWord s (headingAt k) x)
-    (cond (eqb code 0x04) (putWord s (marksAt k) (bitOr (wordAt s (marksAt k)) (markBit x)))
-    (cond (eqb code 0x05) (putWord s (marksAt k) (without (wordAt s (marksAt k)) (markBit x)))
-    (cond (eqb code 0x06) (putWord s (callsAt k) (wordAt s (callsAt k) + 1))
-    (cond (eqb code 0x07) (set (putWord s (alertsAt k) (wordAt s (alertsAt k) + 1)) (flagAt k) 1)
-    (cond (eqb code 0x08) (set s (flagAt k) 0) s))))))
+    cond (eqb code levelEntry) (putWord s (levelAt k) x)
+    (cond (eqb code headingEntry) (putWord s (headingAt k) x)
+    (cond (eqb code markPutEntry) (putWord s (marksAt k) (bitOr (wordAt s (marksAt k)) (markBit x)))
+    (cond (eqb code markTakenEntry) (putWord s (marksAt k) (without (wordAt s (marksAt k)) (markBit x)))
+    (cond (eqb code callEntry) (putWord s (callsAt k) (wordAt s (callsAt k) + 1))
+    (cond (eqb code alertOnEntry) (set (putWord s (alertsAt k) (wordAt s (alertsAt k) + 1)) (flagAt k) 1)
+    (cond (eqb code alertOffEntry) (set s (flagAt k) 0) s))))))

@@ -40,6 +40,21 @@ const REST: usize = 11;
 // The marks of a strip.
 pub const MARK_COUNT: usize = 16;
 
+// The codes of entries.
+pub const LEVEL_ENTRY: usize = 0x02;
+
+pub const HEADING_ENTRY: usize = 0x03;
+
+pub const MARK_PUT_ENTRY: usize = 0x04;
+
+pub const MARK_TAKEN_ENTRY: usize = 0x05;
+
+pub const CALL_ENTRY: usize = 0x06;
+
+pub const ALERT_ON_ENTRY: usize = 0x07;
+
+pub const ALERT_OFF_ENTRY: usize = 0x08;
+
 // A level or a heading of a merge: the giver's where the receiver kept the base's.
 fn merge_value(l: usize, a: usize, b: usize) -> usize
     ensures { λ r. ⌜ r ≡ mergeValue l a b ⌝ }
@@ -232,16 +247,16 @@ fn enter_strip(s: &mut [u8], code: usize, operand: usize)
     ensures { λ _. ⌜ now (s .exit) ≡ enter code 0 operand (now (s .entry)) ⌝ }
 {
     match code {
-        0x02 => put_word(s, LEVEL, operand),
-        0x03 => put_word(s, HEADING, operand),
-        0x04 => put_mark(s, operand),
-        0x05 => take_mark(s, operand),
-        0x06 => count_up(s, CALLS),
-        0x07 => {
+        LEVEL_ENTRY => put_word(s, LEVEL, operand),
+        HEADING_ENTRY => put_word(s, HEADING, operand),
+        MARK_PUT_ENTRY => put_mark(s, operand),
+        MARK_TAKEN_ENTRY => take_mark(s, operand),
+        CALL_ENTRY => count_up(s, CALLS),
+        ALERT_ON_ENTRY => {
             count_up(s, ALERTS);
             s[FLAG] = 1;
         }
-        0x08 => s[FLAG] = 0,
+        ALERT_OFF_ENTRY => s[FLAG] = 0,
         _ => {}
     }
 }

@@ -8,7 +8,7 @@ use lib.Count.{ones}
 use lib.ListN.{getD, set, drop}
 use Rattle.buffer.specs.Field.{allZero}
 
--- the bytes of a whole row, of 1,024 members
+-- the bytes of a whole row, which has a bit for each of 1,024 numbers
 abbrev pub rowWidth : ℕ
 rowWidth = 128
 
@@ -16,13 +16,13 @@ abbrev pub bit : Bool → ℕ
 bit true = 1
 bit false = 0
 
--- the byte that holds the members v to v + 7
+-- the byte that has the bits of v to v + 7
 abbrev pub rowByte : (ℕ → Bool) → ℕ → ℕ
 rowByte f v =
     bit (f v) + 2 * bit (f (v + 1)) + 4 * bit (f (v + 2)) + 8 * bit (f (v + 3))
     + 16 * bit (f (v + 4)) + 32 * bit (f (v + 5)) + 64 * bit (f (v + 6)) + 128 * bit (f (v + 7))
 
--- n bytes of the row, from the one that starts with the member v
+-- n bytes of the row, from the one whose lowest bit is v's
 unfoldable pub rowFrom : (ℕ → Bool) → ℕ → ℕ → List ℕ
 rowFrom f v zero = []
 rowFrom f v (suc n) = rowByte f v ∷ rowFrom f (v + 8) n

@@ -11,6 +11,7 @@ use lib.ListN.{length, drop}
 use lib.Seq.{drop-at}
 use borrow.Author.Tests.{eqb-true, lt-ltb, not-false}
 use Rattle.buffer.specs.Field.{overwrite}
+use Rattle.laws.proofs.Logic.{either}
 use Rattle.graph.proofs.Meet.{meet-self}
 use Rattle.refusal.specs.Refusal.{firstRefusal}
 use Rattle.command.specs.Code.{consoleCount}
@@ -56,11 +57,8 @@ step-capacity r (FastForward receiver giver) = refl
 after-sound : (r : Room) (c : List ℕ) (d : Decoded) → decode c ≡ d → soundRoom r ≡ true → soundRoom (roomAfter r d) ≡ true
 unfolding roomAfter
 after-sound r c (Refused n) e s = s
-after-sound r c (Whole k) e s = go (eqb (stepRefusal r k) 0) (λ t. step-sound r k s (decode-range c k e) (eqb-true _ 0 t))
-  where
-    go : (b : Bool) → (b ≡ true → soundRoom (step r k) ≡ true) → soundRoom (cond b (step r k) r) ≡ true
-    go true f = f refl
-    go false f = s
+after-sound r c (Whole k) e s =
+    either (λ (n : Room). soundRoom n ≡ true) (eqb (stepRefusal r k) 0) (λ t. step-sound r k s (decode-range c k e) (eqb-true _ 0 t)) s
 
 module _ (r : Room) (rest : List ℕ) (s : soundRoom r ≡ true) where
   step-called : (c : List ℕ) (d : Decoded) → decode c ≡ d

@@ -5,15 +5,24 @@ use Rattle.board.specs.Board.{mergeFlag, mergeStrip}
 use Rattle.graph.specs.Below.{everyBelow, someBelow, highestBelow}
 use Rattle.graph.specs.Graph.{ancestor, isMeet, meet}
 use Rattle.refusal.specs.Refusal.{firstRefusal}
-use Rattle.command.specs.Code.{shapeOf, lengthOf, numberAt, operandsOf, isOperand, kindOf}
+use Rattle.command.specs.Code.{consoleCount, shapeOf, lengthOf, numberAt, operandsOf, isOperand, kindOf}
 use Rattle.command.specs.Decode.{commandRefusal, decode}
 use Rattle.room.specs.Room.{common}
 use Rattle.room.specs.Step.{stateTests, stepRefusal, step}
 use Rattle.tape.specs.Tape.{versionRecords, headRecords, tapeOf}
-use Rattle.cases.specs.Run.{Case, answerIn, roomAfter, made, answers, session}
+use Rattle.cases.specs.Run.{Case, merge, forward, answerIn, roomAfter, made, answers, session}
 use Rattle.cases.specs.Starred.{crossed, stuck, acceptedBy, accepted, starred}
+
+-- the stuck room takes no merge and no fast-forward: its own declarations, for the checker's bound on the steps of one
+stuck-merges : accepted stuck merge consoleCount ≡ 0
+unfolding everyBelow someBelow highestBelow ancestor isMeet meet firstRefusal shapeOf lengthOf numberAt operandsOf isOperand kindOf commandRefusal decode common stateTests stepRefusal step answerIn roomAfter made stuck acceptedBy accepted
+stuck-merges = refl
+
+stuck-forwards : accepted stuck forward consoleCount ≡ 0
+unfolding everyBelow someBelow highestBelow ancestor isMeet meet firstRefusal shapeOf lengthOf numberAt operandsOf isOperand kindOf commandRefusal decode common stateTests stepRefusal step answerIn roomAfter made stuck acceptedBy accepted
+stuck-forwards = refl
 
 -- the cases that the paper marks *
 pub starred-hold : map (λ (c : Case). c .got) starred ≡ map (λ (c : Case). c .due) starred
-unfolding mergeFlag mergeStrip everyBelow someBelow highestBelow ancestor isMeet meet firstRefusal shapeOf lengthOf numberAt operandsOf isOperand kindOf commandRefusal decode common stateTests stepRefusal step versionRecords headRecords tapeOf answerIn roomAfter made answers session crossed stuck acceptedBy accepted starred
-starred-hold = refl
+unfolding mergeFlag mergeStrip everyBelow someBelow highestBelow ancestor isMeet meet firstRefusal shapeOf lengthOf numberAt operandsOf isOperand kindOf commandRefusal decode common stateTests stepRefusal step versionRecords headRecords tapeOf answerIn roomAfter made answers session crossed stuck starred
+starred-hold = rw (stuck-merges, stuck-forwards)

@@ -24,10 +24,10 @@ abbrev pub headReply : Option ℕ → Reply
 headReply none = replied 12 0
 headReply (some v) = replied 0 v
 
--- these commands on room r, with this rest behind its bytes
+-- these commands on room r, with this rest behind its bytes; true of every sound room
 pub record Called (r : Room) (rest : List ℕ) (commands : List (List ℕ)) : Type 0 where
   pub answered : answersTo (encode r ++ rest) (map command commands) ≡ answers r commands
-  -- the buffer afterwards
+  -- the buffer afterwards, whatever journal is fed along
   pub stored : (j : Journal) → afterCalls (encode r ++ rest) j (map command commands) .0 ≡ encode (made r commands) ++ rest
   -- a pause of it, and its heads
   pub paused : (output : List ℕ) → length (tapeOf (made r commands)) ≤ length output

@@ -1,7 +1,7 @@
 -- How the cases are put: commands by name, rooms that commands make, and a row of the table.
 use Prim.Native.Nat.{ℕ, suc, _/_, _%_}
 use mathlib.Core.Bool.{cond}
-use mathlib.Core.List.{List, [], _∷_}
+use mathlib.Core.List.{List, [], _∷_, map}
 use mathlib.Core.Option.{Option, none, some}
 use lib.Dec.{eqb}
 use lib.ListN.{getD}
@@ -19,7 +19,7 @@ pub record Case : Type 0 where
 
 infix 60 _gives_
 abbrev pub _gives_ : List ℕ → List ℕ → Case
-shown gives told = record { got = shown; due = told }
+computed gives told = record { got = computed; due = told }
 
 -- The commands that the rows name.
 abbrev pub fork : ℕ → ℕ → List ℕ
@@ -60,19 +60,25 @@ answers r (c ∷ cs) = answerIn r (decode c) ∷ answers (roomAfter r (decode c)
 abbrev pub answer : Room → List ℕ → List ℕ
 answer r c = answerIn r (decode c) ∷ []
 
--- a head as a number: 0 for none, else 1 more than the version
-abbrev pub slot : Option ℕ → ℕ
-slot none = 0
-slot (some v) = suc v
+-- how a row says where a console is: on a version, or nowhere while it is absent
+abbrev pub nowhere : ℕ
+nowhere = 0
 
--- the heads of consoles 0 to 3
-abbrev pub fourHeads : Room → List ℕ
-fourHeads r = slot (headOf r 0) ∷ slot (headOf r 1) ∷ slot (headOf r 2) ∷ slot (headOf r 3) ∷ []
+abbrev pub on : ℕ → ℕ
+on v = suc v
 
--- "Each line: .. answer (0 or refusal), head of the console in the first operand", then the number of versions. Of commands that are neither
--- empty nor cut short, as the paper's are: the program stops at such a line, and this does not.
+abbrev pub shown : Option ℕ → ℕ
+shown none = nowhere
+shown (some v) = on v
+
+-- the head of each console
+abbrev pub headsShown : Room → List ℕ
+headsShown r = map shown (r .heads)
+
+-- "Each line: .. answer (0 or refusal), head of the console in the first operand", then the number of versions. Ordinals are left out. Of
+-- commands that are not answered 1 or 2, as the paper's are: after such an answer the program stops, and this does not.
 unfoldable pub session : Room → List (List ℕ) → List ℕ
 session r [] = versionCount (r .versions) ∷ []
 session r (c ∷ cs) =
     let next : Room = roomAfter r (decode c) in
-    answerIn r (decode c) ∷ slot (headOf next (getD c 1 0)) ∷ session next cs
+    answerIn r (decode c) ∷ shown (headOf next (getD c 1 0)) ∷ session next cs

@@ -3,12 +3,14 @@ use Prim.Native.Nat.{ℕ, zero, suc, _+_}
 use mathlib.Core.Bool.{cond}
 use mathlib.Core.List.{List, [], _∷_, _++_}
 use lib.Dec.{eqb}
+use lib.ListN.{replicate}
 use Rattle.buffer.specs.Field.{word}
 use Rattle.board.specs.Board.{mergeStrip}
+use Rattle.command.specs.Code.{consoleCount}
 use Rattle.command.specs.Decode.{decode}
 use Rattle.room.specs.Room.{Room, fresh}
 use Rattle.tape.specs.Tape.{tapeOf}
-use Rattle.cases.specs.Run.{Case, _gives_, fork, level, call, merge, forward, answerIn, made, answers, answer, fourHeads, session}
+use Rattle.cases.specs.Run.{Case, _gives_, fork, level, call, merge, forward, answerIn, made, answers, answer, nowhere, on, headsShown, session}
 
 -- "Input 01 01 00, 02 00 05 00 64, 06 01 05, 09 00 01, 0A 01 00, 09 00 01 prints"
 abbrev pub input : List (List ℕ)
@@ -53,19 +55,19 @@ stuckSteps =
 unfoldable pub stuck : Room
 stuck = made (fresh 64) stuckSteps
 
--- how many commands of one kind a room accepts: by the first n receivers from one giver, and by the first 4 receivers from the first n givers
+-- how many commands of one kind a room accepts: by the first n receivers from one giver, and by all receivers from the first n givers
 unfoldable pub acceptedBy : Room → (ℕ → ℕ → List ℕ) → ℕ → ℕ → ℕ
 acceptedBy r c zero giver = 0
 acceptedBy r c (suc a) giver = acceptedBy r c a giver + cond (eqb (answerIn r (decode (c a giver))) 0) 1 0
 
 unfoldable pub accepted : Room → (ℕ → ℕ → List ℕ) → ℕ → ℕ
 accepted r c zero = 0
-accepted r c (suc b) = accepted r c b + acceptedBy r c 4 b
+accepted r c (suc b) = accepted r c b + acceptedBy r c consoleCount b
 
 unfoldable pub starred : List Case
 starred =
-    -- the lines of the session, a head as 1 more than its version; and its tape
-    (session (fresh 64) input gives 0 ∷ 1 ∷ 0 ∷ 2 ∷ 0 ∷ 3 ∷ 0 ∷ 4 ∷ 0 ∷ 4 ∷ 14 ∷ 4 ∷ 4 ∷ [])
+    -- the lines of the session, with no ordinals; and its tape
+    (session (fresh 64) input gives 0 ∷ on 0 ∷ 0 ∷ on 1 ∷ 0 ∷ on 2 ∷ 0 ∷ on 3 ∷ 0 ∷ on 3 ∷ 14 ∷ on 3 ∷ 4 ∷ [])
     ∷ (tapeOf (made (fresh 64) input) gives tape)
     -- "Level 600 accepted; 601 gives 5."
     ∷ (answer (fresh 64) (level 0 0 600) gives 0 ∷ [])
@@ -82,11 +84,11 @@ starred =
     -- "Capacity 1: the first entry gives 18."
     ∷ (answer (fresh 1) (call 0 0) gives 18 ∷ [])
     -- "Now 0 merging 1 gives 17; 0 fast-forwarding to 2 succeeds."
-    ∷ (fourHeads crossed gives 2 ∷ 3 ∷ 6 ∷ 0 ∷ [])
+    ∷ (headsShown crossed gives on 1 ∷ on 2 ∷ on 5 ∷ replicate 13 nowhere)
     ∷ (answer crossed (merge 0 1) gives 17 ∷ [])
     ∷ (answer crossed (forward 0 2) gives 0 ∷ [])
     -- "Heads 6, 6, 3, 5, and no merge or fast-forward is accepted."
     ∷ (answers (fresh 64) stuckSteps gives 0 ∷ 0 ∷ 0 ∷ 0 ∷ 0 ∷ 0 ∷ 0 ∷ 0 ∷ 0 ∷ 0 ∷ 0 ∷ [])
-    ∷ (fourHeads stuck gives 7 ∷ 7 ∷ 4 ∷ 6 ∷ [])
-    ∷ (accepted stuck merge 4 ∷ accepted stuck forward 4 ∷ [] gives 0 ∷ 0 ∷ [])
+    ∷ (headsShown stuck gives on 6 ∷ on 6 ∷ on 3 ∷ on 5 ∷ replicate 12 nowhere)
+    ∷ (accepted stuck merge consoleCount ∷ accepted stuck forward consoleCount ∷ [] gives 0 ∷ 0 ∷ [])
     ∷ []

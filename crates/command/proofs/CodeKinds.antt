@@ -6,10 +6,11 @@ use mathlib.Core.Bool.{true}
 use native.Mathlib.Omega.{arith}
 use lib.Dec.{eqb}
 use borrow.Author.Tests.{eqb-true, ne-eqb}
+use Rattle.laws.proofs.Logic.{either}
 use Rattle.command.specs.declared.Kind.{Kind}
 use Rattle.command.specs.declared.Kind.the-variants as kind-is
 use Rattle.command.specs.Code.{forkCommand, mergeCommand, fastForwardCommand, isEntryCode, kindOf, kindRefusal}
-use Rattle.command.proofs.Limits.{within-false, either, each-entry}
+use Rattle.command.proofs.Limits.{within-false, each-entry}
 
 abbrev pub Says : ℕ → Kind → Type 0
 Says code kind-is.Fork = code ≡ forkCommand

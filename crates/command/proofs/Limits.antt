@@ -1,7 +1,7 @@
 -- Ranges of numbers, what holds of each number of a range, and how large an entry's code, strip and operand can be.
 -- Assumes nothing.
 use Prim.Native.Nat.{ℕ, zero, suc, _+_, _≤_, _<_}
-use mathlib.Core.Path.{_≡_, refl, subst}
+use mathlib.Core.Path.{_≡_, subst}
 use mathlib.Core.Bool.{Bool, true, false, cond, _&&_}
 use native.Mathlib.Omega.{arith}
 use native.Mathlib.Decide.{ℕ-discrete}
@@ -19,11 +19,6 @@ within-i low high x p q = and-i _ _ (le-leb low x p) (le-leb x high q)
 
 pub within-false : (low high x : ℕ) → (low ≤ x → x ≤ high → ⊥) → within low high x ≡ false
 within-false low high x h = refuted _ (λ t. h (within-true low high x t .0) (within-true low high x t .1))
-
--- a choice has what each of its two sides has
-pub either {ℓ} : {A : Type ℓ} (P : A → Type 0) (b : Bool) {x y : A} → (b ≡ true → P x) → P y → P (cond b x y)
-either P true h k = h refl
-either P false h k = k
 
 -- what holds of each of n numbers from low on
 abbrev pub Each : (ℕ → Type 0) → ℕ → ℕ → Type 0

@@ -6,6 +6,7 @@ use mathlib.Core.Bool.{true}
 use native.Mathlib.Omega.{arith}
 use lib.Dec.{eqb}
 use borrow.Author.Tests.{eqb-true, ne-eqb}
+use Rattle.laws.proofs.Logic.{either}
 use Rattle.command.specs.declared.Kind.{Kind}
 use Rattle.command.specs.declared.Kind.the-variants as kind-is
 use Rattle.command.specs.declared.Shape.{Shape}
@@ -13,7 +14,7 @@ use Rattle.command.specs.declared.Shape.the-variants.{Known, Unknown}
 use Rattle.command.specs.Code.{within, kindOf, kindRefusal, shapeOf, shapeRefusal, lengthOf}
 use Rattle.command.specs.Decode.{isCommandCode}
 use Rattle.command.specs.Decoding.{narrow}
-use Rattle.command.proofs.Limits.{within-false, either, each-entry}
+use Rattle.command.proofs.Limits.{within-false, each-entry}
 use Rattle.command.proofs.CodeKinds.{Says, kind-says}
 
 pub shape-none : (code : ℕ) → 10 < code → (0x20 ≤ code → code ≤ 0x24 → ⊥) → Unknown ≡ shapeOf code

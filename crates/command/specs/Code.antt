@@ -6,7 +6,7 @@ use mathlib.Core.List.{List}
 use lib.Dec.{eqb, leb, ltb}
 use lib.ListN.{getD}
 use Rattle.buffer.specs.Field.{wordAt}
-use Rattle.board.specs.Board.{stripCount, markCount}
+use Rattle.board.specs.Board.{stripCount, markCount, levelEntry, headingEntry, markPutEntry, markTakenEntry, callEntry, alertOffEntry}
 use Rattle.command.specs.declared.Kind.{Kind}
 use Rattle.command.specs.declared.Kind.the-variants as kind-is
 use Rattle.command.specs.declared.Shape.{Shape}
@@ -48,9 +48,9 @@ endRecord = 0x24
 
 -- "Codes 02 to 08 make an entry version": also on tapes and in stores
 abbrev pub isEntryCode : ℕ → Bool
-isEntryCode code = within 0x02 0x08 code
+isEntryCode code = within levelEntry alertOffEntry code
 
--- The kind of a code. The commands are the codes that have one, today 01 to 0A.
+-- The kind of a code. The commands are the codes of a kind other than Unknown, 01 to 0A.
 unfoldable pub kindOf : ℕ → Kind
 kindOf code =
     cond (eqb code forkCommand) kind-is.Fork
@@ -70,9 +70,9 @@ kindRefusal kind-is.Unknown = 1
 unfoldable pub shapeOf : ℕ → Shape
 shapeOf code =
     cond (eqb code forkCommand) (Known 1 1 0 0)
-    (cond (within 0x02 0x03 code) (Known 1 1 2 0)
-    (cond (within 0x04 0x05 code) (Known 1 1 1 0)
-    (cond (within 0x06 0x08 code) (Known 1 1 0 0)
+    (cond (within levelEntry headingEntry code) (Known 1 1 2 0)
+    (cond (within markPutEntry markTakenEntry code) (Known 1 1 1 0)
+    (cond (within callEntry alertOffEntry code) (Known 1 1 0 0)
     (cond (within mergeCommand fastForwardCommand code) (Known 1 1 0 0)
     (cond (eqb code startRecord) (Known 2 0 0 0)
     (cond (eqb code entryRecord) (Known 2 1 1 2)
@@ -114,6 +114,6 @@ isStrip k = ltb k stripCount
 -- "level (0 to 600 ..)", "heading (0 to 360 ..)", "mark k .. k from 0 to 15", "0 for 06 to 08": what an entry of this code may carry
 unfoldable pub isOperand : ℕ → ℕ → Bool
 isOperand code x =
-    cond (eqb code 0x02) (leb x 600)
-    (cond (eqb code 0x03) (leb x 360)
-    (cond (within 0x04 0x05 code) (ltb x markCount) (eqb x 0)))
+    cond (eqb code levelEntry) (leb x 600)
+    (cond (eqb code headingEntry) (leb x 360)
+    (cond (within markPutEntry markTakenEntry code) (ltb x markCount) (eqb x 0)))

@@ -5,6 +5,7 @@ use mathlib.Core.List.{List, [], _∷_}
 use lib.Dec.{eqb}
 use lib.ListN.{length, getD}
 use Rattle.buffer.specs.Field.{word}
+use Rattle.board.specs.Board.{levelEntry, headingEntry, markPutEntry, markTakenEntry}
 use Rattle.command.specs.declared.Kind.{Kind}
 use Rattle.command.specs.declared.Kind.the-variants as kind-is
 use Rattle.command.specs.declared.Operands.{Operands}
@@ -19,7 +20,7 @@ use Rattle.command.specs.Code.{within, forkCommand, mergeCommand, fastFo
 abbrev pub codeIn : List ℕ → ℕ
 codeIn s = getD s 0 0
 
--- a code is a command's: it has a kind
+-- a code is a command's: its kind is not Unknown
 abbrev pub isCommandCode : ℕ → Bool
 isCommandCode code = eqb (kindRefusal (kindOf code)) 0
 
@@ -80,7 +81,7 @@ refusalOf (Refused n) = n
 
 -- an entry's operand: 16 bits for 02 and 03, a byte for 04 and 05, none for 06 to 08
 unfoldable pub operandBytes : ℕ → ℕ → List ℕ
-operandBytes code operand = cond (within 0x02 0x03 code) (word operand) (cond (within 0x04 0x05 code) (operand ∷ []) [])
+operandBytes code operand = cond (within levelEntry headingEntry code) (word operand) (cond (within markPutEntry markTakenEntry code) (operand ∷ []) [])
 
 -- the paper's code and values for each command
 unfoldable pub commandBytes : Command → List ℕ

@@ -1,4 +1,4 @@
-// The codes of commands and of tape records. Codes 02 to 08 make an entry.
+// The codes of commands and of tape records. Those that make an entry, 02 to 08, stand in `board`.
 pub const FORK_COMMAND: usize = 0x01;
 
 pub const MERGE_COMMAND: usize = 0x09;

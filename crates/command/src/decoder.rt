@@ -15,6 +15,12 @@ use crate::codes::START_RECORD;
 use crate::numbers::is_console;
 use crate::numbers::is_operand;
 use crate::numbers::is_strip;
+use board::ALERT_OFF_ENTRY;
+use board::CALL_ENTRY;
+use board::HEADING_ENTRY;
+use board::LEVEL_ENTRY;
+use board::MARK_PUT_ENTRY;
+use board::MARK_TAKEN_ENTRY;
 use buffer::wide;
 use buffer::word_at;
 use graph::Console;
@@ -36,7 +42,7 @@ fn kind_of(code: usize) -> Kind
 {
     match code {
         FORK_COMMAND => Kind::Fork,
-        0x02..=0x08 => Kind::Entry,
+        LEVEL_ENTRY..=ALERT_OFF_ENTRY => Kind::Entry,
         MERGE_COMMAND => Kind::Merge,
         FAST_FORWARD_COMMAND => Kind::FastForward,
         _ => Kind::Unknown,
@@ -69,9 +75,9 @@ pub fn widths_of(code: usize) -> Shape
 {
     match code {
         FORK_COMMAND => Shape::Known(1, 1, 0, 0),
-        0x02..=0x03 => Shape::Known(1, 1, 2, 0),
-        0x04..=0x05 => Shape::Known(1, 1, 1, 0),
-        0x06..=0x08 => Shape::Known(1, 1, 0, 0),
+        LEVEL_ENTRY..=HEADING_ENTRY => Shape::Known(1, 1, 2, 0),
+        MARK_PUT_ENTRY..=MARK_TAKEN_ENTRY => Shape::Known(1, 1, 1, 0),
+        CALL_ENTRY..=ALERT_OFF_ENTRY => Shape::Known(1, 1, 0, 0),
         MERGE_COMMAND..=FAST_FORWARD_COMMAND => Shape::Known(1, 1, 0, 0),
         START_RECORD => Shape::Known(2, 0, 0, 0),
         ENTRY_RECORD => Shape::Known(2, 1, 1, 2),

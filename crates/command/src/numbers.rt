@@ -1,5 +1,10 @@
 // Which numbers may stand in a command or a record: codes, consoles, strips and operands.
+use board::ALERT_OFF_ENTRY;
+use board::HEADING_ENTRY;
+use board::LEVEL_ENTRY;
 use board::MARK_COUNT;
+use board::MARK_PUT_ENTRY;
+use board::MARK_TAKEN_ENTRY;
 use board::STRIP_COUNT;
 ghost use mathlib.Core.Path.{_≡_};
 ghost use Rattle.command.specs.Code.{isEntryCode, isConsole, isStrip, isOperand};
@@ -16,7 +21,7 @@ const HIGHEST_HEADING: usize = 360;
 pub fn is_entry_code(code: usize) -> bool
     ensures { λ r. ⌜ r ≡ isEntryCode code ⌝ }
 {
-    (2 <= code) & (code <= 8)
+    (LEVEL_ENTRY <= code) & (code <= ALERT_OFF_ENTRY)
 }
 
 // Whether a number is a console's.
@@ -38,10 +43,10 @@ pub fn is_operand(code: usize, x: usize) -> bool
     ensures { λ r. ⌜ r ≡ isOperand code x ⌝ }
 {
     match code {
-        0x02 => x <= HIGHEST_LEVEL,
-        0x03 => x <= HIGHEST_HEADING,
-        0x04 => x < MARK_COUNT,
-        0x05 => x < MARK_COUNT,
+        LEVEL_ENTRY => x <= HIGHEST_LEVEL,
+        HEADING_ENTRY => x <= HIGHEST_HEADING,
+        MARK_PUT_ENTRY => x < MARK_COUNT,
+        MARK_TAKEN_ENTRY => x < MARK_COUNT,
         _ => x == 0,
     }
 }

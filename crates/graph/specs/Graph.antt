@@ -37,7 +37,7 @@ ancestor [] u v = eqb v 0 && eqb u 0
 ancestor (n ∷ g) u v =
     cond (eqb v (versionCount g)) (eqb u v || someParent (ancestor g u) n) (ancestor g u v)
 
--- version v, where it is not version 0
+-- version v; none for version 0, and for a number that names no version
 unfoldable pub nodeOf : Graph → ℕ → Option Node
 nodeOf [] v = none
 nodeOf (n ∷ g) v = cond (eqb v (versionCount g)) (some n) (nodeOf g v)

@@ -14,6 +14,11 @@ pub decide : (b : Bool) → (b ≡ true) ⊎ (b ≡ false)
 decide true = inl refl
 decide false = inr refl
 
+-- a choice has what each of its two sides has, the first where its test is true
+pub either {ℓ} : {A : Type ℓ} (P : A → Type 0) (b : Bool) {x y : A} → (b ≡ true → P x) → P y → P (cond b x y)
+either P true p q = p refl
+either P false p q = q
+
 -- what cannot be true is false
 pub refuted : (b : Bool) → (b ≡ true → ⊥) → b ≡ false
 refuted true h = absurd (h refl)
@@ -88,14 +93,10 @@ pub not-e : (a : Bool) → not a ≡ true → a ≡ false
 not-e true h = sym h
 not-e false h = refl
 
--- a test or the same test; two tests of which not both hold
+-- a test or the same test
 pub or-same : (b : Bool) → b || b ≡ b
 or-same true = refl
 or-same false = refl
-
-pub not-both : (a b : Bool) → not a || not b ≡ not (a && b)
-not-both true b = refl
-not-both false b = refl
 
 -- two tests that are true together are equal
 pub bool-ext : (a b : Bool) → (a ≡ true → b ≡ true) → (b ≡ true → a ≡ true) → a ≡ b

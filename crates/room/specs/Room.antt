@@ -9,8 +9,9 @@ use Rattle.graph.specs.Graph.{Graph, versionCount, ancestor, isEntry, meetNumbe
 use Rattle.command.specs.Code.{consoleCount}
 use Rattle.room.specs.declared.Settings.{Settings}
 
--- Rows, boards, bases and commons are functions of these three: what the room is set to, its versions and its heads. The versions are the
--- code's own nodes; a head, and a version or console that is asked after, is a plain number here, as it is counted, compared and looked up.
+-- What the room is set to, its versions and its heads; rows, boards, bases and commons are functions of the versions and heads. The versions
+-- are the code's own nodes; a head, and a version or console that is asked after, is a plain number here, as it is counted, compared and
+-- looked up.
 pub record Room : Type 0 where
   pub settings : Settings
   pub versions : Graph

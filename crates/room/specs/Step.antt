@@ -34,13 +34,14 @@ splits r receiver giver k =
 abbrev pub someThirdSplits : Room → ℕ → ℕ → Bool
 someThirdSplits r receiver giver = someBelow consoleCount (splits r receiver giver)
 
--- a version is left, which is what "18 entry or merge: no version left." asks for
+-- a version is left: "18 entry or merge: no version left." is given where none is
 abbrev pub versionLeft : Room → Bool
 versionLeft r = ltb (versionCount (r .versions)) (r .settings .capacity)
 
--- The tests of a command in the state of a room, in their order, given whether a version is left, which is all that 18 asks for. "12 a named
--- console is absent (fork: the old one). 13 fork's new console is present. 14 merge or fast-forward: giver's head is an ancestor of
--- receiver's. 15 merge: receiver's head is an ancestor of giver's. 16 fast-forward: receiver's head isn't an ancestor of giver's."
+-- The tests of a command in the state of a room, in their order, given whether a version is left: so the same lists also say what would be
+-- accepted if one were. "12 a named console is absent (fork: the old one). 13 fork's new console is present. 14 merge or fast-forward: giver's
+-- head is an ancestor of receiver's. 15 merge: receiver's head is an ancestor of giver's. 16 fast-forward: receiver's head isn't an ancestor
+-- of giver's."
 abbrev pub receiverGiverTests : Room → ℕ → ℕ → List (ℕ × Bool)
 receiverGiverTests r receiver giver =
     12 when (absent r receiver || absent r giver)

@@ -25,7 +25,7 @@ ghost use Rattle.io.specs.Counts.{Counts};
 
 const SESSION_CAPACITY: u32 = 64;
 
-const STORE_BYTES: usize = HEADER + BLOCK * 64;
+const STORE_BYTES: usize = HEADER + BLOCK * SESSION_CAPACITY as usize;
 
 // The longest command.
 const LONGEST: usize = 5;

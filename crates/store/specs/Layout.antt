@@ -65,7 +65,7 @@ commonsSize = 2 * consoleCount * consoleCount
 abbrev pub commonsEnd : ℕ
 commonsEnd = commonsAt + commonsSize
 
--- the place of the common version of consoles c and d; on the diagonal stands the head
+-- the place of the field of consoles c and d, which stands for their common version; of a console with itself, for its head
 abbrev pub commonAt : ℕ → ℕ → ℕ
 commonAt c d = commonsAt + 2 * (consoleCount * c + d)
 

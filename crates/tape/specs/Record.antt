@@ -1,5 +1,4 @@
--- "20, capacity (16 bits); one record per version from 1 upward; one head record per present console, consoles rising; 24, the last
--- byte." What stands at the front of a tape, and the bytes of a record.
+-- The records of a tape: the one that stands at the front of some bytes, and the bytes of each.
 use Prim.Native.Nat.{ℕ}
 use mathlib.Core.Bool.{cond}
 use mathlib.Core.List.{List, [], _∷_, _++_}

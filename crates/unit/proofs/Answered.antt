@@ -1,24 +1,24 @@
 -- What the calls answer: the reply and the lent bytes where the code found this refusal or none, and what holds where none is given.
 -- Assumes nothing.
 use mathlib.Core.Path.{_≡_, refl, sym, _∙_}
-use mathlib.Core.Bool.{Bool, true, false, cond, not, _&&_}
+use mathlib.Core.Bool.{Bool, true, false, cond, not}
 use mathlib.Core.List.{List, [], _∷_}
 use Prim.Native.Nat.{ℕ, _≤_, _<_}
 use native.Mathlib.Omega.{arith}
 use lib.Dec.{eqb}
 use lib.ListN.{length}
-use borrow.Author.Tests.{ltb-true, ltb-false, lt-ltb, le-ltb, ne-eqb, not-false}
-use Rattle.laws.proofs.Logic.{or-none-l, or-none-r, or-same, not-both}
+use borrow.Author.Tests.{ltb-true, ltb-false, le-ltb, ne-eqb, not-false}
+use Rattle.laws.proofs.Logic.{or-none-l, or-none-r, or-same}
 use Rattle.buffer.specs.Field.{overwrite}
 use Rattle.board.specs.Board.{boardSize}
-use Rattle.refusal.specs.Refusal.{_when_, firstRefusal}
+use Rattle.refusal.specs.Refusal.{_when_, firstRefusal, firstOf}
 use Rattle.command.specs.Code.{consoleCount, isConsole}
 use Rattle.room.specs.Room.{present, openSettings}
 use Rattle.room.specs.Sound.{settingsInRange}
 use Rattle.room.specs.Step.{absent}
 use Rattle.store.specs.Layout.{storeSize, roomIn, holdsStore}
 use Rattle.unit.specs.declared.Reply.{Reply}
-use Rattle.unit.specs.Calls.{Outcome, replied, written, bufferTests, openTests, consoleTests, pairTests}
+use Rattle.unit.specs.Calls.{Outcome, replied, written, tooShort, bufferTests, openTests, consoleTests, pairTests}
 use Rattle.refusal.proofs.Refusals.{none-applies, numbered, first-append, first-none}
 
 -- a call with this reply, which left this in the lent buffer, went as it should
@@ -48,17 +48,14 @@ module _ {n m : ℕ} (count : ℕ) (new old : List ℕ) (e : n ≡ m) where
   written-done z w u = rw (sym e ∙ z, w) (refl, u)
 
 -- 19 behind other tests
-module _ (tests : List (ℕ × Bool)) (buffer : List ℕ) (size : ℕ) (k : numbered tests ≡ true) {n : ℕ} (e : n ≡ firstRefusal tests) where
-  pub buffer-early : 0 < n → n ≡ firstRefusal (bufferTests tests buffer size)
-  buffer-early p = rw (first-append tests _ k, ← e, ne-eqb n 0 (omega arith))
+pub buffer-first : (tests : List (ℕ × Bool)) (buffer : List ℕ) (size : ℕ) → numbered tests ≡ true → {n : ℕ} → n ≡ firstRefusal tests
+    → firstOf n (firstRefusal (19 when tooShort buffer size ∷ [])) ≡ firstRefusal (bufferTests tests buffer size)
+buffer-first tests buffer size k e = rw (first-append tests _ k, e)
 
-  pub buffer-short : n ≡ 0 → length buffer < size → 19 ≡ firstRefusal (bufferTests tests buffer size)
-  unfolding firstRefusal
-  buffer-short z l = rw (first-append tests _ k, sym e ∙ z, lt-ltb (length buffer) size l)
-
-  pub buffer-fits : n ≡ 0 → size ≤ length buffer → 0 ≡ firstRefusal (bufferTests tests buffer size)
-  unfolding firstRefusal
-  buffer-fits z l = rw (first-append tests _ k, sym e ∙ z, le-ltb (length buffer) size l)
+pub buffer-fits : (tests : List (ℕ × Bool)) (buffer : List ℕ) (size : ℕ) → numbered tests ≡ true → firstRefusal tests ≡ 0 → size ≤ length buffer
+    → firstRefusal (bufferTests tests buffer size) ≡ 0
+unfolding firstRefusal
+buffer-fits tests buffer size k z l = rw (first-append tests _ k, z, le-ltb (length buffer) size l)
 
 pub buffer-allowed : (tests : List (ℕ × Bool)) (buffer : List ℕ) (size : ℕ) → numbered tests ≡ true
     → firstRefusal (bufferTests tests buffer size) ≡ 0 → (firstRefusal tests ≡ 0) × (size ≤ length buffer)
@@ -73,13 +70,7 @@ opening-allowed capacity s e z =
     let n = buffer-allowed (8 when not (settingsInRange (openSettings capacity)) ∷ []) s (storeSize capacity) refl (sym e ∙ z) in
     (not-false (settingsInRange (openSettings capacity)) (none-applies _ (n .0) .0 (omega arith)), n .1)
 
--- two consoles: the tests as the code makes them
-pub pair-tested : (s : List ℕ) (c d : ℕ) → firstRefusal (pairTests s c d)
-    ≡ cond (not (isConsole c && isConsole d)) 3 (cond (not (holdsStore s)) 11 (cond (not (present (roomIn s) c && present (roomIn s) d)) 12 0))
-unfolding firstRefusal
-pair-tested s c d = rw (not-both (isConsole c) (isConsole d), not-both (present (roomIn s) c) (present (roomIn s) d))
-
--- and what holds of them where none applies
+-- two consoles: what holds of them where none of their tests applies
 pub record Allowed (s : List ℕ) (c d : ℕ) : Type 0 where
   pub first : c < consoleCount
   pub second : d < consoleCount

@@ -138,7 +138,7 @@ module _ (store : List ℕ) (h : holdsStore store ≡ true) where
   converged = record {
     sound = h;
     heads = refl;
-    same = λ c d p q f. let e = same-head c d p q f in (e, same-board c d p q e);
+    alike = λ c d p q f. let e = same-head c d p q f in (e, same-board c d p q e);
     commons = common-version;
     calls = λ c k p. calls-counted c p k;
     heard = heard-count;

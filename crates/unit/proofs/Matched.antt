@@ -67,9 +67,9 @@ step-journal r (Merge receiver giver) = cc (length-map (r .versions) madeBy)
 step-journal r (FastForward receiver giver) = refl
 
 -- a call that changes both where it is accepted, and neither where it is refused
-either : {store store′ : List ℕ} {j j′ : Journal} (refusal : ℕ) → Matched store j → (refusal ≡ 0 → Matched store′ j′)
+either-matched : {store store′ : List ℕ} {j j′ : Journal} (refusal : ℕ) → Matched store j → (refusal ≡ 0 → Matched store′ j′)
     → Matched (cond (eqb refusal 0) store′ store) (cond (eqb refusal 0) j′ j)
-either {store} {store′} {j} {j′} refusal m f = go (eqb refusal 0) (λ t. f (eqb-true refusal 0 t))
+either-matched {store} {store′} {j} {j′} refusal m f = go (eqb refusal 0) (λ t. f (eqb-true refusal 0 t))
   where
     go : (b : Bool) → (b ≡ true → Matched store′ j′) → Matched (cond b store′ store) (cond b j′ j)
     go true f = f refl
@@ -85,7 +85,7 @@ module _ (store : List ℕ) (j : Journal) (m : Matched store j) where
       → Matched (resumed o store .buffer) (cond (eqb (resumed o store .reply .answer) 0) (afterTape j o) j)
   unfolding resumed afterTape firstRefusal
   resume-kept none = m
-  resume-kept (some t) = either (firstRefusal (resumeTests (some t) store)) m (resume-matched t j store)
+  resume-kept (some t) = either-matched (firstRefusal (resumeTests (some t) store)) m (resume-matched t j store)
 
   command-matched : (s : List ℕ) (c : Command) → decode s ≡ Whole c → stepOutcome store (Whole c) .reply .answer ≡ 0
       → Matched (overwrite (encode (step (roomIn store) c)) store) (afterCommand j (Whole c))
@@ -99,13 +99,13 @@ module _ (store : List ℕ) (j : Journal) (m : Matched store j) where
   command-kept : (s : List ℕ) (d : Decoded) → decode s ≡ d
       → Matched (stepOutcome store d .buffer) (cond (eqb (stepOutcome store d .reply .answer) 0) (afterCommand j d) j)
   unfolding stepOutcome afterCommand
-  command-kept s (Refused n) e = either n m (λ _. m)
-  command-kept s (Whole c) e = either (firstRefusal (commandTests store c)) m (command-matched s c e)
+  command-kept s (Refused n) e = either-matched n m (λ _. m)
+  command-kept s (Whole c) e = either-matched (firstRefusal (commandTests store c)) m (command-matched s c e)
 
   -- each call keeps them matched
   call-kept : (c : Call) → Matched (storeAfter store c) (feed j c (replyTo store c .answer))
   unfolding storeAfter feed replyTo afterAccepted openOutcome commandOutcome resumeOutcome
-  call-kept (opening capacity) = either _ m (opening-matched capacity store)
+  call-kept (opening capacity) = either-matched _ m (opening-matched capacity store)
   call-kept (command s) = command-kept s (decode s) refl
   call-kept (resume tape) = resume-kept (contentOf tape)
   call-kept (question q) = asked (eqb (answerTo store q .reply .answer) 0)

@@ -10,6 +10,7 @@ use borrow.Author.Tests.{eqb-true, eq-eqb}
 use lib.Dec.{eqb}
 use lib.ListN.{length-map}
 use Rattle.laws.proofs.Logic.{bool-ext}
+use Rattle.board.specs.Board.{callEntry}
 use Rattle.graph.specs.declared.Node.{Node}
 use Rattle.graph.specs.declared.Node.the-variants.{Entry, Merge}
 use Rattle.graph.specs.Graph.{Graph, versionCount, ancestor, nodeOf, isEntryNode, isEntry}
@@ -42,7 +43,7 @@ eqb-sym a b = bool-ext _ _ (λ t. eq-eqb b a (sym (eqb-true a b t))) (λ t. eq-e
 
 node-call : (k : ℕ) (o : Option Node) → callOf k (Option·map madeBy o) ≡ entryIs 6 k o
 node-call k none = refl
-node-call k (some (Entry p code strip operand)) = ap (λ (b : Bool). eqb code 6 && b) (eqb-sym (strip .0) k)
+node-call k (some (Entry p code strip operand)) = ap (λ (b : Bool). eqb code callEntry && b) (eqb-sym (strip .0) k)
 node-call k (some (Merge p q)) = refl
 
 pub entered-entry : (g : Graph) (e : ℕ) → wasEntered (madeAs (map madeBy g) e) ≡ isEntry g e

@@ -2,7 +2,7 @@
 -- resume takes back into any buffer that is long enough, whose front is then the paused store to the byte.
 -- Assumes nothing.
 use Prim.Native.Nat.{ℕ, _≤_}
-use mathlib.Core.Path.{_≡_, refl, sym, _∙_, ap}
+use mathlib.Core.Path.{_≡_, refl, _∙_, ap}
 use mathlib.Core.Bool.{true}
 use mathlib.Core.List.{List, _++_}
 use mathlib.Core.Option.{Option, none, some}
@@ -46,7 +46,7 @@ module _ (t : Content) (store : List ℕ) where
 
   resume-none : Accepted t → storeSize (t .settings .capacity) ≤ length store → firstRefusal (resumeTests (some t) store) ≡ 0
   unfolding contentRefusal
-  resume-none a fits = sym (buffer-fits (contentTests t) store (storeSize (t .settings .capacity)) refl (sym (accepts t a)) refl fits)
+  resume-none a fits = buffer-fits (contentTests t) store (storeSize (t .settings .capacity)) refl (accepts t a) fits
 
 -- what resume takes, pause writes again
 content-pauses : (tape store output : List ℕ) (o : Option Content) → Bytes tape → contentOf tape ≡ o → resumed o store .reply .answer ≡ 0

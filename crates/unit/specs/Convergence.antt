@@ -37,7 +37,7 @@ pub record Converged (store : List ℕ) (j : Journal) : Type 0 where
   -- "After the list the store's present consoles and their heads are the book's."
   pub heads : roomIn store .heads ≡ j .heads
   -- consoles that heard the same entries are on the same version, with boards alike to the byte
-  pub same : (c d : ℕ) → isPresent j c ≡ true → isPresent j d ≡ true → ((e : ℕ) → hasHeard j c e ≡ hasHeard j d e)
+  pub alike : (c d : ℕ) → isPresent j c ≡ true → isPresent j d ≡ true → ((e : ℕ) → hasHeard j c e ≡ hasHeard j d e)
       → (headNumber j c ≡ headNumber j d) × ((output : List ℕ) → boardOutcome store c output ≡ boardOutcome store d output)
   pub commons : (c d : ℕ) → isPresent j c ≡ true → isPresent j d ≡ true → (m : ℕ) × Common store j c d m
   -- "The call counter is the strip's 16 bits at offset 6": it is the number of call entries heard for that strip

@@ -6,6 +6,7 @@ use mathlib.Core.List.{List, [], _∷_, map}
 use mathlib.Core.Option.{Option, none, some, Option·getD}
 use lib.Dec.{eqb}
 use lib.ListN.{length, getD, set, replicate}
+use Rattle.board.specs.Board.{callEntry}
 use Rattle.graph.specs.Below.{countBelow}
 use Rattle.graph.specs.declared.Node.{Node}
 use Rattle.graph.specs.declared.Node.the-variants as node-is
@@ -78,14 +79,15 @@ unfoldable pub afterTape : Journal → Option Content → Journal
 afterTape j none = j
 afterTape j (some t) = record { versions = map madeBy (t .versions); heads = headSlots (t .heads) }
 
--- The journal after an accepted call. "A refused call, a pause or a question changes nothing."
+-- the journal after an accepted call; a pause is among the questions
 unfoldable pub afterAccepted : Journal → Call → Journal
 afterAccepted j (opening capacity) = opened
 afterAccepted j (command c) = afterCommand j (decode c)
 afterAccepted j (resume tape) = afterTape j (contentOf tape)
 afterAccepted j (question q) = j
 
--- "The book is fed, of each call, its kind, its command or tape, and whether it answered 0."
+-- "The book is fed, of each call, its kind, its command or tape, and whether it answered 0." "A refused call, a pause or a question changes
+-- nothing."
 unfoldable pub feed : Journal → Call → ℕ → Journal
 feed j c answer = cond (eqb answer 0) (afterAccepted j c) j
 
@@ -99,7 +101,7 @@ leads [] u v = eqb v 0 && eqb u 0
 leads (m ∷ before) u v =
     cond (eqb v (suc (length before))) (eqb u v || toParent (leads before u) m) (leads before u v)
 
--- version v as it was made, where it is not version 0
+-- version v as it was made; none for version 0, and for a number that names no version
 unfoldable pub madeAs : List Made → ℕ → Option Made
 madeAs [] v = none
 madeAs (m ∷ before) v = cond (eqb v (suc (length before))) (some m) (madeAs before v)
@@ -128,7 +130,7 @@ entriesHeard j c = countBelow (nextVersion j) (hasHeard j c)
 -- "a call entry is one with code 06": of strip k
 abbrev pub callOf : ℕ → Option Made → Bool
 callOf k none = false
-callOf k (some (entered p code strip)) = eqb code 0x06 && eqb strip k
+callOf k (some (entered p code strip)) = eqb code callEntry && eqb strip k
 callOf k (some (merged p q)) = false
 
 abbrev pub callsHeard : Journal → ℕ → ℕ → ℕ

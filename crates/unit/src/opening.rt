@@ -2,6 +2,8 @@
 use crate::Reply;
 use crate::answers::reply_of;
 use crate::answers::size;
+use refusal::first_of;
+use refusal::when;
 use room::Settings;
 use store::places::store_size;
 use store::settings::settings_in_range;
@@ -25,13 +27,9 @@ fn opening_refusal(capacity: u32, store: &[u8]) -> u32
     ensures { λ r. ⌜ r ≡ firstRefusal (openTests capacity (now (store .entry))) ⌝ }
 {
     let settings = settings_for(capacity);
-    if !settings_in_range(settings) {
-        return 8;
-    }
-    if store.len() < store_size(settings.capacity) {
-        return 19;
-    }
-    0
+    let out_of_range = when(8, !settings_in_range(settings));
+    let too_short = when(19, store.len() < store_size(settings.capacity));
+    first_of(out_of_range, too_short)
 }
 
 // Opens a room: a store of version 0 with console 0 on it, at the front of the lent buffer.

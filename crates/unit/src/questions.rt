@@ -4,19 +4,34 @@ use crate::answers::counted;
 use crate::answers::reply_of;
 use crate::answers::size;
 use buffer::copy;
-use command::numbers::CONSOLES;
+use command::numbers::is_console;
 use graph::Console;
 use query::board_of;
 use query::common_of;
 use query::head_of;
 use query::heard_count;
 use query::is_present;
+use refusal::first_of;
+use refusal::when;
 use store::judge::holds;
 use store::places::BOARD;
 ghost use mathlib.Core.Path.{_≡_};
+ghost use Prim.Native.Nat.{_<_};
 ghost use Rattle.board.specs.Board.{boardSize};
 ghost use Rattle.refusal.specs.Refusal.{firstRefusal};
-ghost use Rattle.unit.specs.Calls.{bufferTests, consoleTests, pairTests, heardReply, commonReply, boardOutcome};
+ghost use Rattle.command.specs.Code.{consoleCount};
+ghost use Rattle.unit.specs.Calls.{bufferTests, consoleTests, presenceTests, pairTests, heardReply, commonReply, boardOutcome};
+
+// Why these bytes can't be asked after two consoles, or 0.
+fn presence_refusal(store: &[u8], c: Console, d: Console) -> u32
+    requires { ⌜ (c .0 < consoleCount) × (d .0 < consoleCount) ⌝ }
+    ensures { λ r. ⌜ r ≡ firstRefusal (presenceTests (now (store .entry)) (c .0) (d .0)) ⌝ }
+{
+    if !holds(store) {
+        return 11;
+    }
+    when(12, !is_present(store, c) | !is_present(store, d))
+}
 
 // Why two consoles of a store can't be asked after, or 0.
 fn pair_refusal(store: &[u8], first: u32, second: u32) -> u32
@@ -24,16 +39,10 @@ fn pair_refusal(store: &[u8], first: u32, second: u32) -> u32
 {
     let c = size(first);
     let d = size(second);
-    if !((c < CONSOLES) & (d < CONSOLES)) {
+    if !is_console(c) | !is_console(d) {
         return 3;
     }
-    if !holds(store) {
-        return 11;
-    }
-    if !(is_present(store, Console(c)) & is_present(store, Console(d))) {
-        return 12;
-    }
-    0
+    presence_refusal(store, Console(c), Console(d))
 }
 
 // Why a console's board can't be copied out into this buffer, or 0.
@@ -41,13 +50,7 @@ fn board_refusal(store: &[u8], console: u32, board: &[u8]) -> u32
     ensures { λ r. ⌜ r ≡ firstRefusal (bufferTests (consoleTests (now (store .entry)) console) (now (board .entry)) boardSize) ⌝ }
 {
     let refusal = pair_refusal(store, console, console);
-    if refusal != 0 {
-        return refusal;
-    }
-    if board.len() < BOARD {
-        return 19;
-    }
-    0
+    first_of(refusal, when(19, board.len() < BOARD))
 }
 
 // Copies a console's board out: the board of its head.

@@ -30,8 +30,8 @@ use Rattle.store.proofs.Joined.{Placed, join-block, join-encode}
 use Rattle.store.proofs.Overwritten.{overwritten}
 
 -- no byte of the parts that are written
-abbrev Elsewhere : ℕ → Type 0
-Elsewhere k =
+abbrev Unwritten : ℕ → Type 0
+Unwritten k =
     (settingsAt ≤ k → k < settingsEnd → ⊥) × (countAt ≤ k → k < countAt + 2 → ⊥) × (headAt 0 ≤ k → k < headAt 0 + 2 → ⊥)
     × (rowAt 0 ≤ k → k < rowAt 0 + 1 → ⊥)
 
@@ -42,7 +42,7 @@ record Opened (s t : List ℕ) (settings : Settings) : Type 0 where
   one : Stands t countAt (word 1)
   field : Stands t (headAt 0) (word 1)
   own : Stands t (rowAt 0) (1 ∷ [])
-  none : (k : ℕ) → Elsewhere k → k < storeSize (settings .capacity) → getD t k 0 ≡ 0
+  none : (k : ℕ) → Unwritten k → k < storeSize (settings .capacity) → getD t k 0 ≡ 0
   kept : (k : ℕ) → storeSize (settings .capacity) ≤ k → getD t k 0 ≡ getD s k 0
 
 module _ {s t : List ℕ} {settings : Settings} (room : 1 ≤ settings .capacity) (o : Opened s t settings) where
@@ -50,7 +50,7 @@ module _ {s t : List ℕ} {settings : Settings} (room : 1 ≤ settings .capacity
   r = freshRoom settings
 
   -- a run of zeros that meets none of those parts
-  zeros-stand : (at n : ℕ) → at + n ≤ storeSize (settings .capacity) → ((k : ℕ) → at ≤ k → k < at + n → Elsewhere k) → Stands t at (zeros n)
+  zeros-stand : (at n : ℕ) → at + n ≤ storeSize (settings .capacity) → ((k : ℕ) → at ≤ k → k < at + n → Unwritten k) → Stands t at (zeros n)
   zeros-stand at n high apart =
       record {
         read = λ i l.
@@ -121,7 +121,7 @@ module _ (l : List ℕ) (settings : Settings) where
     third-long : length third ≡ length l
     third-long = with-length second (word 1) (headAt 0) (omega (arith, second-long)) ∙ second-long
 
-    others : (k : ℕ) → Elsewhere k → getD filled k 0 ≡ getD l k 0
+    others : (k : ℕ) → Unwritten k → getD filled k 0 ≡ getD l k 0
     others k e =
         with-outside third (1 ∷ []) (rowAt 0) (omega (arith, third-long)) k (e .3)
         ∙ with-outside second (word 1) (headAt 0) (omega (arith, second-long)) k (e .2)

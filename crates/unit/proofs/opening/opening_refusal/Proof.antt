@@ -1,58 +1,31 @@
 -- `unit::opening::opening_refusal` meets its contract.
 -- Assumes nothing.
-use mathlib.Core.Path.{sym, _∙_, ap}
-use lib.ListN.{length}
-use borrow.Author.Tests.{lt-ltb, le-ltb, not-true, not-false}
-use Rattle.refusal.specs.Refusal.{firstRefusal}
-use Rattle.room.specs.declared.Settings.{Settings}
-use Rattle.command.proofs.Limits.{within-true}
-use Rattle.room.specs.Sound.{maxCapacity}
-use Rattle.store.specs.Layout.{storeSize}
+use mathlib.Core.Path.{refl, _∙_, ap}
+use mathlib.Core.Bool.{not}
+use mathlib.Core.List.{[], _∷_}
 use native.Mathlib.Omega.{arith}
-use borrow.Author.Needs.{needs}
+use Rattle.refusal.specs.Refusal.{_when_}
+use Rattle.room.specs.declared.Settings.{Settings}
+use Rattle.room.specs.Room.{openSettings}
+use Rattle.room.specs.Sound.{settingsInRange}
+use Rattle.store.specs.Layout.{storeSize}
+use Rattle.unit.proofs.Answered.{buffer-first}
 use Rattle.unit.proofs.opening.opening_refusal.Statement.{statement}
 use Rattle.unit.proofs.opening.opening_refusal.Tie as tie
 
-returns : tie.Need-returns
-unfolding firstRefusal
-returns c =
-    let tested = c .before in
-    rw (rw (tested .before .settings-for .ensures) at (sym (tested .settings-in-range .ensures) ∙ not-true _ (c .if1 .taken)))
-
 store-size-requires : tie.Need-store-size-requires
 store-size-requires c κs =
-    let tested = c .before in
-    let size = within-true 1 maxCapacity (tested .before .settings-for .result .capacity) (sym (tested .settings-in-range .ensures) ∙ not-false _ (c .if1 .left)) in
-    omega arith
+    let capacity = ap (λ (x : Settings). x .capacity) (c .before .before .settings-for .ensures) in omega arith
 
-returns-2 : tie.Need-returns-2
-unfolding firstRefusal
-returns-2 c =
-    let passed = c .before .before in
-    let tested = passed .before in
-    let made = tested .before in
-    let a = made .before .before .args in
-    let settings = made .settings-for .ensures in
-    let capacity = ap (λ (x : Settings). x .capacity) settings in
-    rw (
-      rw settings at (sym (tested .settings-in-range .ensures) ∙ not-false _ (passed .if1 .left)),
-      lt-ltb (length (a .store .now)) (storeSize (a .capacity)) (omega arith),
-    )
-
-returns-3 : tie.Need-returns-3
-unfolding firstRefusal
-returns-3 c =
-    let passed = c .before .before in
-    let tested = passed .before in
-    let made = tested .before in
-    let a = made .before .before .args in
-    let settings = made .settings-for .ensures in
-    let capacity = ap (λ (x : Settings). x .capacity) settings in
-    rw (
-      rw settings at (sym (tested .settings-in-range .ensures) ∙ not-false _ (passed .if1 .left)),
-      le-ltb (length (a .store .now)) (storeSize (a .capacity)) (omega arith),
-    )
+returns : tie.Need-returns
+returns c =
+    let sized = c .before .before in
+    let tested = sized .before .before in
+    let a = tested .before .before .before .args in
+    c .first-of .ensures
+    ∙ rw (c .before .when2 .ensures, sized .before .when .ensures, sized .store-size .ensures, tested .settings-in-range .ensures, tested .before .settings-for .ensures)
+    (buffer-first (8 when not (settingsInRange (openSettings (a .capacity))) ∷ []) (a .store .now) (storeSize (a .capacity)) refl refl)
 
 pub opening-refusal-spec : {M : Type 1} → statement M
 opening-refusal-spec =
-    tie.close (tie.spec (λ c κs. search needs) (λ c κs. search needs) returns store-size-requires returns-2 returns-3)
+    tie.close (tie.spec (λ c κs. tt) (λ c κs. tt) (λ c κs. tt) store-size-requires (λ c κs. tt) (λ c κs. tt) returns)
