@@ -10,5 +10,6 @@ pub mod Rows
 pub mod Sets
 pub mod Written
 pub mod Patches
+pub mod Laid
 pub mod Shared
 pub mod Ones

@@ -8,7 +8,7 @@ use native.Mathlib.Numerals.{add-one}
 use native.Mathlib.Omega.{arith}
 use lib.ListN.{length, length-append}
 use Rattle.tape.specs.Record.{longestRecord}
-use Rattle.tape.proofs.Laid.{Put, Laid, laid-none, laid-more}
+use Rattle.buffer.proofs.Laid.{Put, Laid, laid-none, laid-more}
 
 -- w k is the first k pieces, one behind the other
 pub record Pieces (w piece : ℕ → List ℕ) : Type 0 where

@@ -15,7 +15,7 @@ use Rattle.store.proofs.Checks.{own-versions, own-sixteen}
 use Rattle.tape.specs.declared.Record.the-variants.{Start, End}
 use Rattle.tape.specs.Record.{recordBytes}
 use Rattle.tape.specs.Tape.{tapeOf}
-use Rattle.tape.proofs.Laid.{Put, laid-one, laid-more}
+use Rattle.buffer.proofs.Laid.{Put, laid-one, laid-more}
 use Rattle.pause.specs.Pieces.{versionPieces, headPieces}
 
 module _ (s : List ℕ) (n : ℕ) (count : n ≡ length (roomIn s .versions)) where

@@ -18,6 +18,7 @@ use Rattle.graph.proofs.Below.{of}
 use Rattle.command.specs.Code.{consoleCount, isConsole}
 use Rattle.room.specs.Room.{headOf}
 use Rattle.room.specs.Sound.{settingsInRange, entryInRange, namesVersion, headsNameVersions, headsMeet, allBehindHeads, soundRoom}
+use Rattle.room.proofs.Sound.{capacity-range}
 use Rattle.tape.specs.Tape.{Content, headSlots, roomOf, consolesRise, headsNamed, inRange}
 use Rattle.tape.proofs.Heads.{length-slots}
 use Rattle.resume.proofs.HeadSlots.{headField, heads-diagonal}
@@ -43,7 +44,7 @@ in-range t h =
 pub range-small : (t : Content) → settingsInRange (t .settings) ≡ true → Facts t → versionCount (t .versions) ≤ 1024
 range-small t cap k =
     let c = k .count in
-    omega (arith, leb-true (t .settings .capacity) 1024 (and-r (leb 1 (t .settings .capacity)) (leb (t .settings .capacity) 1024) cap))
+    omega (arith, capacity-range (t .settings) cap)
 
 -- console 0 is there
 first-present : (heads : List (ℕ × ℕ)) → consolesRise heads ≡ true → isSome (getD (headSlots heads) 0 none) ≡ true

@@ -46,7 +46,7 @@ module _ (t : Content) (sound : soundRoom (roomOf t) ≡ true) (old : List ℕ) 
   opened = rw size at made
 
   fresh-length : length (encode (freshRoom (t .settings))) ≡ storeSize (t .settings .capacity)
-  fresh-length = encode-length (freshRoom (t .settings)) (fresh-sound (t .settings) (sound-facts r sound .capacity))
+  fresh-length = encode-length (freshRoom (t .settings)) (fresh-sound (t .settings) (sound-facts r sound .settings))
 
   pub opened-long : length s ≡ length old
   opened-long = let long = fresh-length in let f = fits in rw opened (simp (length-append, length-drop) (omega arith))

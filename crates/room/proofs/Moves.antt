@@ -91,7 +91,7 @@ module _ (r : Room) (s : Sound r) (c d : ℕ) (l : c < consoleCount) (q : presen
         );
     first = first-there;
     behind = λ v bound. let k = s .behind v bound in behind-one v (k .0) (k .1) (k .2);
-    capacity = s .capacity;
+    settings = s .settings;
     fits = s .fits;
     ranged = s .ranged;
   }
@@ -195,7 +195,7 @@ module _ (r : Room) (s : Sound r) (c : ℕ) (p : present r c ≡ true) (n : Node
       meets = grown-meets;
       first = grown-first;
       behind = grown-behind;
-      capacity = s .capacity;
+      settings = s .settings;
       fits = left;
       ranged = and-i (entryInRange (r .versions) n) _ ranged (s .ranged);
     }

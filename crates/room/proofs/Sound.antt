@@ -13,8 +13,20 @@ use Rattle.graph.specs.Graph.{Graph, versionCount, ancestor, meet, isSome, ever
 use Rattle.graph.proofs.Below.{at, of, some-at, some-of}
 use Rattle.graph.proofs.Meet.{Meet, meet-is, meet-found}
 use Rattle.command.specs.Code.{consoleCount}
+use Rattle.command.proofs.Limits.{within-true}
 use Rattle.room.specs.Room.{Room, headOf, present, head}
-use Rattle.room.specs.Sound.{isCapacity, entryInRange, namesVersion, headsNameVersions, twoMeet, headsMeet, allBehindHeads, soundRoom}
+use Rattle.room.specs.declared.Settings.{Settings}
+use Rattle.room.specs.Sound.{maxCapacity, settingsInRange, entryInRange, namesVersion, headsNameVersions, twoMeet, headsMeet, allBehindHeads, soundRoom}
+
+-- what a room can be set to: its capacity, and that each of its numbers fits a field of 16 bits
+pub capacity-range : (settings : Settings) → settingsInRange settings ≡ true → (1 ≤ settings .capacity) × (settings .capacity ≤ maxCapacity)
+capacity-range settings h = within-true 1 maxCapacity (settings .capacity) (search (and-l, and-r))
+
+abbrev pub SettingsFit : Settings → Type 0
+SettingsFit settings = settings .capacity < 65536
+
+pub settings-fit : (settings : Settings) → settingsInRange settings ≡ true → SettingsFit settings
+settings-fit settings h = omega (arith, capacity-range settings h)
 
 pub record Sound (r : Room) : Type 0 where
   pub lower : everyVersion parentsLower (r .versions) ≡ true
@@ -24,7 +36,7 @@ pub record Sound (r : Room) : Type 0 where
   pub meets : (c d : ℕ) → present r c ≡ true → present r d ≡ true → (m : ℕ) × Meet (r .versions) (head r c) (head r d) m
   pub first : present r 0 ≡ true
   pub behind : (v : ℕ) → v < versionCount (r .versions) → (c : ℕ) × (present r c ≡ true) × (ancestor (r .versions) v (head r c) ≡ true)
-  pub capacity : isCapacity (r .settings .capacity) ≡ true
+  pub settings : settingsInRange (r .settings) ≡ true
   pub fits : versionCount (r .versions) ≤ r .settings .capacity
   pub ranged : everyVersion entryInRange (r .versions) ≡ true
 
@@ -77,7 +89,7 @@ sound-facts r h =
       behind = λ v b.
           let s = some-at consoleCount _ (at (versionCount (r .versions)) _ behind v b) in
           (s .0, and-l (present r (s .0)) _ (s .2), and-r (present r (s .0)) _ (s .2));
-      capacity = search (and-l, and-r) depth 12;
+      settings = search (and-l, and-r) depth 12;
       fits = leb-true _ _ (search (and-l, and-r) depth 12);
       ranged = search (and-l, and-r) depth 12;
     }
@@ -103,7 +115,7 @@ facts-sound r s =
     (λ v l.
     let b = s .behind v l in
     some-of consoleCount _ (b .0) (present-console r (b .0) (s .sixteen) (b .1)) (and-i _ _ (b .1) (b .2)))))
-    (s .capacity))
+    (s .settings))
     (le-leb _ _ (s .fits)))
     (s .ranged)
 

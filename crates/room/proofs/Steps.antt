@@ -8,7 +8,7 @@ use mathlib.Core.List.{_∷_}
 use mathlib.Core.Logic.{inl, inr}
 use mathlib.Core.Option.{Option, Option·getD}
 use native.Mathlib.Decide.{ℕ-discrete}
-use borrow.Author.Tests.{lt-ltb, ne-eqb, eqb-false, not-false}
+use borrow.Author.Tests.{lt-ltb, le-leb, ne-eqb, eqb-false, not-false}
 use lib.Dec.{eqb}
 use Rattle.graph.specs.declared.Strip.{Strip}
 use Rattle.laws.proofs.Logic.{clash, decide, refuted, and-l, and-r, and-i, and-rest, implies-i2, implies-e2, not-e, not-i}
@@ -29,7 +29,7 @@ use Rattle.room.specs.Room.{Room, present, head, common, freshRoom}
 use Rattle.room.specs.Sound.{settingsInRange, entryInRange, headsMeet, allBehindHeads, soundRoom}
 use Rattle.room.specs.Step.{behind, apart, splits, someThirdSplits, stepRefusal, grown, step}
 use Rattle.room.proofs.Accepted.{fork-accepted, forward-accepted, entry-accepted, merge-accepted}
-use Rattle.room.proofs.Sound.{Sound, present-console, present-head, meets-of, sound-facts, facts-sound}
+use Rattle.room.proofs.Sound.{Sound, capacity-range, present-console, present-head, meets-of, sound-facts, facts-sound}
 use Rattle.room.proofs.Moves.{there, number, new-head, new-number, kept, moved-sound, grown-sound, grown-meets}
 use Rattle.room.proofs.NewMeets.{entry-meet, merge-meet-receiver, merge-meet-giver, merge-meet-ordered}
 
@@ -207,4 +207,5 @@ step-sound r (FastForward a b) s range h = facts-sound _ (forward-sound r (sound
 -- opening gives a sound room
 pub fresh-sound : (settings : Settings) → settingsInRange settings ≡ true → soundRoom (freshRoom settings) ≡ true
 unfolding soundRoom everyVersion headsMeet allBehindHeads everyBelow someBelow ancestor meet isMeet highestBelow
-fresh-sound settings h = and-i _ _ (and-i (settingsInRange settings) _ h (and-l _ _ h)) refl
+fresh-sound settings h =
+    and-i _ _ (and-i (settingsInRange settings) _ h (le-leb 1 (settings .capacity) (capacity-range settings h .0))) refl

@@ -17,31 +17,32 @@ use Rattle.buffer.proofs.Parts.{same-of}
 use Rattle.graph.specs.Below.{everyBelow}
 use Rattle.graph.specs.Graph.{versionCount}
 use Rattle.command.specs.Code.{consoleCount}
+use Rattle.room.specs.declared.Settings.{Settings}
 use Rattle.room.specs.Room.{headOf}
-use Rattle.room.specs.Sound.{isCapacity}
-use Rattle.store.specs.Layout.{headerSize, rowSize, blockSize, storeSize, capacityAt, countAt, spareAt, entriesAt, commonsEnd, blockAt, versionsIn, headFrom, roomIn}
+use Rattle.room.specs.Sound.{settingsInRange}
+use Rattle.store.specs.Layout.{headerSize, rowSize, blockSize, storeSize, capacityAt, countAt, spareAt, entriesAt, commonsEnd, blockAt, versionsIn, headFrom, settingsIn, roomIn}
 use Rattle.store.specs.Check.{rowPart, entriesPart, versionsRight, commonIn, consoleRight, behindHeads, contentsRight, storeRight}
 use Rattle.store.proofs.Reading.{headsIn-length, headsIn-one}
 use Rattle.store.proofs.Versions.{versions-length}
 
--- of a store of this capacity with n versions
-pub record Checks (s : List ℕ) (capacity n : ℕ) : Type 0 where
-  pub known : isCapacity capacity ≡ true
-  pub long : storeSize capacity ≤ length s
+-- of a store with these settings and n versions
+pub record Checks (s : List ℕ) (settings : Settings) (n : ℕ) : Type 0 where
+  pub known : settingsInRange settings ≡ true
+  pub long : storeSize (settings .capacity) ≤ length s
   pub count : wordAt s countAt ≡ n
   pub some : 1 ≤ n
-  pub fits : n ≤ capacity
+  pub fits : n ≤ settings .capacity
   pub gap : allZero (part s spareAt (entriesAt - spareAt)) ≡ true
   pub rest : allZero (part s commonsEnd (headerSize - commonsEnd)) ≡ true
   pub versions : versionsRight s (pred n) ≡ true
   pub none : noneFrom (entriesPart s) n ≡ true
-  pub free : allZero (part s (blockAt n) (blockSize * (capacity - n))) ≡ true
+  pub free : allZero (part s (blockAt n) (blockSize * (settings .capacity - n))) ≡ true
   pub consoles : everyBelow consoleCount (consoleRight s n) ≡ true
   pub first : ltb 0 (commonIn s 0 0) ≡ true
   pub behind : behindHeads s (rowPart s) consoleCount ≡ row (λ v. ltb v n) rowSize
 
 module _ (s : List ℕ) where
-  fields-checks : storeRight s ≡ true → Checks s (wordAt s capacityAt) (wordAt s countAt)
+  fields-checks : storeRight s ≡ true → Checks s (settingsIn s) (wordAt s countAt)
   unfolding storeRight contentsRight
   fields-checks h =
       record {
@@ -60,7 +61,7 @@ module _ (s : List ℕ) where
         behind = same-true _ _ (search (and-l, and-r) depth 12);
       }
 
-  checks-fields : Checks s (wordAt s capacityAt) (wordAt s countAt) → storeRight s ≡ true
+  checks-fields : Checks s (settingsIn s) (wordAt s countAt) → storeRight s ≡ true
   unfolding storeRight contentsRight
   checks-fields k =
       and-i _ _ (le-leb headerSize (length s) (omega (arith, k .long)))
@@ -74,16 +75,16 @@ module _ (s : List ℕ) where
       (and-i _ _ (k .consoles) (and-i _ _ (k .first) (same-of _ _ (k .behind)))))))))))
 
   -- the test, of the room's own capacity and number of versions
-  pub right-checks : storeRight s ≡ true → Checks s (roomIn s .settings .capacity) (versionCount (roomIn s .versions))
+  pub right-checks : storeRight s ≡ true → Checks s (roomIn s .settings) (versionCount (roomIn s .versions))
   unfolding roomIn
   right-checks h =
       let k = fields-checks h in
       let e = versions-length s (pred (wordAt s countAt)) in
-      subst (Checks s (wordAt s capacityAt)) (omega (arith, k .some)) k
+      subst (Checks s (settingsIn s)) (omega (arith, k .some)) k
 
-  pub checks-right : Checks s (roomIn s .settings .capacity) (versionCount (roomIn s .versions)) → storeRight s ≡ true
+  pub checks-right : Checks s (roomIn s .settings) (versionCount (roomIn s .versions)) → storeRight s ≡ true
   unfolding roomIn
-  checks-right k = checks-fields (subst (Checks s (wordAt s capacityAt)) (sym (k .count)) k)
+  checks-right k = checks-fields (subst (Checks s (settingsIn s)) (sym (k .count)) k)
 
   -- what the room read off the bytes has to do with them
   pub own-versions : versionsIn s (length (roomIn s .versions)) ≡ roomIn s .versions

@@ -42,10 +42,10 @@ module _ (s : List ℕ) (t : holdsStore s ≡ true) where
       let f = sound .behind v l in
       some-of consoleCount _ (f .0) (present-console r (f .0) (sound .sixteen) (f .1)) (and-i _ _ (f .1) (f .2))
 
-  hold-checks : Checks s (r .settings .capacity) (versionCount g)
+  hold-checks : Checks s (r .settings) (versionCount g)
   hold-checks =
       record {
-        known = sound .capacity;
+        known = sound .settings;
         long = whole-long s t;
         count = count-read s r (whole-front s t) (whole-ranges s t);
         some = omega arith;

@@ -21,14 +21,14 @@ use Rattle.board.specs.Board.{boardSize}
 use Rattle.graph.specs.Graph.{Graph, versionCount, isEntry, isSome, ancestor}
 use Rattle.graph.proofs.Below.{some-at}
 use Rattle.command.specs.Code.{consoleCount}
-use Rattle.command.proofs.Limits.{within-true}
 use Rattle.room.specs.Room.{Room, headOf, present}
 use Rattle.room.specs.Sound.{maxCapacity, behindHead}
-use Rattle.room.proofs.Sound.{Sound, present-console, facts-sound}
+use Rattle.room.proofs.Sound.{Sound, capacity-range, present-console, facts-sound}
 use Rattle.room.proofs.Lengths.{boardOf-length}
-use Rattle.store.specs.Layout.{headerSize, rowSize, blockSize, storeSize, capacityAt, countAt, spareAt, entriesAt, commonsEnd, commonAt, blockAt, encode, roomIn, holdsStore}
+use Rattle.store.specs.Layout.{headerSize, rowSize, blockSize, storeSize, countAt, spareAt, entriesAt, commonsEnd, commonAt, blockAt, encode, roomIn, holdsStore}
 use Rattle.store.specs.Check.{rowPart, entriesPart, commonIn, storeRight}
 use Rattle.store.proofs.RoundTrip.{encode-length}
+use Rattle.store.proofs.SettingsBytes.{settings-stand}
 use Rattle.store.proofs.Shown.{no-entry}
 use Rattle.store.proofs.Told.{Held}
 use Rattle.store.proofs.Versions.{versions-held}
@@ -44,9 +44,9 @@ module _ (s : List ℕ) (b : Bytes s) where
   abbrev g : Graph
   g = r .versions
 
-  module _ (k : Checks s (r .settings .capacity) (versionCount g)) where
+  module _ (k : Checks s (r .settings) (versionCount g)) where
     small : versionCount g ≤ maxCapacity
-    small = omega (arith, k .fits, within-true 1 maxCapacity (r .settings .capacity) (k .known))
+    small = omega (arith, k .fits, capacity-range (r .settings) (k .known))
 
     held : Held s g
     held = rw own-versions at (versions-held s (length g) b (omega (arith, k .long, k .fits)) small (k .versions))
@@ -82,7 +82,7 @@ module _ (s : List ℕ) (b : Bytes s) where
           behind = λ v l.
               let f = some-at consoleCount _ (behind v l) in
               (f .0, and-l (present r (f .0)) _ (f .2), and-r (present r (f .0)) _ (f .2));
-          capacity = k .known;
+          settings = k .known;
           fits = k .fits;
           ranged = held .ranged;
         }
@@ -100,7 +100,7 @@ module _ (s : List ℕ) (b : Bytes s) where
     parts : Placed s r
     parts =
         record {
-          settings = unfold roomIn in word-stands capacityAt b;
+          settings = unfold roomIn in settings-stand b;
           count = rw (k .count) at (word-stands {s = s} countAt b);
           gap = zero-stands spareAt (entriesAt - spareAt) (k .gap);
           entries = part-stands rowSize entries (rowFrom-length (isEntry g) 0 rowSize);

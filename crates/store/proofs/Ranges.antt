@@ -6,13 +6,13 @@ use Prim.Native.Nat.{ℕ, _≤_, _<_}
 use lib.ListN.{length}
 use Rattle.graph.specs.Graph.{versionCount, everyVersion, parentsLower}
 use Rattle.command.specs.Code.{consoleCount}
-use Rattle.command.proofs.Limits.{within-true}
 use Rattle.room.specs.Room.{Room, headOf}
-use Rattle.room.specs.Sound.{maxCapacity, entryInRange, namesVersion, soundRoom}
-use Rattle.room.proofs.Sound.{sound-facts, heads-named}
+use Rattle.room.specs.Sound.{entryInRange, namesVersion, soundRoom}
+use Rattle.room.proofs.Sound.{SettingsFit, settings-fit, capacity-range, sound-facts, heads-named}
 
 -- the ranges, clause by clause of soundness
 pub record Ranges (r : Room) : Type 0 where
+  pub settings : SettingsFit (r .settings)
   pub capacity : r .settings .capacity ≤ 1024
   pub count : versionCount (r .versions) ≤ r .settings .capacity
   pub parents : everyVersion parentsLower (r .versions) ≡ true
@@ -24,7 +24,8 @@ pub ranges : (r : Room) → soundRoom r ≡ true → Ranges r
 ranges r h =
     let k = sound-facts r h in
     record {
-      capacity = within-true 1 maxCapacity (r .settings .capacity) (k .capacity) .1;
+      settings = settings-fit (r .settings) (k .settings);
+      capacity = capacity-range (r .settings) (k .settings) .1;
       count = k .fits;
       parents = k .lower;
       entries = k .ranged;

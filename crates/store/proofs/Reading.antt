@@ -21,11 +21,12 @@ use Rattle.graph.proofs.Ancestor.{nodeOf-new, nodeOf-old}
 use Rattle.command.specs.Code.{consoleCount}
 use Rattle.room.specs.Room.{Room, headOf, present, head, common}
 use Rattle.room.specs.Sound.{entryInRange, namesVersion}
-use Rattle.store.specs.Layout.{fieldWhere, blockAt, commonAt, headAt, capacityAt, countAt, commonField, nodeBytes, encode, nodeIn, versionsIn, headFrom, headsIn}
+use Rattle.store.specs.Layout.{fieldWhere, blockAt, commonAt, headAt, countAt, commonField, nodeBytes, encode, nodeIn, versionsIn, headFrom, headsIn, settingsIn}
 use Rattle.store.proofs.Diagonal.{meetNumber-below, meetNumber-self}
 use Rattle.store.proofs.Blocks.{stands-common, stands-record, stands-settings, stands-count}
 use Rattle.command.proofs.Limits.{operand-below}
 use Rattle.store.proofs.Ranges.{Ranges}
+use Rattle.store.proofs.SettingsBytes.{settings-back}
 
 -- a version in range reads back from its record; the graph g that its base is taken from does not matter
 node-read : (s : List ℕ) (v : ℕ) (g before : Graph) (n : Node)
@@ -92,8 +93,8 @@ field-self r c none e n = refl
 field-self r c (some v) e n = ap some (rw e (meetNumber-self (r .versions) v (ltb-true v (versionCount (r .versions)) n)))
 
 module _ (s : List ℕ) (r : Room) (h : Stands s 0 (encode r)) (k : Ranges r) where
-  pub capacity-read : wordAt s capacityAt ≡ r .settings .capacity
-  capacity-read = stands-word (r .settings .capacity) (stands-settings r h) (omega arith)
+  pub settings-read : settingsIn s ≡ r .settings
+  settings-read = settings-back (r .settings) (stands-settings r h) (k .settings)
 
   pub count-read : wordAt s countAt ≡ versionCount (r .versions)
   count-read = stands-word (versionCount (r .versions)) (stands-count r h) (omega arith)

@@ -14,12 +14,13 @@ use Rattle.laws.proofs.Logic.{and-l, and-r, and-i}
 use Rattle.buffer.specs.Field.{wordAt, same}
 use Rattle.buffer.proofs.Fields.{zeros-length, same-true, same-refl}
 use Rattle.buffer.proofs.Stands.{stands-front}
+use Rattle.room.specs.declared.Settings.{Settings}
 use Rattle.room.specs.Room.{Room}
 use Rattle.room.specs.Sound.{soundRoom}
 use Rattle.store.specs.Layout.{storeSize, capacityAt, encode, versionsIn, roomIn, holdsStore}
 use Rattle.store.proofs.Blocks.{header-length, blocks-length}
 use Rattle.store.proofs.Ranges.{ranges}
-use Rattle.store.proofs.Reading.{capacity-read, count-read, versions-read, heads-read}
+use Rattle.store.proofs.Reading.{settings-read, count-read, versions-read, heads-read}
 
 pub encode-length : (r : Room) → soundRoom r ≡ true → length (encode r) ≡ storeSize (r .settings .capacity)
 unfolding encode
@@ -35,7 +36,7 @@ room-encode r rest h =
     let front = stands-front (encode r) rest in
     let k = ranges r h in
     λ i. record {
-      settings = record { capacity = capacity-read s r front k i };
+      settings = settings-read s r front k i;
       versions = (ap (λ (n : ℕ). versionsIn s (pred n)) (count-read s r front k) ∙ versions-read s r front k) i;
       heads = heads-read s r front k i;
     }
@@ -47,7 +48,7 @@ holds-encode r rest h =
     let n = storeSize (r .settings .capacity) in
     let l = encode-length r h in
     let fits = le-leb n (length s) (rw length-append (omega arith)) in
-    rw (capacity-read s r (stands-front (encode r) rest) (ranges r h), room-encode r rest h, take-at (encode r) rest n l)
+    rw (ap (λ (x : Settings). x .capacity) (settings-read s r (stands-front (encode r) rest) (ranges r h)), room-encode r rest h, take-at (encode r) rest n l)
     (and-i (leb n (length s) && soundRoom r) (same (encode r) (encode r))
     (and-i (leb n (length s)) (soundRoom r) fits h) (same-refl (encode r)))
 

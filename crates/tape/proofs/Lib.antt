@@ -6,7 +6,6 @@ pub mod Written
 pub mod RoundTrip
 pub mod Places
 pub mod Sorts
-pub mod Laid
 pub mod Lent
 pub mod Walk
 pub mod Scans

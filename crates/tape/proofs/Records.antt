@@ -20,6 +20,7 @@ use Rattle.graph.specs.declared.Node.{Node}
 use Rattle.graph.specs.declared.Node.the-variants.{Entry, Merge}
 use Rattle.command.specs.declared.Operands.{Operands}
 use Rattle.command.specs.Code.{startRecord, entryRecord, mergeRecord, headRecord, endRecord, shapeOf, lengthOf, numberAt, operandsOf}
+use Rattle.room.proofs.Sound.{SettingsFit}
 use Rattle.tape.specs.declared.Record.{Record}
 use Rattle.tape.specs.declared.Record.the-variants.{Start, Version, Head, End, Broken}
 use Rattle.tape.specs.Record.{recordIn, recordLength, recordFrom, versionBytes, recordBytes, recordRefusal}
@@ -30,7 +31,7 @@ NodeFits (Entry parent code strip operand) = (parent .0 < 65536) × (code < 256)
 NodeFits (Merge receiver giver) = (receiver .0 < 65536) × (giver .0 < 65536)
 
 abbrev pub Fits : Record → Type 0
-Fits (Start settings) = settings .capacity < 65536
+Fits (Start settings) = SettingsFit settings
 Fits (Version node) = NodeFits node
 Fits (Head console version) = (console .0 < 256) × (version .0 < 65536)
 Fits End = Unit {0}
@@ -46,7 +47,7 @@ whole front rest = le-ltb (length (front ++ rest)) (length front) (simp length-a
 
 pub record-read : (x : Record) (rest : List ℕ) → Fits x → recordIn (recordBytes x ++ rest) ≡ x
 unfolding recordIn recordFrom shapeOf lengthOf numberAt operandsOf
-record-read (Start settings) rest h = simp (whole (recordBytes (Start settings)) rest, bytes-word)
+record-read (Start settings) rest h = simp (whole (recordBytes (Start settings)) rest, bytes-word (settings .capacity) h)
 record-read (Version (Entry parent code strip operand)) rest h =
     let there = whole (versionBytes (Entry parent code strip operand)) rest in
     simp (there, bytes-word (parent .0) (h .0), byte-back code (h .1), byte-back (strip .0) (h .2), bytes-word operand (h .3))
@@ -103,31 +104,35 @@ module _ (t : List ℕ) (bytes : Bytes t) where
   small : (k : ℕ) → wordAt t k < 65536
   small k = omega (arith, bytes k, bytes (k + 1))
 
-  begins-start : getD t 0 0 ≡ startRecord → ltb (length t) 3 ≡ false → Begins startRecord t
-  unfolding Begins recordFor recordFrom shapeOf lengthOf numberAt operandsOf
-  begins-start e l = (cc (front-drop t 0 3 (ltb-false (length t) 3 l), high 1, low 1), rw l (small 1))
+  -- the bytes of a record, where they are all there
+  whole-front : (c : ℕ) → ltb (length t) (lengthOf (shapeOf c)) ≡ false → drop 0 t ≡ front t 0 (lengthOf (shapeOf c)) ++ drop (0 + lengthOf (shapeOf c)) t
+  whole-front c l = front-drop t 0 (lengthOf (shapeOf c)) (omega (arith, ltb-false (length t) (lengthOf (shapeOf c)) l))
 
-  begins-entry : getD t 0 0 ≡ entryRecord → ltb (length t) 7 ≡ false → Begins entryRecord t
+  begins-start : getD t 0 0 ≡ startRecord → ltb (length t) (lengthOf (shapeOf startRecord)) ≡ false → Begins startRecord t
+  unfolding Begins recordFor recordFrom shapeOf lengthOf numberAt operandsOf
+  begins-start e l = (cc (whole-front startRecord l, high 1, low 1), rw l (small 1))
+
+  begins-entry : getD t 0 0 ≡ entryRecord → ltb (length t) (lengthOf (shapeOf entryRecord)) ≡ false → Begins entryRecord t
   unfolding Begins recordFor recordFrom shapeOf lengthOf numberAt operandsOf
   begins-entry e l = (
-    cc (front-drop t 0 7 (ltb-false (length t) 7 l), high 1, low 1, byte-back _ (bytes 3), byte-back _ (bytes 4), high 5, low 5),
+    cc (whole-front entryRecord l, high 1, low 1, byte-back _ (bytes 3), byte-back _ (bytes 4), high 5, low 5),
     rw l (small 1, bytes 3, bytes 4, small 5),
   )
 
-  begins-merge : getD t 0 0 ≡ mergeRecord → ltb (length t) 5 ≡ false → Begins mergeRecord t
+  begins-merge : getD t 0 0 ≡ mergeRecord → ltb (length t) (lengthOf (shapeOf mergeRecord)) ≡ false → Begins mergeRecord t
   unfolding Begins recordFor recordFrom shapeOf lengthOf numberAt operandsOf
-  begins-merge e l = (cc (front-drop t 0 5 (ltb-false (length t) 5 l), high 1, low 1, high 3, low 3), rw l (small 1, small 3))
+  begins-merge e l = (cc (whole-front mergeRecord l, high 1, low 1, high 3, low 3), rw l (small 1, small 3))
 
-  begins-head : getD t 0 0 ≡ headRecord → ltb (length t) 4 ≡ false → Begins headRecord t
+  begins-head : getD t 0 0 ≡ headRecord → ltb (length t) (lengthOf (shapeOf headRecord)) ≡ false → Begins headRecord t
   unfolding Begins recordFor recordFrom shapeOf lengthOf numberAt operandsOf
   begins-head e l = (
-    cc (front-drop t 0 4 (ltb-false (length t) 4 l), byte-back _ (bytes 1), high 2, low 2),
+    cc (whole-front headRecord l, byte-back _ (bytes 1), high 2, low 2),
     rw l (bytes 1, small 2),
   )
 
-  begins-end : getD t 0 0 ≡ endRecord → ltb (length t) 1 ≡ false → Begins endRecord t
+  begins-end : getD t 0 0 ≡ endRecord → ltb (length t) (lengthOf (shapeOf endRecord)) ≡ false → Begins endRecord t
   unfolding Begins recordFor recordFrom shapeOf lengthOf numberAt operandsOf
-  begins-end e l = (cc (front-drop t 0 1 (ltb-false (length t) 1 l)), rw l tt)
+  begins-end e l = (cc (whole-front endRecord l), rw l tt)
 
   begins : (c : ℕ) → getD t 0 0 ≡ c → ltb (length t) (lengthOf (shapeOf c)) ≡ false → (recordFor c t ≡ Broken → ⊥) → Begins c t
   unfolding recordFor lengthOf shapeOf

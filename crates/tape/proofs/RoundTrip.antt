@@ -10,10 +10,9 @@ use lib.ListN.{length, length-append}
 use borrow.Author.Tests.{le-leb}
 use Rattle.laws.proofs.Logic.{and-l, and-r}
 use Rattle.graph.specs.Graph.{versionCount}
-use Rattle.command.proofs.Limits.{within-true}
 use Rattle.room.specs.Room.{Room}
 use Rattle.room.specs.Sound.{soundRoom, maxCapacity}
-use Rattle.room.proofs.Sound.{Sound, sound-facts, heads-named}
+use Rattle.room.proofs.Sound.{Sound, capacity-range, settings-fit, sound-facts, heads-named}
 use Rattle.buffer.proofs.Parts.{Bytes}
 use Rattle.tape.specs.declared.Record.the-variants.{Start, End}
 use Rattle.tape.specs.Record.{recordBytes}
@@ -41,7 +40,7 @@ module _ (r : Room) (s : soundRoom r ≡ true) where
   named-heads c l = heads-named r s c (omega (arith, k .sixteen))
 
   small : (r .settings .capacity ≤ maxCapacity) × (length (r .versions) < maxCapacity)
-  small = omega (arith, k .fits, within-true 1 maxCapacity (r .settings .capacity) (k .capacity))
+  small = omega (arith, k .fits, capacity-range (r .settings) (k .settings))
 
   read-parts : (fuel : ℕ) → length (versionRecords (r .versions)) + length (headRecords 0 (r .heads)) < fuel
       → readOn fuel inVersions (record { settings = r .settings; versions = []; heads = [] })
@@ -57,7 +56,7 @@ module _ (r : Room) (s : soundRoom r ≡ true) where
   pub tape-content : contentOf (tapeOf r) ≡ some (contentIn r)
   unfolding contentOf
   tape-content =
-      let fits : r .settings .capacity < 65536 = omega (arith, small) in
+      let fits = settings-fit (r .settings) (k .settings) in
       rw (tape-parts, record-read (Start (r .settings)) _ fits, record-rest (Start (r .settings)) _ fits)
       (read-parts _ (simp length-append (omega arith)))
 
@@ -70,7 +69,7 @@ module _ (r : Room) (s : soundRoom r ≡ true) where
       let rise = rises (r .heads) (k .sixteen) (k .first) in
       let named = all-named (r .versions) (r .heads) named-heads in
       accepts (contentIn r)
-      (record { size = k .capacity; range = simp (enough, k .lower, k .ranged, rise, named); room = rw tape-room s })
+      (record { size = k .settings; range = simp (enough, k .lower, k .ranged, rise, named); room = rw tape-room s })
 
 -- the tape of a sound room is accepted, and gives back that room
 pub tape-back : (r : Room) → soundRoom r ≡ true

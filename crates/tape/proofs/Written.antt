@@ -1,7 +1,7 @@
 -- What was read of a tape, written again, is what stood there: a tape with a content is the records of that content and the end, and
 -- every number in them fits its field.
 -- Assumes nothing.
-use Prim.Native.Nat.{ℕ, zero, suc, _+_, _<_}
+use Prim.Native.Nat.{ℕ, zero, suc, _+_}
 use mathlib.Core.Path.{_≡_, refl, sym, _∙_, subst}
 use mathlib.Core.Bool.{Bool, true, false, cond}
 use mathlib.Core.List.{List, [], _∷_, _++_, append-assoc, append-nil}
@@ -34,7 +34,6 @@ AllFit recordOf [] = Unit {0}
 AllFit recordOf (x ∷ before) = Fits (recordOf x) × AllFit recordOf before
 
 pub record ContentFits (t : Content) : Type 0 where
-  pub capacity : t .settings .capacity < 65536
   pub versions : AllFit Version (t .versions)
   pub heads : AllFit recordOfHead (t .heads)
 
@@ -53,13 +52,13 @@ Adds t x refuse = Unit {0}
 adds : (stage : Stage) (t : Content) (x : Record) → NoHeadYet stage t → Adds t x (afterRecord stage t x)
 unfolding afterRecord versionRecords
 adds inVersions t (Start settings) p = tt
-adds inVersions t (Version node) p = (refl, simp (p, append-assoc, append-nil), p, λ f c. record { capacity = c .capacity; versions = (f, c .versions); heads = c .heads })
-adds inVersions t (Head console version) p = (refl, simp append-assoc, tt, λ f c. record { capacity = c .capacity; versions = c .versions; heads = (f, c .heads) })
+adds inVersions t (Version node) p = (refl, simp (p, append-assoc, append-nil), p, λ f c. record { versions = (f, c .versions); heads = c .heads })
+adds inVersions t (Head console version) p = (refl, simp append-assoc, tt, λ f c. record { versions = c .versions; heads = (f, c .heads) })
 adds inVersions t End p = tt
 adds inVersions t Broken p = tt
 adds inHeads t (Start settings) p = tt
 adds inHeads t (Version node) p = tt
-adds inHeads t (Head console version) p = (refl, simp append-assoc, tt, λ f c. record { capacity = c .capacity; versions = c .versions; heads = (f, c .heads) })
+adds inHeads t (Head console version) p = (refl, simp append-assoc, tt, λ f c. record { versions = c .versions; heads = (f, c .heads) })
 adds inHeads t End p = refl
 adds inHeads t Broken p = tt
 
@@ -113,7 +112,7 @@ whole-tape t c bytes e = at (recordIn t) refl e
         let start : Content = record { settings = settings; versions = []; heads = [] } in
         let rest = kept (length t) inVersions start c (drop (recordLength t) t) refl (bytes-drop (recordLength t) t bytes) e in (
           cc (whole .0, rest .0),
-          rest .1 (record { capacity = whole .1; versions = tt; heads = tt }),
+          rest .1 (record { versions = tt; heads = tt }),
         )
     at (Version node) q e = nothing-read e
     at (Head console version) q e = nothing-read e

@@ -20,11 +20,9 @@ use Rattle.graph.proofs.Counting.{held}
 use Rattle.graph.proofs.Growth.{WellFormed, same-entries, meet-entries}
 use Rattle.refusal.specs.Refusal.{firstRefusal}
 use Rattle.command.specs.Code.{consoleCount, isConsole}
-use Rattle.command.proofs.Limits.{within-true}
 use Rattle.room.specs.Room.{Room, head, heardCount}
-use Rattle.room.specs.Sound.{maxCapacity}
 use Rattle.room.specs.Boards.{boardOf}
-use Rattle.room.proofs.Sound.{Sound, sound-facts, present-console, present-head}
+use Rattle.room.proofs.Sound.{Sound, capacity-range, sound-facts, present-console, present-head}
 use Rattle.room.proofs.Steps.{common-meet}
 use Rattle.room.proofs.Counters.{tally, calls-tally}
 use Rattle.room.proofs.Lengths.{boardOf-length}
@@ -130,7 +128,7 @@ module _ (store : List ℕ) (h : holdsStore store ≡ true) where
         let g = r .versions in
         let v = head r c in
         let named : v < versionCount g = s .named c v (present-head r c p) in
-        let small : length g < 65535 = omega (arith, s .fits, within-true 1 maxCapacity (r .settings .capacity) (s .capacity)) in
+        let small : length g < 65535 = omega (arith, s .fits, capacity-range (r .settings) (s .settings)) in
         let front = wordAt-left (boardOf g v) _ (callsAt k) (omega (arith, boardOf-length g v)) in
         rw (board-shown output fits) (refl, front ∙ calls-tally g v k well-formed small named l ∙ sym (calls-count r c k))
 

@@ -15,11 +15,11 @@ use Rattle.buffer.proofs.Parts.{stands-join}
 use Rattle.buffer.proofs.Patches.{set-part, with-length, with-outside, with-stands, with-kept, word-part}
 use Rattle.graph.specs.Graph.{nodeOf, isSome}
 use Rattle.command.specs.Code.{consoleCount}
-use Rattle.command.proofs.Limits.{within-true}
 use Rattle.room.specs.Room.{Room, present, common, freshRoom}
 use Rattle.room.specs.declared.Settings.{Settings}
-use Rattle.room.specs.Sound.{maxCapacity, settingsInRange}
+use Rattle.room.specs.Sound.{settingsInRange}
 use Rattle.room.specs.Boards.{boardOf}
+use Rattle.room.proofs.Sound.{capacity-range}
 use Rattle.room.proofs.Steps.{fresh-sound}
 use Rattle.store.specs.Layout.{headerSize, nodeSize, rowSize, blockSize, storeSize, settingsAt, settingsEnd, countAt, spareAt, entriesAt, commonsEnd, commonAt, headAt, blockAt, rowAt, boardAt, commonField, settingsBytes, nodeBytes, block, encode}
 use Rattle.board.specs.Board.{boardSize}
@@ -168,15 +168,11 @@ module _ (s : List ℕ) (n : ℕ) (fits : n ≤ length s) where
       ap (λ (i : ℕ). getD cleared i 0) (sym at) ∙ getD-append-add (zeros n) (drop n s) (k - n) 0 ∙ getD-drop n s (k - n) 0
       ∙ ap (λ (i : ℕ). getD s i 0) past
 
--- settings in range have a capacity of 1 to 1,024
-pub in-size : (settings : Settings) → settingsInRange settings ≡ true → (1 ≤ settings .capacity) × (settings .capacity ≤ maxCapacity)
-in-size settings h = within-true 1 maxCapacity (settings .capacity) h
-
 filled-fresh : (s : List ℕ) (settings : Settings) → settingsInRange settings ≡ true → (fits : storeSize (settings .capacity) ≤ length s)
     → filled (cleared s (storeSize (settings .capacity)) fits) settings ≡ overwrite (encode (freshRoom settings)) s
 filled-fresh s settings range fits =
     let n = storeSize (settings .capacity) in
-    let room = in-size settings range .0 in
+    let room = capacity-range settings range .0 in
     let long = cleared-length s n fits in
     let o = filled-opened (cleared s n fits) settings (omega arith) s long (cleared-front s n fits) (cleared-rest s n fits) room in
     overwritten s _ (freshRoom settings) (fresh-sound settings range) (join-encode (freshRoom settings) (placed room o)) fits (o .long) (o .kept)
@@ -187,7 +183,7 @@ pub opened : (s x a b d : List ℕ) (settings : Settings) (end : ℕ) → settin
     → b ≡ putWord a countAt 1 → d ≡ putWord b (headAt 0) 1 → set d (rowAt 0) 1 ≡ overwrite (encode (freshRoom settings)) s
 opened s x a b d settings end range fits there front e₁ e₂ e₃ =
     let n = storeSize (settings .capacity) in
-    let room = in-size settings range .0 in
+    let room = capacity-range settings range .0 in
     let l : List ℕ = cleared s n fits in
     let long : blockAt 1 ≤ length l = omega (arith, cleared-length s n fits) in
     let is₁ : a ≡ first l settings = rw (e₁, front, there, length-take-le n s fits) in

@@ -3,7 +3,7 @@
 use native.Mathlib.Omega.{arith}
 use mathlib.Core.Path.{_∙_, sym}
 use Rattle.store.specs.Layout.{roomIn}
-use Rattle.tape.proofs.Laid.{laid-none}
+use Rattle.buffer.proofs.Laid.{laid-none}
 use Rattle.pause.proofs.Pieces.{present-piece, absent-piece}
 use Rattle.pause.proofs.write.put_console_record.Statement.{statement}
 use Rattle.pause.proofs.write.put_console_record.Tie as tie

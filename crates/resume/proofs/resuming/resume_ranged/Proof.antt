@@ -6,9 +6,8 @@ use lib.Dec.{ltb}
 use lib.ListN.{length}
 use borrow.Author.Tests.{ltb-false}
 use Rattle.buffer.proofs.Fields.{zeros-length}
-use Rattle.command.proofs.Limits.{within-true}
 use Rattle.room.specs.declared.Settings.{Settings}
-use Rattle.room.specs.Sound.{maxCapacity}
+use Rattle.room.proofs.Sound.{capacity-range}
 use Rattle.store.specs.Layout.{headerSize, storeSize}
 use Rattle.resume.specs.Content.{contentIn}
 use Rattle.resume.specs.Rows.{rowsSize}
@@ -24,7 +23,7 @@ gives-sound-room-requires c κs =
 store-size-requires : tie.Need-store-size-requires
 store-size-requires c κs =
     let start = c .before .before .before .before .before .before .before in
-    let size = within-true 1 maxCapacity (contentIn (start .args .tape .now) .settings .capacity) (start .pre .1 .1 .0) in
+    let size = capacity-range (contentIn (start .args .tape .now) .settings) (start .pre .1 .1 .0) in
     let capacity = ap (λ (x : Settings). x .capacity) (start .pre .1 .0 .0) in
     omega arith
 

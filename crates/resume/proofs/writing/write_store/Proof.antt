@@ -23,7 +23,7 @@ open-requires : tie.Need-open-requires Inv-loop μ-loop
 open-requires c κs =
     let start = c .before .before .before .before .before in
     let p = start .pre in
-    (rw (p .1 .0 .0) (sound-facts (roomOf (contentIn (start .args .tape .now))) (p .1 .1 .0 .0) .capacity), omega arith)
+    (rw (p .1 .0 .0) (sound-facts (roomOf (contentIn (start .args .tape .now))) (p .1 .1 .0 .0) .settings), omega arith)
 
 loop-holds : tie.Need-loop-holds Inv-loop μ-loop
 loop-holds c =

@@ -2,9 +2,8 @@
 -- Assumes nothing.
 use mathlib.Core.Path.{sym, _∙_, ap, ap₂}
 use borrow.Author.Tests.{not-true, not-false}
-use Rattle.command.proofs.Limits.{within-true}
+use Rattle.room.proofs.Sound.{capacity-range}
 use Rattle.room.specs.declared.Settings.{Settings}
-use Rattle.room.specs.Sound.{maxCapacity}
 use Rattle.store.specs.Check.{contentsRight}
 use Rattle.store.proofs.Judged.{too-short, out-of-range, no-room, contents-decide}
 use native.Mathlib.Omega.{arith}
@@ -32,7 +31,7 @@ returns-3 c =
 contents-right-requires : tie.Need-contents-right-requires
 contents-right-requires c κs =
     let tested = c .before .before .before in
-    let size = within-true 1 maxCapacity (tested .before .before .read-settings .result .capacity) (sym (tested .before .settings-in-range .ensures) ∙ not-false _ (tested .if2 .left)) in
+    let size = capacity-range (tested .before .before .read-settings .result) (sym (tested .before .settings-in-range .ensures) ∙ not-false _ (tested .if2 .left)) in
     omega arith
 
 returns-4 : tie.Need-returns-4

@@ -3,13 +3,14 @@
 use mathlib.Core.Path.{sym}
 use lib.Seq.{length-take-le}
 use lib.ListN.{length-set}
-use Rattle.update.proofs.Opened.{in-size, opened}
+use Rattle.room.proofs.Sound.{capacity-range}
+use Rattle.update.proofs.Opened.{opened}
 use native.Mathlib.Omega.{arith}
 use Rattle.update.proofs.open.open.Statement.{statement}
 use Rattle.update.proofs.open.open.Tie as tie
 
 store-size-requires : tie.Need-store-size-requires
-store-size-requires c κs = let size = in-size (c .before .args .settings) (c .before .pre .0) in omega arith
+store-size-requires c κs = let size = capacity-range (c .before .args .settings) (c .before .pre .0) in omega arith
 
 slice-aggregate-clear : tie.Need-slice-aggregate-clear
 slice-aggregate-clear c =
@@ -18,7 +19,7 @@ slice-aggregate-clear c =
 slice-write-s : tie.Need-slice-write-s
 slice-write-s c =
     let start = c .before .before .before .before .before .before .before .before .before .before .before .before .before .before .before .before .before .before .before .before in
-    let size = in-size (start .args .settings) (start .pre .0) in omega arith
+    let size = capacity-range (start .args .settings) (start .pre .0) in omega arith
 
 returns : tie.Need-returns
 returns c =
