@@ -18,7 +18,7 @@ use Rattle.board.specs.Board.{stripSize, stripCount, mergeStrip, mergeSt
 use Rattle.board.proofs.Length.{mergeStrips-length}
 
 -- a byte of a merged board is a byte of the merged strip
-pub strips-at : (l a b : List ℕ) (n k i : ℕ) → k < n → i < stripSize → getD (mergeStrips l a b n) (stripSize * k + i) 0 ≡ getD (mergeStrip l a b k) i 0
+strips-at : (l a b : List ℕ) (n k i : ℕ) → k < n → i < stripSize → getD (mergeStrips l a b n) (stripSize * k + i) 0 ≡ getD (mergeStrip l a b k) i 0
 unfolding mergeStrips
 strips-at l a b zero k i kn is = absurd (omega arith)
 strips-at l a b (suc n) k i kn is =

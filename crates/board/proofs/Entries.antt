@@ -77,7 +77,7 @@ module _ (p r : List ℕ) (k : ℕ) (before : length p ≡ stripSize * k) where
         (choice-placed (eqb code 0x08) _ _ (set-placed q long 10 (flagAt k) 0 (omega arith) (omega arith)) refl))))))
 
 -- the board with its strip k as the entry makes it
-pub entered : (code k x : ℕ) (s : List ℕ) → stripSize * k + stripSize ≤ length s
+entered : (code k x : ℕ) (s : List ℕ) → stripSize * k + stripSize ≤ length s
     → enter code k x s ≡ take (stripSize * k) s ++ (enter code 0 x (strip s k) ++ drop (stripSize * k + stripSize) s)
 entered code k x s h =
     ap (enter code k x) (sym (three-parts s (stripSize * k) stripSize))

@@ -46,7 +46,7 @@ and-bit a b x y =
     and-step (bit a + 2 * x) (bit b + 2 * y) ∙ rw (p, q) (omega (arith, bit-and a b, bit-le a, bit-le b))
 
 -- a byte of a row, bit by bit
-abbrev pub nested : (ℕ → Bool) → ℕ → ℕ
+abbrev nested : (ℕ → Bool) → ℕ → ℕ
 nested f v =
     bit (f v) + 2 * (bit (f (v + 1)) + 2 * (bit (f (v + 2)) + 2 * (bit (f (v + 3))
     + 2 * (bit (f (v + 4)) + 2 * (bit (f (v + 5)) + 2 * (bit (f (v + 6)) + 2 * (bit (f (v + 7)) + 2 * 0)))))))

@@ -79,7 +79,7 @@ module _ (r : Room) (rest : List ℕ) (s : soundRoom r ≡ true) where
       go false f = refl
 
   -- a command: its answer, and the buffer afterwards
-  pub command-called : (c : List ℕ) → commandOutcome (encode r ++ rest) c
+  command-called : (c : List ℕ) → commandOutcome (encode r ++ rest) c
       ≡ record { reply = replied (answerIn r (decode c)) 0; buffer = encode (roomAfter r (decode c)) ++ rest }
   unfolding commandOutcome
   command-called c = step-called c (decode c) refl

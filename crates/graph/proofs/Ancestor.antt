@@ -12,8 +12,8 @@ use lib.Dec.{eqb}
 use borrow.Author.Tests.{eqb-true, eq-eqb, ne-eqb}
 use Rattle.laws.proofs.Logic.{clash, and-l, and-r, or-l, or-r, or-split, cond-true, cond-false}
 use Rattle.graph.specs.declared.Node.{Node}
-use Rattle.graph.specs.Graph.{Graph, versionCount, someParent, ancestor, nodeOf, isEntryNode, isEntry, everyVersion, parentsLower}
-use Rattle.graph.proofs.Parent.{Parent, a-parent, parent-to, parent-from, parent-lower}
+use Rattle.graph.specs.Graph.{Graph, versionCount, someParent, ancestor, nodeOf, isEntryNode, isEntry, everyVersion}
+use Rattle.graph.proofs.Parent.{Parent, parent-to, parent-from}
 
 -- a test of every version holds at the newest, and of those before it
 pub every-new : (f : Graph → Node → Bool) (n : Node) (g : Graph) → everyVersion f (n ∷ g) ≡ true → f g n ≡ true
@@ -125,16 +125,6 @@ ancestor-trans (n ∷ g) u v w h k =
       | same a b ↦ rw (b ∙ sym a) h
       | above {p} r t b ↦ rw b (ancestor-above g u r (older p t))
       | before t l ↦ cc (ancestor-old n g u w l, older w t)
-    ]
-
--- version 0 is behind all
-ancestor-zero : (g : Graph) (v : ℕ) → everyVersion parentsLower g ≡ true → v < versionCount g → ancestor g 0 v ≡ true
-ancestor-zero [] v w l = only-self 0 v refl (omega arith)
-ancestor-zero (n ∷ g) v w l =
-    let older : (p : ℕ) → p < versionCount g → ancestor g 0 p ≡ true = λ p. ancestor-zero g p (every-old parentsLower n g w) in
-    elim (ℕ-discrete v (versionCount g)) [
-      | yes e ↦ let r = a-parent n in rw e (ancestor-above g 0 (r .1) (older (r .0) (parent-lower g (every-new parentsLower n g w) (r .1))))
-      | no d ↦ cc (ancestor-other n g 0 v d, older v (omega arith))
     ]
 
 -- what has a node is a version, and not version 0

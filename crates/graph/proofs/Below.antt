@@ -4,7 +4,7 @@ use Prim.Native.Nat.{ℕ, zero, suc, _+_, _≤_, _<_}
 use mathlib.Core.Path.{_≡_, refl}
 use mathlib.Core.Logic.{inl, inr}
 use mathlib.Core.Bool.{Bool, true, false, cond, _&&_, _||_}
-use mathlib.Core.Option.{none, some}
+use mathlib.Core.Option.{some}
 use native.Mathlib.Omega.{arith}
 use native.Mathlib.Decide.{ℕ-discrete}
 use Rattle.laws.proofs.Logic.{clash, decide, and-l, and-r, and-i, or-l, or-r, or-split}
@@ -52,15 +52,6 @@ highest-some (suc n) f m h =
       | inr t ↦ let r = highest-some n f m (cc) in (omega arith, r .1, λ k a l. more (λ j. m < j → f j ≡ false) n (λ j b c. r .2 j c b) (λ _. t) k l a)
     ]
 
-highest-none : (n : ℕ) (f : ℕ → Bool) → highestBelow n f ≡ none → (k : ℕ) → k < n → f k ≡ false
-unfolding highestBelow
-highest-none zero f h = λ k l. absurd (omega arith)
-highest-none (suc n) f h =
-    elim (decide (f n)) [
-      | inl t ↦ let z : _≡_ {A = ℕ} 0 1 = cc in absurd (omega arith)
-      | inr t ↦ more (λ k. f k ≡ false) n (highest-none n f (cc)) t
-    ]
-
 pub highest-of : (n : ℕ) (f : ℕ → Bool) (m : ℕ) → m < n → f m ≡ true → ((k : ℕ) → m < k → k < n → f k ≡ false) → highestBelow n f ≡ some m
 unfolding highestBelow
 highest-of zero f m l t h = absurd (omega arith)
@@ -88,11 +79,6 @@ weight-mono false b h = omega arith
 weight-both : (a b : Bool) → cond {A = ℕ} (a || b) 1 0 + cond (a && b) 1 0 ≡ cond a 1 0 + cond b 1 0
 weight-both true b = omega arith
 weight-both false b = omega arith
-
-count-mono : (n : ℕ) (f g : ℕ → Bool) → ((k : ℕ) → k < n → f k ≡ true → g k ≡ true) → countBelow n f ≤ countBelow n g
-unfolding countBelow
-count-mono zero f g h = omega arith
-count-mono (suc n) f g h = omega (arith, count-mono n f g (λ k l. h k (omega arith)), weight-mono (f n) (g n) (h n (omega arith)))
 
 -- numbers that do not pass add nothing
 pub count-past : (n m : ℕ) (f : ℕ → Bool) → n ≤ m → ((k : ℕ) → n ≤ k → f k ≡ false) → countBelow m f ≡ countBelow n f

@@ -18,11 +18,6 @@ pub data Parent : Node → ℕ → Type 0 where
   receiver : {p q : Version} → Parent (Merge p q) (p .0)
   giver : {p q : Version} → Parent (Merge p q) (q .0)
 
--- every version after version 0 has a parent
-pub a-parent : (n : Node) → (p : ℕ) × Parent n p
-a-parent (Entry p code strip operand) = (p .0, sole)
-a-parent (Merge p q) = (p .0, receiver)
-
 pub parent-to : (f : ℕ → Bool) (n : Node) → someParent f n ≡ true → (p : ℕ) × Parent n p × (f p ≡ true)
 parent-to f (Entry p code strip operand) t = (p .0, sole, t)
 parent-to f (Merge p q) t = elim (or-split (f (p .0)) (f (q .0)) t) [ inl s ↦ (p .0, receiver, s) | inr s ↦ (q .0, giver, s) ]

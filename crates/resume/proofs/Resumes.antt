@@ -35,7 +35,7 @@ refused : (o : Option Content) (old : List ℕ) (n : ℕ) → 0 < n → n ≡ re
 unfolding resumedStore
 refused o old n l e = (e, sym (cond-false _ _ _ (ap (λ (k : ℕ). eqb k 0) (sym e) ∙ ne-eqb n 0 (omega arith))))
 
--- no refusal is left where the room is sound and the buffer long enough
+-- where no refusal is left, the room is sound and the buffer long enough
 pub none-left : (sound short : Bool) → firstRefusal (10 when not sound ∷ 19 when short ∷ []) ≡ 0 → (sound ≡ true) × (short ≡ false)
 unfolding firstRefusal
 none-left true true e = absurd (omega arith)

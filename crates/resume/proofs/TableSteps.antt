@@ -50,11 +50,6 @@ module _ (rows t : List ℕ) where
   pairs-own c (suc d) k dc cn kn = pair-own (withPairs rows t c d) c d _ k dc cn kn ∙ pairs-own c d k (omega arith) cn kn
 
 module _ (rows t : List ℕ) where
-  consoles-length : (c : ℕ) → length (withConsoles rows t c) ≡ length t
-  unfolding withConsoles
-  consoles-length zero = refl
-  consoles-length (suc c) = pairs-length rows (withConsoles rows t c) c c ∙ consoles-length c
-
   pub consoles-own : (c k : ℕ) → c ≤ consoleCount → k < consoleCount → commonIn (withConsoles rows t c) k k ≡ commonIn t k k
   unfolding withConsoles
   consoles-own zero k cn kn = refl

@@ -1,4 +1,4 @@
--- How long a command can be: its code says 3 to 5 bytes.
+-- How long a command can be: 1 to 5 bytes.
 -- Assumes nothing.
 use Prim.Native.Nat.{ℕ, _≤_}
 use mathlib.Core.Path.{_≡_, refl}

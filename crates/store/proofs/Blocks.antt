@@ -1,5 +1,5 @@
 -- Where the parts of a store's encoding stand in it and how long each is: the header with its fields, its row and its table, and the
--- block of each version with its record, its row and its board.
+-- block of each version with its node, its row and its board.
 -- Assumes nothing.
 use mathlib.Core.Path.{_≡_, refl, subst₂}
 use mathlib.Core.List.{List, _++_}
@@ -108,8 +108,8 @@ module _ {s : List ℕ} (g : Graph) (v : ℕ) (h : Stands s (blockAt v) (block g
   unfolding block
   stands-ahead = stands-left (node ++ lineage) (boardOf g v) h
 
-  block-record : Stands s (blockAt v) (nodeBytes g (nodeOf g v))
-  block-record = stands-left node lineage stands-ahead
+  block-node : Stands s (blockAt v) (nodeBytes g (nodeOf g v))
+  block-node = stands-left node lineage stands-ahead
 
   pub block-row : Stands s (rowAt v) (row (λ u. ancestor g u v) rowSize)
   block-row = stands-right node lineage stands-ahead (rw nodeBytes-length)
@@ -149,7 +149,7 @@ module _ {s : List ℕ} (r : Room) (h : Stands s 0 (encode r)) where
   unfolding encode
   stands-used = stands-left (header r ++ filledOf r) (freeOf r) h
 
-  pub stands-header : Stands s 0 (header r)
+  stands-header : Stands s 0 (header r)
   stands-header = stands-left (header r) (filledOf r) stands-used
 
   stands-fields : Stands s 0 (startOf r ++ entriesOf r ++ tableOf r)
@@ -204,8 +204,8 @@ module _ {s : List ℕ} (r : Room) (h : Stands s 0 (encode r)) where
       (stands-right (header r) (filledOf r) stands-used (rw header-length)) l
 
   module _ (v : ℕ) (l : v < versionCount (r .versions)) where
-    pub stands-record : Stands s (blockAt v) (nodeBytes (r .versions) (nodeOf (r .versions) v))
-    stands-record = block-record (r .versions) v (stands-block v l)
+    pub stands-node : Stands s (blockAt v) (nodeBytes (r .versions) (nodeOf (r .versions) v))
+    stands-node = block-node (r .versions) v (stands-block v l)
 
     pub stands-row : Stands s (rowAt v) (row (λ u. ancestor (r .versions) u v) rowSize)
     stands-row = block-row (r .versions) v (stands-block v l)

@@ -23,12 +23,12 @@ use Rattle.room.specs.Room.{Room, headOf, present, head, common}
 use Rattle.room.specs.Sound.{entryInRange, namesVersion}
 use Rattle.store.specs.Layout.{fieldWhere, blockAt, commonAt, headAt, countAt, commonField, nodeBytes, encode, nodeIn, versionsIn, headFrom, headsIn, settingsIn}
 use Rattle.store.proofs.Diagonal.{meetNumber-below, meetNumber-self}
-use Rattle.store.proofs.Blocks.{stands-common, stands-record, stands-settings, stands-count}
+use Rattle.store.proofs.Blocks.{stands-common, stands-node, stands-settings, stands-count}
 use Rattle.command.proofs.Limits.{operand-below}
 use Rattle.store.proofs.Ranges.{Ranges}
 use Rattle.store.proofs.SettingsBytes.{settings-back}
 
--- a version in range reads back from its record; the graph g that its base is taken from does not matter
+-- a version in range reads back from its node; the graph g that its base is taken from does not matter
 node-read : (s : List ℕ) (v : ℕ) (g before : Graph) (n : Node)
     → Stands s (blockAt v) (nodeBytes g (some n))
     → length before < 1024 → parentsLower before n ≡ true → entryInRange before n ≡ true
@@ -54,7 +54,7 @@ node-read s v g before (Merge p q) h l i j =
     let fourth = stands-field h 6 (q .0) (omega arith) refl refl (omega arith) in
     rw (first, third, fourth)
 
--- the versions of h read back where their records stand, whatever graph g the bases are taken from
+-- the versions of h read back where their nodes stand, whatever graph g the bases are taken from
 nodes-read : (s : List ℕ) (g h : Graph)
     → ((v : ℕ) → v ≤ length h → Stands s (blockAt v) (nodeBytes g (nodeOf h v)))
     → length h < 1024 → everyVersion parentsLower h ≡ true → everyVersion entryInRange h ≡ true
@@ -101,7 +101,7 @@ module _ (s : List ℕ) (r : Room) (h : Stands s 0 (encode r)) (k : Ranges r) wh
 
   pub versions-read : versionsIn s (length (r .versions)) ≡ r .versions
   versions-read =
-      nodes-read s (r .versions) (r .versions) (λ v l. stands-record r h v (omega arith)) (omega arith) (k .parents) (k .entries)
+      nodes-read s (r .versions) (r .versions) (λ v l. stands-node r h v (omega arith)) (omega arith) (k .parents) (k .entries)
 
   -- the field of any two consoles
   pub common-read : (c d : ℕ) → c < consoleCount → d < consoleCount → wordAt s (commonAt c d) ≡ commonField r c d

@@ -22,7 +22,7 @@ use Rattle.room.proofs.Lengths.{boardOf-length}
 use Rattle.store.specs.Layout.{headerSize, rowSize, storeSize, blockAt, encode, roomIn, holdsStore}
 use Rattle.store.specs.Check.{entriesPart, commonIn}
 use Rattle.store.proofs.Ranges.{Ranges, ranges}
-use Rattle.store.proofs.Blocks.{stands-entries, stands-record, stands-row, stands-board}
+use Rattle.store.proofs.Blocks.{stands-entries, stands-node, stands-row, stands-board}
 use Rattle.store.proofs.Reading.{common-read}
 use Rattle.store.proofs.RoundTrip.{holds-sound, holds-front}
 use Rattle.store.proofs.Told.{Held}
@@ -67,7 +67,7 @@ module _ (s : List ℕ) (t : holdsStore s ≡ true) where
             let k = whole-small in
             let n = whole-block v l in
             record {
-              node = stands-record (roomIn s) whole-front v l;
+              node = stands-node (roomIn s) whole-front v l;
               line = stands-part rowSize (stands-row (roomIn s) whole-front v l) (rowFrom-length (λ u. ancestor g u v) 0 rowSize) (omega arith);
               board = stands-part boardSize (stands-board (roomIn s) whole-front v l) (boardOf-length g v) (omega arith);
               listed = ap (λ (e : List ℕ). member e v) whole-entries ∙ member-row (isEntry g) rowSize v (omega arith);

@@ -29,14 +29,14 @@ use Rattle.tape.proofs.Records.{unknown}
 use Rattle.tape.proofs.Reading.{go, read-step}
 use Rattle.tape.proofs.Sorts.{NoStart, not-read}
 
--- a record that is there takes at least a byte, and is there whole
+-- a code of no length is no record's
 lengthless : (c : ℕ) (o : Operands) → lengthOf (shapeOf c) ≡ 0 → recordFrom c o ≡ record-is.Broken
 unfolding shapeOf lengthOf
 lengthless c o h =
     unknown c o (λ e. let z = rw e at h in omega arith) (λ e. let z = rw e at h in omega arith) (λ e. let z = rw e at h in omega arith)
     (λ e. let z = rw e at h in omega arith) (λ e. let z = rw e at h in omega arith)
 
--- what the place past a record is, where a record is there
+-- a record that is there is there whole, and takes at least a byte
 record Here (t : List ℕ) : Type 0 where
   whole : recordLength t ≤ length t
   long : 0 < recordLength t
@@ -146,6 +146,7 @@ module _ {tape : List ℕ} {start : ℕ} {settings : Settings} {at versions head
     scanning-refused k = sym (step refuse (agreed Misplaced k))
 
     module _ {next : ℕ} (n : next ≡ placeAfter tape at) where
+      -- what the place past a record is, where a record is there
       ahead : Here rest → next ≡ at + recordLength rest
       ahead h = n ∙ rw (le-ltb (length rest) (recordLength rest) (h .whole))
 

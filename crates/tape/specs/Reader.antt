@@ -1,5 +1,5 @@
 -- "The reading place moves past one whole record at a time."
-use Prim.Native.Nat.{ℕ, zero, suc, _+_, _-_, _*_}
+use Prim.Native.Nat.{ℕ, suc, _+_, _-_, _*_}
 use mathlib.Core.Bool.{cond}
 use mathlib.Core.List.{List}
 use mathlib.Core.Option.{Option, none, some}
@@ -8,14 +8,13 @@ use lib.ListN.{length, getD, drop}
 use Rattle.graph.specs.declared.Node.{Node}
 use Rattle.graph.specs.Graph.{Graph, merge}
 use Rattle.command.specs.Code.{startRecord, headRecord, endRecord, shapeOf, lengthOf}
-use Rattle.room.specs.declared.Settings.{Settings}
 use Rattle.tape.specs.declared.Record.{Record}
 use Rattle.tape.specs.declared.Record.the-variants as record-is
 use Rattle.tape.specs.declared.scan.Role.{Role}
 use Rattle.tape.specs.declared.scan.Role.the-variants as role-is
 use Rattle.tape.specs.declared.scan.Scanned.{Scanned}
 use Rattle.tape.specs.declared.scan.Scanned.the-variants.{Whole, Broken}
-use Rattle.tape.specs.Record.{recordIn, recordLength, noTape}
+use Rattle.tape.specs.Record.{recordLength, noTape}
 use Rattle.tape.specs.Tape.{Content, versionRecords}
 
 -- the place past the record at a place; where no whole record stands there, the place itself
@@ -89,14 +88,3 @@ roleOf (record-is.Version node) heads = cond (eqb heads 0) role-is.Version role-
 roleOf (record-is.Head console version) heads = role-is.Head
 roleOf record-is.End heads = cond (eqb heads 0) role-is.Misplaced role-is.End
 roleOf record-is.Broken heads = role-is.Misplaced
-
--- the scan of the rest of a tape, with so many versions and heads behind it; the first number bounds the records, as in `readOn`
-unfoldable pub scanOn : ℕ → Settings → ℕ → ℕ → List ℕ → Scanned
-scanOn zero settings versions heads rest = Broken
-scanOn (suc k) settings versions heads rest =
-    elim (roleOf (recordIn rest) heads) [
-      | role-is.Misplaced ↦ Broken
-      | role-is.Version ↦ scanOn k settings (suc versions) heads (drop (recordLength rest) rest)
-      | role-is.Head ↦ scanOn k settings versions (suc heads) (drop (recordLength rest) rest)
-      | role-is.End ↦ cond (eqb (length rest) (recordLength rest)) (Whole settings versions heads) Broken
-    ]

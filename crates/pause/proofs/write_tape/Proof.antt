@@ -20,9 +20,6 @@ put-start-record-requires c κs =
 version-count-requires : tie.Need-version-count-requires
 version-count-requires c κs = c .before .before .before .before .before .before .before .pre .0
 
-sub-put-version-records : tie.Need-sub-put-version-records
-sub-put-version-records c = omega arith
-
 put-version-records-requires : tie.Need-put-version-records-requires
 put-version-records-requires c κs =
     let count = c .before in
@@ -42,9 +39,6 @@ put-end-record-requires c κs =
     let start = count .before .before .before .before .before .before .before .before in
     omega (arith, tape-size (start .args .s .now) (count .version-count .result - 1) (omega arith))
 
-same-length : tie.Need-same-length
-same-length c = omega arith
-
 returns : tie.Need-returns
 returns c =
     let end = c .before .before in
@@ -59,13 +53,4 @@ returns c =
 pub write-tape-spec : {M : Type 1} → statement M
 write-tape-spec =
     tie.close
-    (tie.spec
-    settings-of-requires
-    put-start-record-requires
-    version-count-requires
-    sub-put-version-records
-    put-version-records-requires
-    put-head-records-requires
-    put-end-record-requires
-    same-length
-    returns)
+    (tie.spec settings-of-requires put-start-record-requires version-count-requires (λ c. omega arith) put-version-records-requires put-head-records-requires put-end-record-requires (λ c. omega arith) returns)

@@ -8,12 +8,6 @@ use borrow.Author.Needs.{needs}
 use Rattle.session.proofs.command_length.Statement.{statement}
 use Rattle.session.proofs.command_length.Tie as tie
 
-is-command-code-requires : tie.Need-is-command-code-requires
-is-command-code-requires c κs = search needs
-
-widths-of-requires : tie.Need-widths-of-requires
-widths-of-requires c κs = search needs
-
 length-of-requires : tie.Need-length-of-requires
 length-of-requires c κs = rw (c .widths-of .ensures .0) (narrow-shape (c .before .before .before .args .code))
 
@@ -29,4 +23,4 @@ returns-2 c = length-unknown (c .before .before .args .code) (sym (c .before .is
 pub command-length-spec : {M : Type 1} → statement M
 command-length-spec =
     tie.close
-    (tie.spec is-command-code-requires widths-of-requires length-of-requires returns returns-2)
+    (tie.spec (λ c κs. search needs) (λ c κs. search needs) length-of-requires returns returns-2)

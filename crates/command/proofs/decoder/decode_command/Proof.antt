@@ -12,9 +12,6 @@ use Rattle.command.proofs.decoder.decode_command.Tie as tie
 returns : tie.Need-returns
 returns c = decoded-bytes _ _ (λ k. c .before .shared-slice-known .given k .fits) (refused-empty _ (c .if1 .taken))
 
-shared-slice-read-wide : tie.Need-shared-slice-read-wide
-shared-slice-read-wide c = omega arith
-
 returns-2 : tie.Need-returns-2
 returns-2 c =
     let n = c .before in
@@ -66,5 +63,4 @@ returns-5 c =
 pub decode-command-spec : {M : Type 1} → statement M
 decode-command-spec =
     tie.close
-    (tie.spec returns shared-slice-read-wide (λ c κs. tt) (λ c κs. tt) (λ c κs. tt) returns-2 (λ c κs. tt) length-of-requires returns-3
-    operands-of-requires (λ c κs. tt) returns-4 (λ c κs. tt) returns-5)
+    (tie.spec returns (λ c. omega arith) (λ c κs. tt) (λ c κs. tt) (λ c κs. tt) returns-2 (λ c κs. tt) length-of-requires returns-3 operands-of-requires (λ c κs. tt) returns-4 (λ c κs. tt) returns-5)

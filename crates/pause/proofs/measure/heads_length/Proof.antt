@@ -22,15 +22,6 @@ loop-holds c = measured-none (head-pieces (roomIn (c .before .args .s .now))) co
 console-length-requires : tie.Need-console-length-requires Inv-loop μ-loop
 console-length-requires c κs = (c .before .before .before .pre, omega arith)
 
-add-sum : tie.Need-add-sum Inv-loop μ-loop
-add-sum c = omega arith
-
-add-c : tie.Need-add-c Inv-loop μ-loop
-add-c c = omega arith
-
-loop-less : tie.Need-loop-less Inv-loop μ-loop
-loop-less c = omega arith
-
 loop-again : tie.Need-loop-again Inv-loop μ-loop
 loop-again c =
     let loop = c .before in
@@ -42,13 +33,4 @@ returns c = measured-all (c .before .loop .inv) (omega arith)
 pub heads-length-spec : {M : Type 1} → statement M
 heads-length-spec =
     tie.close
-    (tie.spec
-    Inv-loop
-    μ-loop
-    loop-holds
-    console-length-requires
-    add-sum
-    add-c
-    loop-less
-    loop-again
-    returns)
+    (tie.spec Inv-loop μ-loop loop-holds console-length-requires (λ c. omega arith) (λ c. omega arith) (λ c. omega arith) loop-again returns)

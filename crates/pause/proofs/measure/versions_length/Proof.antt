@@ -21,21 +21,6 @@ abbrev μ-loop : tie.MeasureT-loop
 loop-holds : tie.Need-loop-holds Inv-loop μ-loop
 loop-holds c = measured-none (version-pieces (c .before .args .s .now)) _
 
-add-k : tie.Need-add-k Inv-loop μ-loop
-add-k c = omega arith
-
-read-node-requires : tie.Need-read-node-requires Inv-loop μ-loop
-read-node-requires c κs = omega arith
-
-version-length-requires : tie.Need-version-length-requires Inv-loop μ-loop
-version-length-requires c κs = tt
-
-add-sum : tie.Need-add-sum Inv-loop μ-loop
-add-sum c = omega arith
-
-loop-less : tie.Need-loop-less Inv-loop μ-loop
-loop-less c = omega arith
-
 loop-again : tie.Need-loop-again Inv-loop μ-loop
 loop-again c =
     let loop = c .before .before in
@@ -48,14 +33,4 @@ returns c = measured-all (c .before .loop .inv) (omega arith)
 pub versions-length-spec : {M : Type 1} → statement M
 versions-length-spec =
     tie.close
-    (tie.spec
-    Inv-loop
-    μ-loop
-    loop-holds
-    add-k
-    read-node-requires
-    version-length-requires
-    add-sum
-    loop-less
-    loop-again
-    returns)
+    (tie.spec Inv-loop μ-loop loop-holds (λ c. omega arith) (λ c κs. omega arith) (λ c κs. tt) (λ c. omega arith) (λ c. omega arith) loop-again returns)

@@ -21,9 +21,6 @@ put-head-record-requires c κs =
     let piece = present-piece (roomIn (start .args .s .now)) (start .args .c .0) (sym (found .is-present .ensures) ∙ c .before .before .if1 .taken) in
     rw (← piece) at (start .pre .1 .1)
 
-same-length : tie.Need-same-length
-same-length c = omega arith
-
 returns : tie.Need-returns
 returns c =
     let call = c .before .before in
@@ -39,4 +36,4 @@ returns-2 c =
 
 pub put-console-record-spec : {M : Type 1} → statement M
 put-console-record-spec =
-    tie.close (tie.spec is-present-requires head-of-requires put-head-record-requires same-length returns returns-2)
+    tie.close (tie.spec is-present-requires head-of-requires put-head-record-requires (λ c. omega arith) returns returns-2)

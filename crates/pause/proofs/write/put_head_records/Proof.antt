@@ -25,12 +25,6 @@ put-console-record-requires c κs =
     let start = loop .before .before .before .before in
     (start .pre .0, (omega arith, piled-fits (head-pieces (roomIn (start .args .s .now))) (loop .before .loop .inv) (loop .loop-test .taken)))
 
-add-c : tie.Need-add-c Inv-loop μ-loop
-add-c c = omega arith
-
-loop-less : tie.Need-loop-less Inv-loop μ-loop
-loop-less c = omega arith
-
 loop-again : tie.Need-loop-again Inv-loop μ-loop
 loop-again c =
     let call = c .before .before in
@@ -46,13 +40,4 @@ returns c = piled-all (c .before .loop .inv) (omega arith)
 pub put-head-records-spec : {M : Type 1} → statement M
 put-head-records-spec =
     tie.close
-    (tie.spec
-    Inv-loop
-    μ-loop
-    loop-holds
-    put-console-record-requires
-    add-c
-    loop-less
-    loop-again
-    same-length
-    returns)
+    (tie.spec Inv-loop μ-loop loop-holds put-console-record-requires (λ c. omega arith) (λ c. omega arith) loop-again same-length returns)

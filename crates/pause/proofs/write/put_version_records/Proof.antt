@@ -17,19 +17,10 @@ abbrev μ-loop : tie.MeasureT-loop
 loop-holds : tie.Need-loop-holds Inv-loop μ-loop
 loop-holds c = piled-none (version-pieces (c .before .before .args .s .now)) _ _ _ (c .before .before .pre .1)
 
-add-k : tie.Need-add-k Inv-loop μ-loop
-add-k c = omega arith
-
-read-node-requires : tie.Need-read-node-requires Inv-loop μ-loop
-read-node-requires c κs = omega arith
-
 put-version-record-requires : tie.Need-put-version-record-requires Inv-loop μ-loop
 put-version-record-requires c κs =
     let loop = c .before .before in
     rw (c .read-node .ensures) (piled-fits (version-pieces (loop .before .before .before .before .args .s .now)) (loop .before .loop .inv) (loop .loop-test .taken))
-
-loop-less : tie.Need-loop-less Inv-loop μ-loop
-loop-less c = omega arith
 
 loop-again : tie.Need-loop-again Inv-loop μ-loop
 loop-again c =
@@ -47,14 +38,4 @@ returns c = piled-all (c .before .loop .inv) (omega arith)
 pub put-version-records-spec : {M : Type 1} → statement M
 put-version-records-spec =
     tie.close
-    (tie.spec
-    Inv-loop
-    μ-loop
-    loop-holds
-    add-k
-    read-node-requires
-    put-version-record-requires
-    loop-less
-    loop-again
-    same-length
-    returns)
+    (tie.spec Inv-loop μ-loop loop-holds (λ c. omega arith) (λ c κs. omega arith) put-version-record-requires (λ c. omega arith) loop-again same-length returns)

@@ -27,9 +27,6 @@ store-size-requires c κs =
     let capacity = ap (λ (x : Settings). x .capacity) (start .pre .1 .0 .0) in
     omega arith
 
-last-refusal-requires : tie.Need-last-refusal-requires
-last-refusal-requires c κs = tt
-
 write-store-requires : tie.Need-write-store-requires
 write-store-requires c κs =
     let then = c .before .before .before in
@@ -68,5 +65,4 @@ returns-2 c =
 pub resume-ranged-spec : {M : Type 1} → statement M
 resume-ranged-spec =
     tie.close
-    (tie.spec (λ c. omega arith) (λ c. omega arith) gives-sound-room-requires store-size-requires last-refusal-requires (λ c. omega arith)
-    (λ c. omega arith) write-store-requires (λ c. omega arith) returns returns-2)
+    (tie.spec (λ c. omega arith) (λ c. omega arith) gives-sound-room-requires store-size-requires (λ c κs. tt) (λ c. omega arith) (λ c. omega arith) write-store-requires (λ c. omega arith) returns returns-2)

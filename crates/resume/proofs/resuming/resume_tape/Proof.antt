@@ -6,9 +6,6 @@ use Rattle.resume.proofs.Resumes.{said-of, scan-read, scan-refused}
 use Rattle.resume.proofs.resuming.resume_tape.Statement.{statement}
 use Rattle.resume.proofs.resuming.resume_tape.Tie as tie
 
-scan-refusal-requires : tie.Need-scan-refusal-requires
-scan-refusal-requires c κs = tt
-
 returns : tie.Need-returns
 returns c =
     let scanned = c .before .before .before in
@@ -34,5 +31,4 @@ returns-2 c =
 pub resume-tape-spec : {M : Type 1} → statement M
 resume-tape-spec =
     tie.close
-    (tie.spec (λ c κs. omega arith) (λ c. omega arith) (λ c. omega arith) scan-refusal-requires returns resume-whole-requires
-    (λ c. omega arith) returns-2)
+    (tie.spec (λ c κs. omega arith) (λ c. omega arith) (λ c. omega arith) (λ c κs. tt) returns resume-whole-requires (λ c. omega arith) returns-2)

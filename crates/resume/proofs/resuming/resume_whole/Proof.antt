@@ -37,10 +37,7 @@ resume-ranged-requires c κs =
     let ok = not-false (seen .result .ok) (passed .if2 .left) in
     (start .pre .0, ((p .0, p .1, seen .ensures .1 ok, p .2), (size, sym (seen .ensures .0) ∙ ok)))
 
-returns-3 : tie.Need-returns-3
-returns-3 c = search needs
-
 pub resume-whole-spec : {M : Type 1} → statement M
 resume-whole-spec =
     tie.close
-    (tie.spec (λ c κs. omega arith) returns (λ c κs. search needs) returns-2 resume-ranged-requires (λ c. omega arith) returns-3)
+    (tie.spec (λ c κs. omega arith) returns (λ c κs. search needs) returns-2 resume-ranged-requires (λ c. omega arith) (λ c. search needs))

@@ -35,12 +35,6 @@ returns c =
     let a = w .before .before .args in
     sym (some-of consoleCount (splits (roomIn (a .s .now)) (a .c .0) (a .d .0)) (w .loop .k) (omega arith) (sym (c .before .splits-at .ensures) ∙ c .if1 .taken))
 
-add-k : tie.Need-add-k Inv-loop μ-loop
-add-k c = omega arith
-
-loop-less : tie.Need-loop-less Inv-loop μ-loop
-loop-less c = omega arith
-
 loop-again : tie.Need-loop-again Inv-loop μ-loop
 loop-again c =
     let w = c .before .before .before in
@@ -57,13 +51,4 @@ returns-2 c =
 pub some-third-splits-spec : {M : Type 1} → statement M
 some-third-splits-spec =
     tie.close
-    (tie.spec
-    Inv-loop
-    μ-loop
-    loop-holds
-    splits-at-requires
-    returns
-    add-k
-    loop-less
-    loop-again
-    returns-2)
+    (tie.spec Inv-loop μ-loop loop-holds splits-at-requires returns (λ c. omega arith) (λ c. omega arith) loop-again returns-2)

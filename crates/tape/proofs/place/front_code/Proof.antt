@@ -8,14 +8,8 @@ use Rattle.tape.proofs.place.front_code.Tie as tie
 returns : tie.Need-returns
 returns c = no-code (c .before .before .args .t .now) (c .if1 .taken)
 
-shared-slice-read-wide : tie.Need-shared-slice-read-wide
-shared-slice-read-wide c = omega arith
-
-wide-requires : tie.Need-wide-requires
-wide-requires c κs = tt
-
 returns-2 : tie.Need-returns-2
 returns-2 c = c .wide .ensures .0
 
 pub front-code-spec : {M : Type 1} → statement M
-front-code-spec = tie.close (tie.spec returns shared-slice-read-wide wide-requires returns-2)
+front-code-spec = tie.close (tie.spec returns (λ c. omega arith) (λ c κs. tt) returns-2)

@@ -10,27 +10,15 @@ use Rattle.tape.proofs.Places.{record-short, record-found}
 use Rattle.tape.proofs.place.record_in.Statement.{statement}
 use Rattle.tape.proofs.place.record_in.Tie as tie
 
-record-length-requires : tie.Need-record-length-requires
-record-length-requires c κs = tt
-
 returns : tie.Need-returns
 returns c =
     record-begins _ _ (λ i. c .before .before .shared-slice-known .given i .fits) (record-short _ _ (c .before .record-length .ensures) (c .if1 .taken))
-
-front-code-requires : tie.Need-front-code-requires
-front-code-requires c κs = tt
-
-widths-of-requires : tie.Need-widths-of-requires
-widths-of-requires c κs = tt
 
 operands-of-requires : tie.Need-operands-of-requires
 operands-of-requires c κs =
     let shape = c .widths-of .ensures .0 in
     let long = ap lengthOf shape ∙ ap (λ (k : ℕ). lengthOf (shapeOf k)) (c .before .front-code .ensures) in
     (rw shape (narrow-shape _), omega arith)
-
-record-from-requires : tie.Need-record-from-requires
-record-from-requires c κs = tt
 
 returns-2 : tie.Need-returns-2
 returns-2 c =
@@ -43,11 +31,4 @@ returns-2 c =
 pub record-in-spec : {M : Type 1} → statement M
 record-in-spec =
     tie.close
-    (tie.spec
-    record-length-requires
-    returns
-    front-code-requires
-    widths-of-requires
-    operands-of-requires
-    record-from-requires
-    returns-2)
+    (tie.spec (λ c κs. tt) returns (λ c κs. tt) (λ c κs. tt) operands-of-requires (λ c κs. tt) returns-2)

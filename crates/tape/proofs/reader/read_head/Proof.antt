@@ -9,12 +9,6 @@ use Rattle.tape.proofs.Sorts.{no-head}
 use Rattle.tape.proofs.reader.read_head.Statement.{statement}
 use Rattle.tape.proofs.reader.read_head.Tie as tie
 
-read-at-requires : tie.Need-read-at-requires
-read-at-requires c κs = omega arith
-
-enum-known-found : tie.Need-enum-known-found
-enum-known-found c = search needs
-
 returns : tie.Need-returns
 returns c =
     let read = c .before .read-at in
@@ -28,4 +22,4 @@ returns-2 c =
     (ap (λ (h : ℕ × ℕ). h .0) said, ap (λ (h : ℕ × ℕ). h .1) said, read .1, read .2)
 
 pub read-head-spec : {M : Type 1} → statement M
-read-head-spec = tie.close (tie.spec read-at-requires enum-known-found returns returns-2)
+read-head-spec = tie.close (tie.spec (λ c κs. omega arith) (λ c. search needs) returns returns-2)

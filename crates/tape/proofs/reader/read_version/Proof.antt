@@ -8,12 +8,6 @@ use Rattle.tape.proofs.Sorts.{no-node}
 use Rattle.tape.proofs.reader.read_version.Statement.{statement}
 use Rattle.tape.proofs.reader.read_version.Tie as tie
 
-read-at-requires : tie.Need-read-at-requires
-read-at-requires c κs = omega arith
-
-enum-known-found : tie.Need-enum-known-found
-enum-known-found c = search needs
-
 returns : tie.Need-returns
 returns c =
     let read = c .before .read-at in
@@ -25,4 +19,4 @@ returns-2 c =
     (ap nodeOn (sym (c .before .found .given .1) ∙ read .0), read .1, read .2)
 
 pub read-version-spec : {M : Type 1} → statement M
-read-version-spec = tie.close (tie.spec read-at-requires enum-known-found returns returns-2)
+read-version-spec = tie.close (tie.spec (λ c κs. omega arith) (λ c. search needs) returns returns-2)

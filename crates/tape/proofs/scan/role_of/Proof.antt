@@ -9,18 +9,6 @@ use Rattle.tape.proofs.scan.role_of.Tie as tie
 enum-told : tie.Need-enum-told
 enum-told c = search needs
 
-by-heads-requires : tie.Need-by-heads-requires
-by-heads-requires c κs = tt
-
-enum-told-2 : tie.Need-enum-told-2
-enum-told-2 c = search needs
-
-enum-told-3 : tie.Need-enum-told-3
-enum-told-3 c = search needs
-
-by-heads-requires-2 : tie.Need-by-heads-requires-2
-by-heads-requires-2 c κs = tt
-
 returns : tie.Need-returns
 unfolding roleOf
 returns c = rw (c .before .enum-told .given .1) (c .by-heads .ensures)
@@ -39,13 +27,4 @@ returns-4 c = misplaced _ _ (c .match .keys4)
 pub role-of-spec : {M : Type 1} → statement M
 role-of-spec =
     tie.close
-    (tie.spec
-    enum-told
-    by-heads-requires
-    enum-told-2
-    enum-told-3
-    by-heads-requires-2
-    returns
-    returns-2
-    returns-3
-    returns-4)
+    (tie.spec enum-told (λ c κs. tt) (λ c. search needs) (λ c. search needs) (λ c κs. tt) returns returns-2 returns-3 returns-4)

@@ -6,17 +6,8 @@ use Rattle.tape.proofs.Scans.{scan-started, scan-unstarted}
 use Rattle.tape.proofs.scan.scan.Statement.{statement}
 use Rattle.tape.proofs.scan.scan.Tie as tie
 
-read-at-requires : tie.Need-read-at-requires
-read-at-requires c κs = omega arith
-
-enum-known-found : tie.Need-enum-known-found
-enum-known-found c = search needs
-
 returns : tie.Need-returns
 returns c = let read = c .before in scan-unstarted (read .before .before .args .tape .now) {x = read .read-at .result .found} (read .read-at .ensures .0) (c .match .keys2)
-
-scan-on-requires : tie.Need-scan-on-requires
-scan-on-requires c κs = omega arith
 
 returns-2 : tie.Need-returns-2
 returns-2 c =
@@ -25,4 +16,4 @@ returns-2 c =
     scan-started (read .before .before .args .tape .now) (read .read-at .ensures .0) (known .found .given .1) (read .read-at .ensures .1) _ (c .scan-on .ensures)
 
 pub scan-spec : {M : Type 1} → statement M
-scan-spec = tie.close (tie.spec read-at-requires enum-known-found returns scan-on-requires returns-2)
+scan-spec = tie.close (tie.spec (λ c κs. omega arith) (λ c. search needs) returns (λ c κs. omega arith) returns-2)

@@ -17,12 +17,6 @@ abbrev μ-loop : tie.MeasureT-loop
 loop-holds : tie.Need-loop-holds Inv-loop μ-loop
 loop-holds c = scanning-starts _ _ _ (omega arith)
 
-read-at-requires : tie.Need-read-at-requires Inv-loop μ-loop
-read-at-requires c κs = omega arith
-
-role-of-requires : tie.Need-role-of-requires Inv-loop μ-loop
-role-of-requires c κs = tt
-
 enum-told : tie.Need-enum-told Inv-loop μ-loop
 enum-told c = search needs
 
@@ -31,12 +25,6 @@ returns c =
     let k = c .before .before in
     let r = k .before in
     scanning-refused (r .before .before .loop .inv) (r .before .loop-test .taken) (r .read-at .ensures .0) (k .role-of .ensures) (c .enum-told .given .1)
-
-enum-told-2 : tie.Need-enum-told-2 Inv-loop μ-loop
-enum-told-2 c = search needs
-
-add-versions : tie.Need-add-versions Inv-loop μ-loop
-add-versions c = omega arith
 
 loop-less : tie.Need-loop-less Inv-loop μ-loop
 loop-less c =
@@ -51,12 +39,6 @@ loop-again c =
     let r = k .before in
     scanning-version (r .before .before .loop .inv) (r .before .loop-test .taken) (r .read-at .ensures .0) (k .role-of .ensures) (r .read-at .ensures .1) (r .read-at .ensures .2) (c .enum-told2 .given .1) .1
 
-enum-told-3 : tie.Need-enum-told-3 Inv-loop μ-loop
-enum-told-3 c = search needs
-
-add-heads : tie.Need-add-heads Inv-loop μ-loop
-add-heads c = omega arith
-
 loop-less-2 : tie.Need-loop-less-2 Inv-loop μ-loop
 loop-less-2 c =
     let k = c .before .before in
@@ -70,12 +52,6 @@ loop-again-2 c =
     let r = k .before in
     scanning-head (r .before .before .loop .inv) (r .before .loop-test .taken) (r .read-at .ensures .0) (k .role-of .ensures) (r .read-at .ensures .1) (r .read-at .ensures .2) (c .enum-told3 .given .1) .1
 
-enum-told-4 : tie.Need-enum-told-4 Inv-loop μ-loop
-enum-told-4 c = search needs
-
-scan-end-requires : tie.Need-scan-end-requires Inv-loop μ-loop
-scan-end-requires c κs = tt
-
 returns-2 : tie.Need-returns-2 Inv-loop μ-loop
 returns-2 c =
     let k = c .before .before .before in
@@ -88,23 +64,4 @@ returns-3 c = scanning-out (c .before .loop .inv) (c .loop-test .left)
 pub scan-on-spec : {M : Type 1} → statement M
 scan-on-spec =
     tie.close
-    (tie.spec
-    Inv-loop
-    μ-loop
-    loop-holds
-    read-at-requires
-    role-of-requires
-    enum-told
-    returns
-    enum-told-2
-    add-versions
-    loop-less
-    loop-again
-    enum-told-3
-    add-heads
-    loop-less-2
-    loop-again-2
-    enum-told-4
-    scan-end-requires
-    returns-2
-    returns-3)
+    (tie.spec Inv-loop μ-loop loop-holds (λ c κs. omega arith) (λ c κs. tt) enum-told returns (λ c. search needs) (λ c. omega arith) loop-less loop-again (λ c. search needs) (λ c. omega arith) loop-less-2 loop-again-2 (λ c. search needs) (λ c κs. tt) returns-2 returns-3)

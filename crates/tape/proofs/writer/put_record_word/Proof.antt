@@ -6,15 +6,6 @@ use Rattle.buffer.proofs.Patches.{word-part}
 use Rattle.tape.proofs.writer.put_record_word.Statement.{statement}
 use Rattle.tape.proofs.writer.put_record_word.Tie as tie
 
-put-word-requires : tie.Need-put-word-requires
-put-word-requires c κs = omega arith
-
-add-result : tie.Need-add-result
-add-result c = omega arith
-
-same-length : tie.Need-same-length
-same-length c = omega arith
-
 returns : tie.Need-returns
 returns c =
     let call = c .before .before in
@@ -22,4 +13,4 @@ returns c =
     (refl, call .put-word .ensures ∙ word-part (start .args .tape .now) (start .args .at) (start .args .x) (start .pre))
 
 pub put-record-word-spec : {M : Type 1} → statement M
-put-record-word-spec = tie.close (tie.spec put-word-requires add-result same-length returns)
+put-record-word-spec = tie.close (tie.spec (λ c κs. omega arith) (λ c. omega arith) (λ c. omega arith) returns)

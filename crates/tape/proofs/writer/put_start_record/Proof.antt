@@ -8,15 +8,6 @@ use Rattle.buffer.proofs.Laid.{laid-one, laid-more}
 use Rattle.tape.proofs.writer.put_start_record.Statement.{statement}
 use Rattle.tape.proofs.writer.put_start_record.Tie as tie
 
-put-record-byte-requires : tie.Need-put-record-byte-requires
-put-record-byte-requires c κs = omega arith
-
-put-record-word-requires : tie.Need-put-record-word-requires
-put-record-word-requires c κs = omega arith
-
-same-length : tie.Need-same-length
-same-length c = omega arith
-
 returns : tie.Need-returns
 returns c =
     let last = c .before .before in
@@ -25,4 +16,4 @@ returns c =
     laid-more (word (first .before .before .before .args .settings .capacity)) coded (omega arith) (last .put-record-word .ensures) .put
 
 pub put-start-record-spec : {M : Type 1} → statement M
-put-start-record-spec = tie.close (tie.spec put-record-byte-requires put-record-word-requires same-length returns)
+put-start-record-spec = tie.close (tie.spec (λ c κs. omega arith) (λ c κs. omega arith) (λ c. omega arith) returns)

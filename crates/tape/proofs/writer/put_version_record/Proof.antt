@@ -5,26 +5,14 @@ use borrow.Author.Needs.{needs}
 use Rattle.tape.proofs.writer.put_version_record.Statement.{statement}
 use Rattle.tape.proofs.writer.put_version_record.Tie as tie
 
-enum-known-node : tie.Need-enum-known-node
-enum-known-node c = search needs
-
 put-entry-record-requires : tie.Need-put-entry-record-requires
 put-entry-record-requires c κs = let n = c .before .before in rw (n .node .given .1) at (n .before .before .before .pre)
-
-enum-known-node-2 : tie.Need-enum-known-node-2
-enum-known-node-2 c = search needs
 
 put-merge-record-requires : tie.Need-put-merge-record-requires
 put-merge-record-requires c κs = let n = c .before .before in rw (n .node2 .given .1) at (n .before .before .before .pre)
 
-same-length : tie.Need-same-length
-same-length c = omega arith
-
 returns : tie.Need-returns
 returns c = rw (c .before .before .before .before .before .node .given .1) (c .before .before .put-entry-record .ensures)
-
-same-length-2 : tie.Need-same-length-2
-same-length-2 c = omega arith
 
 returns-2 : tie.Need-returns-2
 returns-2 c = rw (c .before .before .before .before .before .node2 .given .1) (c .before .before .put-merge-record .ensures)
@@ -32,12 +20,4 @@ returns-2 c = rw (c .before .before .before .before .before .node2 .given .1) (c
 pub put-version-record-spec : {M : Type 1} → statement M
 put-version-record-spec =
     tie.close
-    (tie.spec
-    enum-known-node
-    put-entry-record-requires
-    enum-known-node-2
-    put-merge-record-requires
-    same-length
-    returns
-    same-length-2
-    returns-2)
+    (tie.spec (λ c. search needs) put-entry-record-requires (λ c. search needs) put-merge-record-requires (λ c. omega arith) returns (λ c. omega arith) returns-2)
