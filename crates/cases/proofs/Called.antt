@@ -6,7 +6,7 @@ use mathlib.Core.Path.{_≡_, refl, sym, _∙_, ap}
 use mathlib.Core.Bool.{Bool, true, false, cond}
 use mathlib.Core.List.{List, [], _∷_, _++_, map}
 use mathlib.Core.Option.{Option, none, some}
-use lib.Dec.{eqb, lit<}
+use lib.Dec.{eqb}
 use lib.ListN.{length, drop}
 use lib.Seq.{drop-at}
 use borrow.Author.Tests.{eqb-true, lt-ltb, not-false}
@@ -137,5 +137,5 @@ pub opened-called : (capacity : ℕ) (buffer : List ℕ) → openOutcome capacit
     → (openOutcome capacity buffer .buffer ≡ encode (fresh capacity) ++ drop (storeSize capacity) buffer) × (soundRoom (fresh capacity) ≡ true)
 unfolding openOutcome
 opened-called capacity buffer h =
-    let s = fresh-sound (openSettings capacity) (not-false _ (none-applies _ h .0 (lit< tt))) in
+    let s = fresh-sound (openSettings capacity) (not-false _ (none-applies _ refl h .0)) in
     (rw (h, encode-length (fresh capacity) s), s)

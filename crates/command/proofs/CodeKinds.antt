@@ -3,10 +3,12 @@
 use Prim.Native.Nat.{ℕ, _<_}
 use mathlib.Core.Path.{_≡_, refl}
 use mathlib.Core.Bool.{true}
+use mathlib.Core.Logic.{_≢_}
 use native.Mathlib.Omega.{arith}
 use lib.Dec.{eqb}
 use borrow.Author.Tests.{eqb-true, ne-eqb}
 use Rattle.laws.proofs.Logic.{either}
+use Rattle.board.specs.Board.{levelEntry, alertOffEntry}
 use Rattle.command.specs.declared.Kind.{Kind}
 use Rattle.command.specs.declared.Kind.the-variants as kind-is
 use Rattle.command.specs.Code.{forkCommand, mergeCommand, fastForwardCommand, isEntryCode, kindOf, kindRefusal}
@@ -31,10 +33,10 @@ pub kind-entry : (code : ℕ) → isEntryCode code ≡ true → kind-is.Entry �
 unfolding kindOf
 kind-entry = each-entry (λ k. kind-is.Entry ≡ kindOf k) refl refl refl refl refl refl refl
 
-pub kind-none : (code : ℕ) → 10 < code → kind-is.Unknown ≡ kindOf code
+pub kind-none : (code : ℕ) → alertOffEntry < code → code ≢ forkCommand → code ≢ mergeCommand → code ≢ fastForwardCommand → kind-is.Unknown ≡ kindOf code
 unfolding kindOf
-kind-none code h =
-    rw (ne-eqb code 1 (omega arith), within-false 2 8 code (λ p q. omega arith), ne-eqb code 9 (omega arith), ne-eqb code 10 (omega arith))
+kind-none code high fork merge forward =
+    rw (ne-eqb code forkCommand fork, within-false levelEntry alertOffEntry code (λ p q. omega arith), ne-eqb code mergeCommand merge, ne-eqb code fastForwardCommand forward)
 
 -- the refusal of a kind, where there is one, is 1
 pub kind-one : (k : Kind) → (kindRefusal k ≡ 0 → ⊥) → kindRefusal k ≡ 1

@@ -7,6 +7,7 @@ use native.Mathlib.Omega.{arith}
 use native.Mathlib.Decide.{ℕ-discrete}
 use lib.Dec.{eqb, leb, ltb}
 use borrow.Author.Tests.{eqb-true, leb-true, ltb-true, le-leb}
+use mathlib.Core.Logic.{_≢_}
 use Rattle.laws.proofs.Logic.{and-l, and-r, and-i, refuted}
 use Rattle.board.specs.Board.{stripCount, markCount}
 use Rattle.command.specs.Code.{within, isEntryCode, isStrip, isOperand}
@@ -32,6 +33,10 @@ each P low (suc n) x h p q =
       | yes e ↦ subst P e (h .0)
       | no ne ↦ each P (suc low) n x (h .1) (omega arith) (omega arith)
     ]
+
+-- below 2 there is only 0 beside 1
+pub neither-one : (x : ℕ) → x < 2 → x ≢ 1 → x ≡ 0
+neither-one x l ne = omega arith
 
 -- what holds of the codes 02 to 08 holds of every code that makes an entry
 pub each-entry : (P : ℕ → Type 0) → P 2 → P 3 → P 4 → P 5 → P 6 → P 7 → P 8 → (code : ℕ) → isEntryCode code ≡ true → P code

@@ -6,7 +6,7 @@ use mathlib.Core.Bool.{Bool, true, false, cond, not, _&&_}
 use mathlib.Core.List.{List}
 use native.Mathlib.Omega.{arith}
 use borrow.Author.Tests.{eqb-true, eqb-false, ltb-true, not-false}
-use lib.Dec.{eqb, lit<}
+use lib.Dec.{eqb}
 use Rattle.laws.proofs.Logic.{or-none-l, or-none-r, and-i}
 use Rattle.refusal.specs.Refusal.{firstRefusal}
 use Rattle.refusal.proofs.Refusals.{none-applies}
@@ -23,19 +23,19 @@ use Rattle.command.proofs.Decodes.{passed}
 
 two-consoles : (o : Operands) → firstRefusal (twoConsoleTests o) ≡ 0 → TwoConsoles (o .first) (o .second)
 two-consoles o h =
-    let three = none-applies _ h in (
-      ltb-true _ _ (not-false _ (or-none-l _ _ (three .0 (lit< tt)))),
-      ltb-true _ _ (not-false _ (or-none-r (not (isConsole (o .first))) _ (three .0 (lit< tt)))),
-      eqb-false _ _ (three .1 (lit< tt) .0 (lit< tt)),
+    let three = none-applies _ refl h in (
+      ltb-true _ _ (not-false _ (or-none-l _ _ (three .0))),
+      ltb-true _ _ (not-false _ (or-none-r (not (isConsole (o .first))) _ (three .0))),
+      eqb-false _ _ (three .1 .0),
     )
 
 one-console : (code : ℕ) (o : Operands) → isEntryCode code ≡ true → firstRefusal (entryNumberTests code o) ≡ 0
     → (o .first < consoleCount) × (isEntryCode code && isStrip (o .second) && isOperand code (o .third) ≡ true)
 one-console code o e h =
-    let three = none-applies _ h in
-    let four = three .1 (lit< tt) in (
-      ltb-true _ _ (not-false _ (three .0 (lit< tt))),
-      and-i _ _ (and-i _ _ e (not-false _ (four .0 (lit< tt)))) (not-false _ (four .1 (lit< tt) .0 (lit< tt))),
+    let three = none-applies _ refl h in
+    let four = three .1 in (
+      ltb-true _ _ (not-false _ (three .0)),
+      and-i _ _ (and-i _ _ e (not-false _ (four .0))) (not-false _ (four .1 .0)),
     )
 
 in-range : (k : Kind) (code : ℕ) (o : Operands) → Says code k → kindRefusal k ≡ 0 → firstRefusal (numberTests k code o) ≡ 0

@@ -3,34 +3,37 @@
 use Prim.Native.Nat.{ℕ, _+_, _≤_, _<_}
 use mathlib.Core.Path.{_≡_, refl}
 use mathlib.Core.Bool.{true}
+use mathlib.Core.Logic.{_≢_}
 use native.Mathlib.Omega.{arith}
 use lib.Dec.{eqb}
 use borrow.Author.Tests.{eqb-true, ne-eqb}
 use Rattle.laws.proofs.Logic.{either}
+use Rattle.board.specs.Board.{levelEntry, headingEntry, markPutEntry, markTakenEntry, callEntry, alertOffEntry}
 use Rattle.command.specs.declared.Kind.{Kind}
 use Rattle.command.specs.declared.Kind.the-variants as kind-is
 use Rattle.command.specs.declared.Shape.{Shape}
 use Rattle.command.specs.declared.Shape.the-variants.{Known, Unknown}
-use Rattle.command.specs.Code.{within, kindOf, kindRefusal, shapeOf, shapeRefusal, lengthOf}
+use Rattle.command.specs.Code.{within, forkCommand, mergeCommand, fastForwardCommand, startRecord, entryRecord, mergeRecord, headRecord, endRecord, kindOf, kindRefusal, shapeOf, shapeRefusal, lengthOf}
 use Rattle.command.specs.Decode.{isCommandCode}
 use Rattle.command.specs.Decoding.{narrow}
 use Rattle.command.proofs.Limits.{within-false, each-entry}
 use Rattle.command.proofs.CodeKinds.{Says, kind-says}
 
-pub shape-none : (code : ℕ) → 10 < code → (0x20 ≤ code → code ≤ 0x24 → ⊥) → Unknown ≡ shapeOf code
+-- a code behind the commands that is no record's; each of a match's single codes is a test of its own, for the checker's bound on case splits
+pub shape-none : (code : ℕ) → fastForwardCommand < code → code ≢ startRecord → code ≢ entryRecord → code ≢ mergeRecord → code ≢ headRecord → code ≢ endRecord → Unknown ≡ shapeOf code
 unfolding shapeOf
-shape-none code high records =
+shape-none code high start entry merge head end =
     rw (
-      ne-eqb code 1 (omega arith),
-      within-false 2 3 code (λ p q. omega arith),
-      within-false 4 5 code (λ p q. omega arith),
-      within-false 6 8 code (λ p q. omega arith),
-      within-false 9 10 code (λ p q. omega arith),
-      ne-eqb code 0x20 (λ e. records (omega arith) (omega arith)),
-      ne-eqb code 0x21 (λ e. records (omega arith) (omega arith)),
-      ne-eqb code 0x22 (λ e. records (omega arith) (omega arith)),
-      ne-eqb code 0x23 (λ e. records (omega arith) (omega arith)),
-      ne-eqb code 0x24 (λ e. records (omega arith) (omega arith)),
+      ne-eqb code forkCommand (omega arith),
+      within-false levelEntry headingEntry code (λ p q. omega arith),
+      within-false markPutEntry markTakenEntry code (λ p q. omega arith),
+      within-false callEntry alertOffEntry code (λ p q. omega arith),
+      within-false mergeCommand fastForwardCommand code (λ p q. omega arith),
+      ne-eqb code startRecord start,
+      ne-eqb code entryRecord entry,
+      ne-eqb code mergeRecord merge,
+      ne-eqb code headRecord head,
+      ne-eqb code endRecord end,
     )
 
 -- a code that has a kind has a shape
@@ -50,16 +53,16 @@ shape-told code shape e = (e, λ h. rw e (kind-shape (kindOf code) code (kind-sa
 pub narrow-shape : (code : ℕ) → narrow (shapeOf code)
 unfolding shapeOf
 narrow-shape code =
-    either narrow (eqb code 0x01) (λ h. omega arith)
-    (either narrow (within 0x02 0x03 code) (λ h. omega arith)
-    (either narrow (within 0x04 0x05 code) (λ h. omega arith)
-    (either narrow (within 0x06 0x08 code) (λ h. omega arith)
-    (either narrow (within 0x09 0x0A code) (λ h. omega arith)
-    (either narrow (eqb code 0x20) (λ h. omega arith)
-    (either narrow (eqb code 0x21) (λ h. omega arith)
-    (either narrow (eqb code 0x22) (λ h. omega arith)
-    (either narrow (eqb code 0x23) (λ h. omega arith)
-    (either narrow (eqb code 0x24) (λ h. omega arith) tt)))))))))
+    either narrow (eqb code forkCommand) (λ h. omega arith)
+    (either narrow (within levelEntry headingEntry code) (λ h. omega arith)
+    (either narrow (within markPutEntry markTakenEntry code) (λ h. omega arith)
+    (either narrow (within callEntry alertOffEntry code) (λ h. omega arith)
+    (either narrow (within mergeCommand fastForwardCommand code) (λ h. omega arith)
+    (either narrow (eqb code startRecord) (λ h. omega arith)
+    (either narrow (eqb code entryRecord) (λ h. omega arith)
+    (either narrow (eqb code mergeRecord) (λ h. omega arith)
+    (either narrow (eqb code headRecord) (λ h. omega arith)
+    (either narrow (eqb code endRecord) (λ h. omega arith) tt)))))))))
 
 -- what a length and narrow widths say of a known shape
 pub known-fits : {shape : Shape} {a b c d n : ℕ} → shape ≡ Known a b c d → narrow shape × (lengthOf shape ≤ n)

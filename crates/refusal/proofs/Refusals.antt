@@ -1,13 +1,13 @@
 -- Which refusal of a list is given; where none is, the case of none is there.
 -- Assumes nothing.
-use Prim.Native.Nat.{ℕ, zero, suc, _<_}
+use Prim.Native.Nat.{ℕ, zero, suc}
 use mathlib.Core.Path.{_≡_, refl, sym, _∙_}
 use mathlib.Core.Logic.{_≢_}
 use mathlib.Core.Bool.{Bool, true, false, not, _&&_}
 use mathlib.Core.List.{List, [], _∷_, _++_}
 use native.Mathlib.Omega.{arith}
 use lib.Dec.{eqb}
-use borrow.Author.Tests.{eq-eqb, ne-eqb}
+use borrow.Author.Tests.{eq-eqb, ne-eqb, eqb-false}
 use Rattle.laws.proofs.Logic.{and-l, and-r, not-e, cond-true, cond-false}
 use Rattle.refusal.specs.Refusal.{_when_, firstRefusal, firstOf}
 
@@ -32,20 +32,21 @@ unfolding firstRefusal
 none-given number true later given h = absurd (given h)
 none-given number false later given h = (refl, h)
 
--- the same of a whole list: each test is false, where its number is a refusal's
-abbrev pub NoneApplies : List (ℕ × Bool) → Type 0
-NoneApplies [] = Unit {0}
-NoneApplies (r ∷ later) = (0 < r .0 → r .1 ≡ false) × (0 < r .0 → NoneApplies later)
-
-pub none-applies : (tests : List (ℕ × Bool)) → firstRefusal tests ≡ 0 → NoneApplies tests
-none-applies [] h = tt
-none-applies (r ∷ later) h =
-    (λ p. none-given (r .0) (r .1) later (omega arith) h .0, λ p. none-applies later (none-given (r .0) (r .1) later (omega arith) h .1))
-
 -- The numbers of a list are refusals': none is 0. Of a list that is written out it holds by computation.
 abbrev pub numbered : List (ℕ × Bool) → Bool
 numbered [] = true
 numbered (r ∷ later) = not (eqb (r .0) 0) && numbered later
+
+-- where none of a whole list is given, each test is false
+abbrev pub NoneApplies : List (ℕ × Bool) → Type 0
+NoneApplies [] = Unit {0}
+NoneApplies (r ∷ later) = (r .1 ≡ false) × NoneApplies later
+
+pub none-applies : (tests : List (ℕ × Bool)) → numbered tests ≡ true → firstRefusal tests ≡ 0 → NoneApplies tests
+none-applies [] k h = tt
+none-applies (r ∷ later) k h =
+    let one = none-given (r .0) (r .1) later (eqb-false (r .0) 0 (not-e _ (and-l _ _ k))) h in
+    (one .0, none-applies later (and-r (not (eqb (r .0) 0)) _ k) (one .1))
 
 -- two groups of tests one after the other: the first refusal of the first group, or else of the second
 pub first-append : (a b : List (ℕ × Bool)) → numbered a ≡ true → firstRefusal (a ++ b) ≡ firstOf (firstRefusal a) (firstRefusal b)

@@ -1,10 +1,9 @@
 -- What is true of a room where a command on it is accepted: the case of none of its refusals is there.
 -- Assumes nothing.
 use Prim.Native.Nat.{ℕ, _<_}
-use mathlib.Core.Path.{_≡_}
+use mathlib.Core.Path.{_≡_, refl}
 use mathlib.Core.Bool.{true, false, not}
 use borrow.Author.Tests.{ltb-true, not-false}
-use lib.Dec.{lit<}
 use Rattle.laws.proofs.Logic.{clash, or-none-l, or-none-r}
 use Rattle.graph.specs.Graph.{versionCount}
 use Rattle.graph.specs.declared.Strip.{Strip}
@@ -21,23 +20,23 @@ MayMove r c d = (present r d ≡ true) × (present r c ≡ true → behind r c d
 pub fork-accepted : (r : Room) (new old : Console) → stepRefusal r (Fork new old) ≡ 0 → MayMove r (new .0) (old .0)
 unfolding stepRefusal stateTests
 fork-accepted r new old h =
-    let t = none-applies _ h in
-    let free : present r (new .0) ≡ false = t .1 (lit< tt) .0 (lit< tt) in
-    (not-false _ (t .0 (lit< tt)), λ p. clash p free)
+    let t = none-applies _ refl h in
+    let free : present r (new .0) ≡ false = t .1 .0 in
+    (not-false _ (t .0), λ p. clash p free)
 
 pub forward-accepted : (r : Room) (a b : Console) → stepRefusal r (FastForward a b) ≡ 0 → MayMove r (a .0) (b .0)
 unfolding stepRefusal stateTests
 forward-accepted r a b h =
-    let t = none-applies _ h in
-    let ahead : not (behind r (a .0) (b .0)) ≡ false = t .1 (lit< tt) .1 (lit< tt) .0 (lit< tt) in
-    (not-false _ (or-none-r (absent r (a .0)) _ (t .0 (lit< tt))), λ p. not-false _ ahead)
+    let t = none-applies _ refl h in
+    let ahead : not (behind r (a .0) (b .0)) ≡ false = t .1 .1 .0 in
+    (not-false _ (or-none-r (absent r (a .0)) _ (t .0)), λ p. not-false _ ahead)
 
 pub entry-accepted : (r : Room) (c : Console) (code : ℕ) (k : Strip) (x : ℕ) → stepRefusal r (Entry c code k x) ≡ 0
     → (present r (c .0) ≡ true) × (versionCount (r .versions) < r .settings .capacity)
 unfolding stepRefusal stateTests
 entry-accepted r c code k x h =
-    let t = none-applies _ h in
-    (not-false _ (t .0 (lit< tt)), ltb-true _ _ (not-false _ (t .1 (lit< tt) .0 (lit< tt))))
+    let t = none-applies _ refl h in
+    (not-false _ (t .0), ltb-true _ _ (not-false _ (t .1 .0)))
 
 -- what a merge asks for
 pub record MayMerge (r : Room) (a b : ℕ) : Type 0 where
@@ -51,16 +50,16 @@ pub record MayMerge (r : Room) (a b : ℕ) : Type 0 where
 pub merge-accepted : (r : Room) (a b : Console) → stepRefusal r (Merge a b) ≡ 0 → MayMerge r (a .0) (b .0)
 unfolding stepRefusal stateTests
 merge-accepted r a b h =
-    let t = none-applies _ h in
-    let both = t .0 (lit< tt) in
-    let fourteen = t .1 (lit< tt) in
-    let fifteen = fourteen .1 (lit< tt) in
-    let seventeen = fifteen .1 (lit< tt) in
+    let t = none-applies _ refl h in
+    let both = t .0 in
+    let fourteen = t .1 in
+    let fifteen = fourteen .1 in
+    let seventeen = fifteen .1 in
     record {
       receiver = not-false _ (or-none-l _ _ both);
       giver = not-false _ (or-none-r (absent r (a .0)) _ both);
-      ahead = fourteen .0 (lit< tt);
-      back = fifteen .0 (lit< tt);
-      unsplit = seventeen .0 (lit< tt);
-      left = ltb-true _ _ (not-false _ (seventeen .1 (lit< tt) .0 (lit< tt)));
+      ahead = fourteen .0;
+      back = fifteen .0;
+      unsplit = seventeen .0;
+      left = ltb-true _ _ (not-false _ (seventeen .1 .0));
     }

@@ -61,14 +61,14 @@ pub buffer-allowed : (tests : List (ℕ × Bool)) (buffer : List ℕ) (size : �
     → firstRefusal (bufferTests tests buffer size) ≡ 0 → (firstRefusal tests ≡ 0) × (size ≤ length buffer)
 buffer-allowed tests buffer size k h =
     let n = first-none (firstRefusal tests) _ (sym (first-append tests _ k) ∙ h) in
-    (n .0, ltb-false (length buffer) size (none-applies _ (n .1) .0 (omega arith)))
+    (n .0, ltb-false (length buffer) size (none-applies _ refl (n .1) .0))
 
 -- opening
 pub opening-allowed : (capacity : ℕ) (s : List ℕ) {n : ℕ} → n ≡ firstRefusal (openTests capacity s) → n ≡ 0
     → (settingsInRange (openSettings capacity) ≡ true) × (storeSize capacity ≤ length s)
 opening-allowed capacity s e z =
     let n = buffer-allowed (8 when not (settingsInRange (openSettings capacity)) ∷ []) s (storeSize capacity) refl (sym e ∙ z) in
-    (not-false (settingsInRange (openSettings capacity)) (none-applies _ (n .0) .0 (omega arith)), n .1)
+    (not-false (settingsInRange (openSettings capacity)) (none-applies _ refl (n .0) .0), n .1)
 
 -- two consoles: what holds of them where none of their tests applies
 pub record Allowed (s : List ℕ) (c d : ℕ) : Type 0 where
@@ -80,10 +80,10 @@ pub record Allowed (s : List ℕ) (c d : ℕ) : Type 0 where
 
 pub pair-allowed : (s : List ℕ) (c d : ℕ) {n : ℕ} → n ≡ firstRefusal (pairTests s c d) → n ≡ 0 → Allowed s c d
 pair-allowed s c d e z =
-    let n = none-applies (pairTests s c d) (sym e ∙ z) in
-    let three = n .0 (omega arith) in
-    let eleven = n .1 (omega arith) .0 (omega arith) in
-    let twelve = n .1 (omega arith) .1 (omega arith) .0 (omega arith) in
+    let n = none-applies (pairTests s c d) refl (sym e ∙ z) in
+    let three = n .0 in
+    let eleven = n .1 .0 in
+    let twelve = n .1 .1 .0 in
     record {
       first = ltb-true c consoleCount (not-false (isConsole c) (or-none-l _ _ three));
       second = ltb-true d consoleCount (not-false (isConsole d) (or-none-r (not (isConsole c)) _ three));

@@ -8,7 +8,7 @@ use mathlib.Core.List.{List, [], _∷_, map}
 use mathlib.Core.Option.{Option, none, some}
 use native.Mathlib.Omega.{arith}
 use borrow.Author.Tests.{eqb-true, not-false}
-use lib.Dec.{eqb, lit<}
+use lib.Dec.{eqb}
 use lib.ListN.{length, length-map, drop}
 use Rattle.laws.proofs.Logic.{clash}
 use Rattle.buffer.specs.Field.{overwrite}
@@ -50,13 +50,13 @@ opening-matched : (capacity : ℕ) (buffer : List ℕ) → openOutcome capacity 
     → Matched (overwrite (encode (fresh capacity)) buffer) opened
 unfolding openOutcome
 opening-matched capacity buffer h =
-    written-matched (fresh capacity) buffer (fresh-sound (openSettings capacity) (not-false _ (none-applies _ h .0 (lit< tt)))) refl
+    written-matched (fresh capacity) buffer (fresh-sound (openSettings capacity) (not-false _ (none-applies _ refl h .0))) refl
 
 resume-matched : (t : Content) (j : Journal) (buffer : List ℕ) → resumed (some t) buffer .reply .answer ≡ 0
     → Matched (overwrite (encode (roomOf t)) buffer) (afterTape j (some t))
 unfolding resumed afterTape
 resume-matched t j buffer h =
-    written-matched (roomOf t) buffer (not-false _ (none-applies _ h .1 (lit< tt) .1 (lit< tt) .0 (lit< tt))) refl
+    written-matched (roomOf t) buffer (not-false _ (none-applies _ refl h .1 .1 .0)) refl
 
 -- a command takes the journal of a room to that of the next
 step-journal : (r : Room) (c : Command) → journalOf (step r c) ≡ afterCommand (journalOf r) (Whole c)

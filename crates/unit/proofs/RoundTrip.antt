@@ -7,7 +7,6 @@ use mathlib.Core.Bool.{true}
 use mathlib.Core.List.{List, _++_}
 use mathlib.Core.Option.{Option, none, some}
 use native.Mathlib.Omega.{arith}
-use lib.Dec.{lit<}
 use lib.ListN.{length, take, drop}
 use lib.Seq.{take-append-seam, take-at}
 use borrow.Author.Tests.{le-ltb, not-false}
@@ -36,7 +35,7 @@ pause-allowed : (store output : List ℕ) → pauseOutcome store output .reply .
 unfolding pauseOutcome
 pause-allowed store output h =
     let n = buffer-allowed (pauseTests store) output (length (tapeOf (roomIn store))) refl h in
-    (not-false (holdsStore store) (none-applies _ (n .0) .0 (lit< tt)), n .1)
+    (not-false (holdsStore store) (none-applies _ refl (n .0) .0), n .1)
 
 -- the tests of resume on what a tape says
 module _ (t : Content) (store : List ℕ) where

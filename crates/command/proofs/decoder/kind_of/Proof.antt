@@ -1,9 +1,9 @@
 -- `command::decoder::kind_of` meets its contract.
 -- Assumes nothing.
-use mathlib.Core.Path.{_≡_}
-use native.Mathlib.Omega.{arith}
+use borrow.Author.Needs.{needs}
+use Rattle.board.specs.Board.{levelEntry, alertOffEntry}
 use Rattle.command.specs.Code.{kindOf}
-use Rattle.command.proofs.Limits.{within-i}
+use Rattle.command.proofs.Limits.{within-i, neither-one}
 use Rattle.command.proofs.CodeKinds.{kind-entry, kind-none}
 use Rattle.command.proofs.decoder.kind_of.Statement.{statement}
 use Rattle.command.proofs.decoder.kind_of.Tie as tie
@@ -23,14 +23,14 @@ returns-3 c = rw (c .match .keys3)
 returns-4 : tie.Need-returns-4
 returns-4 c =
     let code = c .before .before .before .args .code in
-    kind-entry code (within-i 2 8 code (omega arith) (omega arith))
+    kind-entry code (within-i levelEntry alertOffEntry code (search needs) (search needs))
 
 returns-5 : tie.Need-returns-5
 unfolding kindOf
-returns-5 c = let zero : c .before .before .args .code ≡ 0 = omega arith in rw zero
+returns-5 c = rw (neither-one (c .before .before .args .code) (search needs) (search needs))
 
 returns-6 : tie.Need-returns-6
-returns-6 c = kind-none _ (omega arith)
+returns-6 c = kind-none _ (search needs) (search needs) (search needs) (search needs)
 
 pub kind-of-spec : {M : Type 1} → statement M
 kind-of-spec = tie.close (tie.spec returns returns-2 returns-3 returns-4 returns-5 returns-6)

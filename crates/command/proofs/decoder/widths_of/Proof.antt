@@ -1,10 +1,10 @@
 -- `command::decoder::widths_of` meets its contract.
 -- Assumes nothing.
 use mathlib.Core.Path.{_≡_, refl}
-use native.Mathlib.Omega.{arith}
+use borrow.Author.Needs.{needs}
 use Rattle.command.specs.declared.Shape.the-variants.{Known}
 use Rattle.command.specs.Code.{shapeOf}
-use Rattle.command.proofs.Limits.{each}
+use Rattle.command.proofs.Limits.{each, neither-one}
 use Rattle.command.proofs.Shapes.{shape-none, shape-told}
 use Rattle.command.proofs.decoder.widths_of.Statement.{statement}
 use Rattle.command.proofs.decoder.widths_of.Tie as tie
@@ -35,26 +35,26 @@ returns-6 c = shape-told _ _ (rw (c .match .keys6))
 
 returns-7 : tie.Need-returns-7
 unfolding shapeOf
-returns-7 c = shape-told _ _ (each (λ k. Known 1 1 2 0 ≡ shapeOf k) 2 2 (c .before .before .before .args .code) (refl, (refl, tt)) (omega arith) (omega arith))
+returns-7 c = shape-told _ _ (each (λ k. Known 1 1 2 0 ≡ shapeOf k) 2 2 (c .before .before .before .args .code) (refl, (refl, tt)) (search needs) (search needs))
 
 returns-8 : tie.Need-returns-8
 unfolding shapeOf
-returns-8 c = shape-told _ _ (each (λ k. Known 1 1 1 0 ≡ shapeOf k) 4 2 (c .before .before .before .before .args .code) (refl, (refl, tt)) (omega arith) (omega arith))
+returns-8 c = shape-told _ _ (each (λ k. Known 1 1 1 0 ≡ shapeOf k) 4 2 (c .before .before .before .before .args .code) (refl, (refl, tt)) (search needs) (search needs))
 
 returns-9 : tie.Need-returns-9
 unfolding shapeOf
-returns-9 c = shape-told _ _ (each (λ k. Known 1 1 0 0 ≡ shapeOf k) 6 3 (c .before .before .before .before .before .args .code) (refl, (refl, (refl, tt))) (omega arith) (omega arith))
+returns-9 c = shape-told _ _ (each (λ k. Known 1 1 0 0 ≡ shapeOf k) 6 3 (c .before .before .before .before .before .args .code) (refl, (refl, (refl, tt))) (search needs) (search needs))
 
 returns-10 : tie.Need-returns-10
 unfolding shapeOf
-returns-10 c = shape-told _ _ (each (λ k. Known 1 1 0 0 ≡ shapeOf k) 9 2 (c .before .before .before .before .before .before .args .code) (refl, (refl, tt)) (omega arith) (omega arith))
+returns-10 c = shape-told _ _ (each (λ k. Known 1 1 0 0 ≡ shapeOf k) 9 2 (c .before .before .before .before .before .before .args .code) (refl, (refl, tt)) (search needs) (search needs))
 
 returns-11 : tie.Need-returns-11
 unfolding shapeOf
-returns-11 c = let zero : c .before .before .args .code ≡ 0 = omega arith in shape-told _ _ (rw zero)
+returns-11 c = shape-told _ _ (rw (neither-one (c .before .before .args .code) (search needs) (search needs)))
 
 returns-12 : tie.Need-returns-12
-returns-12 c = shape-told _ _ (shape-none _ (omega arith) (λ p q. omega arith))
+returns-12 c = shape-told _ _ (shape-none _ (search needs) (search needs) (search needs) (search needs) (search needs) (search needs))
 
 pub widths-of-spec : {M : Type 1} → statement M
 widths-of-spec =
