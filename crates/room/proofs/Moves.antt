@@ -109,22 +109,21 @@ module _ (r : Room) (s : Sound r) (c : ℕ) (p : present r c ≡ true) (n : Node
   pub kept : (k : ℕ) → (k ≡ c → ⊥) → Follows (grown r c n) r k k
   kept k ne = record { slot = getD-set-other (r .heads) c k (some (versionCount (r .versions))) none ne }
 
-  module _ (lower : parentsLower (r .versions) n ≡ true) (based : mergeHasBase (r .versions) n ≡ true) (ranged : entryInRange (r .versions) n ≡ true)
-      (own : Parent n (head r c))
-      (meeting : (d : ℕ) → present r d ≡ true → (d ≡ c → ⊥) → (m : ℕ) × Meet (n ∷ r .versions) (versionCount (r .versions)) (head r d) m) where
-    -- every version is new or old, and so is every head
-    grown-named : (k v : ℕ) → headOf (grown r c n) k ≡ some v → v < suc (versionCount (r .versions))
-    grown-named k v e =
-        elim (ℕ-discrete k c) [
-          | yes same ↦ let w : versionCount (r .versions) ≡ v = cc (new-head, ap (headOf (grown r c n)) same) in omega arith
-          | no ne ↦ omega (arith, s .named k v (sym (kept k ne .slot) ∙ e))
-        ]
+  -- every version is new or old, and so is every head
+  grown-named : (k v : ℕ) → headOf (grown r c n) k ≡ some v → v < suc (versionCount (r .versions))
+  grown-named k v e =
+      elim (ℕ-discrete k c) [
+        | yes same ↦ let w : versionCount (r .versions) ≡ v = cc (new-head, ap (headOf (grown r c n)) same) in omega arith
+        | no ne ↦ omega (arith, s .named k v (sym (kept k ne .slot) ∙ e))
+      ]
 
-    grown-first : present (grown r c n) 0 ≡ true
-    grown-first =
-        elim (ℕ-discrete 0 c)
-        [ yes e ↦ ap (present (grown r c n)) e ∙ ap isSome new-head | no ne ↦ there (kept 0 ne) (s .first) ]
+  grown-first : present (grown r c n) 0 ≡ true
+  grown-first =
+      elim (ℕ-discrete 0 c)
+      [ yes e ↦ ap (present (grown r c n)) e ∙ ap isSome new-head | no ne ↦ there (kept 0 ne) (s .first) ]
 
+  -- where the new version has a meet with every head, every two heads have one
+  module _ (meeting : (d : ℕ) → present r d ≡ true → (d ≡ c → ⊥) → (m : ℕ) × Meet (n ∷ r .versions) (versionCount (r .versions)) (head r d) m) where
     -- a console that did not move has a meet with the one that did
     with-new : (k : ℕ) → present (grown r c n) k ≡ true → (k ≡ c → ⊥) → (m : ℕ) × Meet (n ∷ r .versions) (versionCount (r .versions)) (head (grown r c n) k) m
     with-new k q ne =
@@ -156,6 +155,8 @@ module _ (r : Room) (s : Sound r) (c : ℕ) (p : present r c ≡ true) (n : Node
               ]
         ]
 
+  module _ (lower : parentsLower (r .versions) n ≡ true) (based : mergeHasBase (r .versions) n ≡ true) (ranged : entryInRange (r .versions) n ≡ true)
+      (own : Parent n (head r c)) (meeting : (d : ℕ) → present r d ≡ true → (d ≡ c → ⊥) → (m : ℕ) × Meet (n ∷ r .versions) (versionCount (r .versions)) (head r d) m) where
     grown-behind : (v : ℕ) → v < suc (versionCount (r .versions))
         → (x : ℕ) × (present (grown r c n) x ≡ true) × (ancestor (n ∷ r .versions) v (head (grown r c n) x) ≡ true)
     grown-behind v bound =
@@ -192,7 +193,7 @@ module _ (r : Room) (s : Sound r) (c : ℕ) (p : present r c ≡ true) (n : Node
       based = and-i (mergeHasBase (r .versions) n) _ based (s .based);
       sixteen = length-set (r .heads) c (some (versionCount (r .versions))) ∙ s .sixteen;
       named = grown-named;
-      meets = grown-meets;
+      meets = grown-meets meeting;
       first = grown-first;
       behind = grown-behind;
       settings = s .settings;

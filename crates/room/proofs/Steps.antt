@@ -68,14 +68,14 @@ pub common-meet : (r : Room) (c d : ℕ) {m : ℕ} → Meet (r .versions) (head 
 unfolding common
 common-meet r c d b = ap (λ (o : Option ℕ). Option·getD o 0) (meet-found b)
 
--- a merge of two consoles of which neither head is behind the other
-module _ (r : Room) (s : Sound r) (a b : ℕ) (pa : present r a ≡ true) (pb : present r b ≡ true)
-    (ahead : behind r b a ≡ false) (back : behind r a b ≡ false) where
+-- a merge of two present consoles
+module _ (r : Room) (s : Sound r) (a b : ℕ) (pa : present r a ≡ true) (pb : present r b ≡ true) where
   merge-lower : parentsLower (r .versions) (merge (head r a) (head r b)) ≡ true
   merge-lower = and-i _ _ (lt-ltb _ _ (head-named r s a pa)) (lt-ltb _ _ (head-named r s b pb))
 
-  merge-based : mergeHasBase (r .versions) (merge (head r a) (head r b)) ≡ true
-  merge-based =
+  -- where neither head is behind the other, their meet is neither
+  merge-based : behind r b a ≡ false → behind r a b ≡ false → mergeHasBase (r .versions) (merge (head r a) (head r b)) ≡ true
+  merge-based ahead back =
       let l = s .meets a b pa pb in
       rw (meet-found (l .1))
       (and-i _ _
@@ -143,9 +143,10 @@ module _ (r : Room) (s : Sound r) (a b : ℕ) (pa : present r a ≡ true) (pb : 
             (refuted _ (λ t. clash (some-of consoleCount (splits r a b) d (present-console r d (s .sixteen) pd) t) h))
       ]
 
-  pub merge-grown : someThirdSplits r a b ≡ false → versionCount (r .versions) < r .settings .capacity → Sound (grown r a (merge (head r a) (head r b)))
-  merge-grown h left =
-      grown-sound r s a pa (merge (head r a) (head r b)) merge-lower merge-based refl receiver (meeting h) left
+  pub merge-grown : behind r b a ≡ false → behind r a b ≡ false → someThirdSplits r a b ≡ false → versionCount (r .versions) < r .settings .capacity
+      → Sound (grown r a (merge (head r a) (head r b)))
+  merge-grown ahead back h left =
+      grown-sound r s a pa (merge (head r a) (head r b)) merge-lower (merge-based ahead back) refl receiver (meeting h) left
 
   -- no third console splits the two exactly when every two consoles have a meet after the merge
   split-none : someThirdSplits r a b ≡ false → headsMeet (grown r a (merge (head r a) (head r b))) ≡ true
@@ -156,7 +157,7 @@ module _ (r : Room) (s : Sound r) (a b : ℕ) (pa : present r a ≡ true) (pb : 
       (λ c l. of consoleCount _
       (λ d m. implies-i2 (present after c) (present after d) _
       (λ pc pd. ap isSome (meet-found
-      (grown-meets r s a pa (merge (head r a) (head r b)) merge-lower merge-based refl receiver (meeting h) c d pc pd .1)))))
+      (grown-meets r s a pa (merge (head r a) (head r b)) (meeting h) c d pc pd .1)))))
 
   split-some : headsMeet (grown r a (merge (head r a) (head r b))) ≡ true → someThirdSplits r a b ≡ false
   unfolding headsMeet
@@ -179,16 +180,16 @@ module _ (r : Room) (s : Sound r) (a b : ℕ) (pa : present r a ≡ true) (pb : 
 
 -- refusal 17 is given exactly where the merge would leave two consoles without a single lowest common ancestor
 pub seventeen-exact : (r : Room) → soundRoom r ≡ true → (a b : Console) → present r (a .0) ≡ true → present r (b .0) ≡ true
-    → behind r (b .0) (a .0) ≡ false → behind r (a .0) (b .0) ≡ false → someThirdSplits r (a .0) (b .0) ≡ not (headsMeet (step r (Merge a b)))
+    → someThirdSplits r (a .0) (b .0) ≡ not (headsMeet (step r (Merge a b)))
 unfolding step
-seventeen-exact r h a b pa pb ahead back =
+seventeen-exact r h a b pa pb =
     let s = sound-facts r h in
     let after : Room = grown r (a .0) (merge (head r (a .0)) (head r (b .0))) in
     elim (decide (headsMeet after)) [
-      | inl t ↦ split-some r s (a .0) (b .0) pa pb ahead back t ∙ sym (ap not t)
+      | inl t ↦ split-some r s (a .0) (b .0) pa pb t ∙ sym (ap not t)
       | inr f ↦
           elim (decide (someThirdSplits r (a .0) (b .0)))
-          [ inl t ↦ t ∙ sym (ap not f) | inr g ↦ clash (split-none r s (a .0) (b .0) pa pb ahead back g) f ]
+          [ inl t ↦ t ∙ sym (ap not f) | inr g ↦ clash (split-none r s (a .0) (b .0) pa pb g) f ]
     ]
 
 merge-sound : (r : Room) → Sound r → (a b : Console) → InRange (Merge a b) → stepRefusal r (Merge a b) ≡ 0 → Sound (step r (Merge a b))

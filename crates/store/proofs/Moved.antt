@@ -126,8 +126,8 @@ module _ (r : Room) (s : Sound r) (c : ℕ) (p : present r c ≡ true) (code str
   entry-column k ne = sym (field-is (field-sym (entry-field k ne)))
 
 -- a merge of d into c
-module _ (r : Room) (s : Sound r) (c d : ℕ) (p : present r c ≡ true) (q : present r d ≡ true) (ahead : behind r d c ≡ false)
-    (back : behind r c d ≡ false) (split : someThirdSplits r c d ≡ false) where
+module _ (r : Room) (s : Sound r) (c d : ℕ) (p : present r c ≡ true) (q : present r d ≡ true)
+    (split : someThirdSplits r c d ≡ false) where
   merge-field : (k : ℕ) → (k ≡ c → ⊥)
       → Field (grown r c (merge (head r c) (head r d))) c k (max (commonField r c k) (commonField r d k))
   merge-field k ne =
@@ -140,7 +140,7 @@ module _ (r : Room) (s : Sound r) (c d : ℕ) (p : present r c ≡ true) (q : pr
       let w = y .both q t in
       let l = head-named r s k t in (
         omega (arith, m .0),
-        elim (merge-meet-ordered l (m .1) (w .1) (meeting r s c d p q ahead back split k t ne .1)) [
+        elim (merge-meet-ordered l (m .1) (w .1) (meeting r s c d p q split k t ne .1)) [
           | inl a ↦
               let e : pred (max (commonField r c k) (commonField r d k)) ≡ pred (commonField r d k) = omega (arith, ancestor-le (r .versions) _ _ a) in
               rw e (merge-meet-giver l (m .1) (w .1) a)

@@ -214,5 +214,5 @@ module _ (s : List ℕ) (t : holdsStore s ≡ true) (left : versionCount (roomIn
             λ x. o (omega arith) (omega arith),
           )))
           (table-stands joined-counted c d cl dl new header-left (commonField r) (commonField (grown r c m)) (counted-commons joined m joined-grew)
-          (counted-read joined m joined-grew) (grown-self r sound c p m) (merge-row r sound c d p q ahead back split)
-          (merge-column r sound c d p q ahead back split) (grown-other r sound c p m)))
+          (counted-read joined m joined-grew) (grown-self r sound c p m) (merge-row r sound c d p q split)
+          (merge-column r sound c d p q split) (grown-other r sound c p m)))
