@@ -10,18 +10,18 @@ use native.Mathlib.Decide.{ℕ-discrete, decLt}
 use native.Mathlib.Omega.{arith}
 use lib.Dec.{eqb, eqb·suc-zero}
 use lib.ListN.{length, getD}
-use Rattle.laws.proofs.Logic.{clash, bool-ext, implies-i2, implies-e2}
+use Rattle.laws.proofs.Logic.{clash, bool-ext}
 use Rattle.buffer.specs.Field.{word, part}
 use Rattle.buffer.proofs.Stands.{Stands, stands-kept}
 use Rattle.buffer.proofs.Parts.{stands-part, part-stands}
 use Rattle.graph.specs.Below.{everyBelow}
 use Rattle.graph.specs.Graph.{versionCount, meet, isSome}
 use Rattle.graph.proofs.Below.{at, of}
-use Rattle.graph.proofs.Meet.{Meet, meet-found, meet-self, meet-sym}
+use Rattle.graph.proofs.Meet.{meet-self, meet-sym}
 use Rattle.command.specs.Code.{consoleCount}
-use Rattle.room.specs.Room.{Room, headOf, present, head, common}
+use Rattle.room.specs.Room.{Room, headOf, head, common}
 use Rattle.room.specs.Sound.{twoMeet, headsMeet}
-use Rattle.room.proofs.Sound.{meets-of}
+use Rattle.room.proofs.Sound.{two-met, met-two}
 use Rattle.store.specs.Layout.{headerSize, commonsAt, commonsSize, commonAt, headFrom, commonField, commonTable}
 use Rattle.store.specs.Check.{commonIn}
 use Rattle.store.proofs.Blocks.{commonTable-length, table-field}
@@ -37,21 +37,11 @@ use Rattle.resume.proofs.HeadSlots.{headField, Diagonal, diagonal-read}
 use Rattle.resume.proofs.TableSteps.{apart, consoles-own}
 
 module _ (r : Room) where
-  -- two heads that have a meet
-  two-met : (c d : ℕ) → twoMeet r c d ≡ true → present r c ≡ true → present r d ≡ true → (m : ℕ) × Meet (r .versions) (head r c) (head r d) m
-  two-met c d t p q =
-      meets-of (r .versions) (head r c) (head r d) _ refl (implies-e2 (present r c) (present r d) (isSome (meet (r .versions) (head r c) (head r d))) t p q)
-
-  met-two : (c d : ℕ) → (present r c ≡ true → present r d ≡ true → (m : ℕ) × Meet (r .versions) (head r c) (head r d) m) → twoMeet r c d ≡ true
-  met-two c d h =
-      implies-i2 (present r c) (present r d) (isSome (meet (r .versions) (head r c) (head r d)))
-      (λ p q. ap isSome (meet-found (h p q .1)))
-
   two-sym : (c d : ℕ) → twoMeet r c d ≡ true → twoMeet r d c ≡ true
-  two-sym c d t = met-two d c (λ p q. let m = two-met c d t q p in (m .0, meet-sym (m .1)))
+  two-sym c d t = met-two r d c (λ p q. let m = two-met r c d t q p in (m .0, meet-sym (m .1)))
 
   two-self : (c : ℕ) → headField (headOf r c) ≤ versionCount (r .versions) → twoMeet r c c ≡ true
-  two-self c l = met-two c c (λ p q. (head r c, meet-self (r .versions) (head r c) (go (headOf r c) p l)))
+  two-self c l = met-two r c c (λ p q. (head r c, meet-self (r .versions) (head r c) (go (headOf r c) p l)))
     where
       go : (o : Option ℕ) → isSome o ≡ true → headField o ≤ versionCount (r .versions) → Option·getD o 0 < versionCount (r .versions)
       go none p n = clash p refl

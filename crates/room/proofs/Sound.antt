@@ -62,9 +62,20 @@ names : (g : Graph) (h : Option ℕ) (v : ℕ) → namesVersion g h ≡ true →
 names g none v t e = absurd (let z : _≡_ {A = ℕ} 0 1 = cc in omega arith)
 names g (some w) v t e = let same : w ≡ v = cc in omega (arith, ltb-true w (versionCount g) t)
 
-pub meets-of : (g : Graph) (u v : ℕ) (o : Option ℕ) → meet g u v ≡ o → isSome o ≡ true → (m : ℕ) × Meet g u v m
+meets-of : (g : Graph) (u v : ℕ) (o : Option ℕ) → meet g u v ≡ o → isSome o ≡ true → (m : ℕ) × Meet g u v m
 meets-of g u v none e t = clash t refl
 meets-of g u v (some m) e t = (m, meet-is g u v m e)
+
+-- the test of two consoles: where both are present, their heads have a meet
+module _ (r : Room) (c d : ℕ) where
+  pub two-met : twoMeet r c d ≡ true → present r c ≡ true → present r d ≡ true → (m : ℕ) × Meet (r .versions) (head r c) (head r d) m
+  two-met t p q =
+      meets-of (r .versions) (head r c) (head r d) _ refl (implies-e2 (present r c) (present r d) (isSome (meet (r .versions) (head r c) (head r d))) t p q)
+
+  pub met-two : (present r c ≡ true → present r d ≡ true → (m : ℕ) × Meet (r .versions) (head r c) (head r d) m) → twoMeet r c d ≡ true
+  met-two h =
+      implies-i2 (present r c) (present r d) (isSome (meet (r .versions) (head r c) (head r d)))
+      (λ p q. ap isSome (meet-found (h p q .1)))
 
 -- each clause stands in the chain of tests
 pub sound-facts : (r : Room) → soundRoom r ≡ true → Sound r
@@ -81,10 +92,7 @@ sound-facts r h =
       named = λ c v e.
           names (r .versions) (headOf r c) v (at consoleCount _ named c (present-console r c l (ap isSome e))) e;
       meets = λ c d p q.
-          meets-of (r .versions) (head r c) (head r d) _ refl
-          (implies-e2 (present r c) (present r d) _
-          (at consoleCount _ (at consoleCount _ meets c (present-console r c l p)) d (present-console r d l q))
-          p q);
+          two-met r c d (at consoleCount _ (at consoleCount _ meets c (present-console r c l p)) d (present-console r d l q)) p q;
       first = search (and-l, and-r) depth 12;
       behind = λ v b.
           let s = some-at consoleCount _ (at (versionCount (r .versions)) _ behind v b) in
@@ -102,14 +110,12 @@ names-of g (some v) f = lt-ltb v (versionCount g) (f v refl)
 pub facts-sound : (r : Room) → Sound r → soundRoom r ≡ true
 unfolding soundRoom headsMeet allBehindHeads
 facts-sound r s =
-    let found : (c d : ℕ) → twoMeet r c d ≡ true =
-    λ c d. implies-i2 (present r c) (present r d) _ (λ p q. ap isSome (meet-found (s .meets c d p q .1))) in
     and-i _ _ (and-i _ _ (and-i _ _ (and-i _ _ (and-i _ _ (and-i _ _ (and-i _ _ (and-i _ _ (and-i _ _
     (s .lower)
     (s .based))
     (eq-eqb _ _ (s .sixteen)))
     (of consoleCount _ (λ c l. names-of (r .versions) (headOf r c) (s .named c))))
-    (of consoleCount _ (λ c l. of consoleCount _ (λ d m. found c d))))
+    (of consoleCount _ (λ c l. of consoleCount _ (λ d m. met-two r c d (s .meets c d)))))
     (s .first))
     (of (versionCount (r .versions)) _
     (λ v l.

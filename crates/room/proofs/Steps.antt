@@ -11,7 +11,7 @@ use native.Mathlib.Decide.{ℕ-discrete}
 use borrow.Author.Tests.{lt-ltb, le-leb, ne-eqb, eqb-false, not-false}
 use lib.Dec.{eqb}
 use Rattle.graph.specs.declared.Strip.{Strip}
-use Rattle.laws.proofs.Logic.{clash, decide, refuted, and-l, and-r, and-i, and-rest, implies-i2, implies-e2, not-e, not-i}
+use Rattle.laws.proofs.Logic.{clash, decide, refuted, and-l, and-r, and-i, and-rest, not-e, not-i}
 use Rattle.graph.specs.declared.Node.{Node}
 use Rattle.graph.specs.Graph.{entry, merge, versionCount, ancestor, meet, isSome, isMeet, everyVersion, parentsLower, mergeHasBase}
 use Rattle.graph.specs.Below.{everyBelow, someBelow, highestBelow}
@@ -29,7 +29,7 @@ use Rattle.room.specs.Room.{Room, present, head, common, freshRoom}
 use Rattle.room.specs.Sound.{settingsInRange, entryInRange, headsMeet, allBehindHeads, soundRoom}
 use Rattle.room.specs.Step.{behind, apart, splits, someThirdSplits, stepRefusal, grown, step}
 use Rattle.room.proofs.Accepted.{fork-accepted, forward-accepted, entry-accepted, merge-accepted}
-use Rattle.room.proofs.Sound.{Sound, capacity-range, present-console, present-head, meets-of, sound-facts, facts-sound}
+use Rattle.room.proofs.Sound.{Sound, capacity-range, present-console, present-head, two-met, met-two, sound-facts, facts-sound}
 use Rattle.room.proofs.Moves.{there, number, new-head, new-number, kept, moved-sound, grown-sound, grown-meets}
 use Rattle.room.proofs.NewMeets.{entry-meet, merge-meet-receiver, merge-meet-giver, merge-meet-ordered}
 
@@ -152,12 +152,8 @@ module _ (r : Room) (s : Sound r) (a b : ℕ) (pa : present r a ≡ true) (pb : 
   split-none : someThirdSplits r a b ≡ false → headsMeet (grown r a (merge (head r a) (head r b))) ≡ true
   unfolding headsMeet
   split-none h =
-      let after : Room = grown r a (merge (head r a) (head r b)) in
-      of consoleCount _
-      (λ c l. of consoleCount _
-      (λ d m. implies-i2 (present after c) (present after d) _
-      (λ pc pd. ap isSome (meet-found
-      (grown-meets r s a pa (merge (head r a) (head r b)) (meeting h) c d pc pd .1)))))
+      let n : Node = merge (head r a) (head r b) in
+      of consoleCount _ (λ c l. of consoleCount _ (λ d m. met-two (grown r a n) c d (grown-meets r s a pa n (meeting h) c d)))
 
   split-some : headsMeet (grown r a (merge (head r a) (head r b))) ≡ true → someThirdSplits r a b ≡ false
   unfolding headsMeet
@@ -171,9 +167,7 @@ module _ (r : Room) (s : Sound r) (a b : ℕ) (pa : present r a ≡ true) (pb : 
       let parts = split-parts (d .0) (d .2) in
       let f = kept r s a pa n (d .0) (parts .na) in
       let z =
-      meets-of (n ∷ r .versions) (head after a) (head after (d .0)) _ refl
-      (implies-e2 (present after a) (present after (d .0)) _
-      (at consoleCount _ (at consoleCount _ h a (present-console r a (s .sixteen) pa)) (d .0) (d .1)) pa′ (there f (parts .pd))) in
+      two-met after a (d .0) (at consoleCount _ (at consoleCount _ h a (present-console r a (s .sixteen) pa)) (d .0) (d .1)) pa′ (there f (parts .pd)) in
       clash (d .2)
       (third-ordered (d .0) (parts .pd) (parts .na) (parts .nb)
       (subst₂ (λ (u v : ℕ). Meet (n ∷ r .versions) u v (z .0)) (new-number r s a pa n) (number f) (z .1))))
