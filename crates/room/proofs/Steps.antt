@@ -2,7 +2,7 @@
 -- would leave two consoles without a single lowest common ancestor.
 -- Assumes nothing.
 use Prim.Native.Nat.{ℕ, _<_}
-use mathlib.Core.Path.{_≡_, refl, sym, _∙_, ap, subst, subst₂}
+use mathlib.Core.Path.{_≡_, refl, sym, _∙_, ap, ap₂, subst, subst₂}
 use mathlib.Core.Bool.{true, false, not, _&&_}
 use mathlib.Core.List.{_∷_}
 use mathlib.Core.Logic.{inl, inr}
@@ -68,6 +68,29 @@ pub common-meet : (r : Room) (c d : ℕ) {m : ℕ} → Meet (r .versions) (head 
 unfolding common
 common-meet r c d b = ap (λ (o : Option ℕ). Option·getD o 0) (meet-found b)
 
+-- what it says that console d splits two others
+module _ (r : Room) (a b d : ℕ) where
+  pub record Parts : Type 0 where
+    pub pd : present r d ≡ true
+    pub na : d ≡ a → ⊥
+    pub nb : d ≡ b → ⊥
+
+  pub split-parts : splits r a b d ≡ true → Parts
+  split-parts h =
+      let three = and-l (present r d && not (eqb d a) && not (eqb d b)) _ h in
+      let two = and-l (present r d && not (eqb d a)) _ three in
+      record {
+        pd = and-l (present r d) _ two;
+        na = eqb-false _ _ (not-e _ (and-r (present r d) _ two));
+        nb = eqb-false _ _ (not-e _ (and-r (present r d && not (eqb d a)) _ three));
+      }
+
+  pub third-splits : (d ≡ a → ⊥) → (d ≡ b → ⊥) → present r d ≡ true → splits r a b d ≡ apart r (common r d a) (common r d b)
+  third-splits na nb pd =
+      let one : present r d && not (eqb d a) && not (eqb d b) ≡ true =
+      and-i _ _ (and-i _ _ pd (not-i _ (ne-eqb d a na))) (not-i _ (ne-eqb d b nb)) in
+      rw one
+
 -- a merge of two present consoles
 module _ (r : Room) (s : Sound r) (a b : ℕ) (pa : present r a ≡ true) (pb : present r b ≡ true) where
   merge-lower : parentsLower (r .versions) (merge (head r a) (head r b)) ≡ true
@@ -82,31 +105,13 @@ module _ (r : Room) (s : Sound r) (a b : ℕ) (pa : present r a ≡ true) (pb : 
       (not-i _ (ne-eqb (l .0) (head r a) (λ e. clash (rw e at (l .1 .second)) back)))
       (not-i _ (ne-eqb (l .0) (head r b) (λ e. clash (rw e at (l .1 .first)) ahead))))
 
-  -- what it says that a console splits the two
-  record Parts (d : ℕ) : Type 0 where
-    pd : present r d ≡ true
-    na : d ≡ a → ⊥
-    nb : d ≡ b → ⊥
-
-  split-parts : (d : ℕ) → splits r a b d ≡ true → Parts d
-  split-parts d h =
-      let three = and-l (present r d && not (eqb d a) && not (eqb d b)) _ h in
-      let two = and-l (present r d && not (eqb d a)) _ three in
-      record {
-        pd = and-l (present r d) _ two;
-        na = eqb-false _ _ (not-e _ (and-r (present r d) _ two));
-        nb = eqb-false _ _ (not-e _ (and-r (present r d && not (eqb d a)) _ three));
-      }
-
   -- a third console splits the two where neither of its commons with them is behind the other
   module _ (d : ℕ) (pd : present r d ≡ true) (na : d ≡ a → ⊥) (nb : d ≡ b → ⊥) where
     commons-apart : splits r a b d ≡ apart r (s .meets a d pa pd .0) (s .meets b d pb pd .0)
     commons-apart =
-        let one : present r d && not (eqb d a) && not (eqb d b) ≡ true =
-        and-i _ _ (and-i _ _ pd (not-i _ (ne-eqb d a na))) (not-i _ (ne-eqb d b nb)) in
         let k : common r d a ≡ s .meets a d pa pd .0 = common-meet r d a (meet-sym (s .meets a d pa pd .1)) in
         let m : common r d b ≡ s .meets b d pb pd .0 = common-meet r d b (meet-sym (s .meets b d pb pd .1)) in
-        rw (one, k, m)
+        third-splits r a b d na nb pd ∙ ap₂ (apart r) k m
 
     third-meets : splits r a b d ≡ false → (m : ℕ) × Meet (merge (head r a) (head r b) ∷ r .versions) (versionCount (r .versions)) (head r d) m
     third-meets h =
@@ -164,7 +169,7 @@ module _ (r : Room) (s : Sound r) (a b : ℕ) (pa : present r a ≡ true) (pb : 
       refuted _
       (λ t.
       let d = some-at consoleCount (splits r a b) t in
-      let parts = split-parts (d .0) (d .2) in
+      let parts = split-parts r a b (d .0) (d .2) in
       let f = kept r s a pa n (d .0) (parts .na) in
       let z =
       two-met after a (d .0) (at consoleCount _ (at consoleCount _ h a (present-console r a (s .sixteen) pa)) (d .0) (d .1)) pa′ (there f (parts .pd)) in

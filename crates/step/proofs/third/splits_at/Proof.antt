@@ -5,7 +5,8 @@ use mathlib.Core.Path.{sym, _∙_}
 use borrow.Author.Tests.{not-true, not-false}
 use borrow.Author.Needs.{needs}
 use Rattle.store.specs.Layout.{roomIn}
-use Rattle.step.proofs.Thirds.{receiver-splits-not, giver-splits-not, absent-splits-not, third-splits}
+use Rattle.room.proofs.Steps.{third-splits}
+use Rattle.step.proofs.Thirds.{receiver-splits-not, giver-splits-not, absent-splits-not}
 use Rattle.step.proofs.third.splits_at.Statement.{statement}
 use Rattle.step.proofs.third.splits_at.Tie as tie
 
