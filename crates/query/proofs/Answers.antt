@@ -23,6 +23,9 @@ use Rattle.store.proofs.Reading.{count-read}
 use Rattle.store.proofs.Checks.{own-heads}
 use Rattle.store.proofs.Whole.{whole-ranges, whole-front, whole-long, whole-small, whole-held, whole-fields, whole-low}
 
+pub present-answer : (s : List ℕ) (c : ℕ) → c < consoleCount → not (eqb (commonIn s c c) 0) ≡ present (roomIn s) c
+present-answer s c l = sym (present-is s (roomIn s) (own-heads s) c l)
+
 module _ (s : List ℕ) (t : holdsStore s ≡ true) where
   pub settings-answer : (settingsIn s ≡ roomIn s .settings) × (wordAt s capacityAt ≤ 1024)
   unfolding roomIn
@@ -38,9 +41,6 @@ module _ (s : List ℕ) (t : holdsStore s ≡ true) where
   versions-inside = let k = whole-ranges s t in omega (arith, whole-long s t)
 
   -- consoles
-  pub present-answer : (c : ℕ) → c < consoleCount → not (eqb (commonIn s c c) 0) ≡ present (roomIn s) c
-  present-answer c l = sym (present-is s (roomIn s) (own-heads s) c l)
-
   pub head-answer : (c : ℕ) → c < consoleCount
       → (pred (commonIn s c c) ≡ head (roomIn s) c) × (pred (commonIn s c c) < versionCount (roomIn s .versions))
   head-answer c l = (sym (head-is s (roomIn s) (own-heads s) c l), omega (arith, whole-low s t c l))

@@ -46,55 +46,59 @@ module _ {r′ r : Room} {k j : ℕ} (f : Follows r′ r k j) where
 abbrev after : Room → ℕ → ℕ → Room
 after r c d = moved r c (headOf r d)
 
-module _ (r : Room) (s : Sound r) (c d : ℕ) (l : c < consoleCount) (q : present r d ≡ true)
-    (b : present r c ≡ true → ancestor (r .versions) (head r c) (head r d) ≡ true) where
-  -- each console now follows one of before: c follows d
+-- each console then follows one of before: c follows d, and every other itself
+pub now-other : (r : Room) (c d k : ℕ) → (k ≡ c → ⊥) → Follows (after r c d) r k k
+now-other r c d k ne = record { slot = head-kept r c (headOf r d) k ne }
+
+module _ (r : Room) (s : Sound r) (c d : ℕ) (l : c < consoleCount) where
   pub now-c : Follows (after r c d) r c d
   now-c = record { slot = head-set r c (headOf r d) (omega (arith, s .sixteen)) }
 
-  pub now-other : (k : ℕ) → (k ≡ c → ⊥) → Follows (after r c d) r k k
-  now-other k ne = record { slot = head-kept r c (headOf r d) k ne }
-
   source : (k : ℕ) → (j : ℕ) × Follows (after r c d) r k j
-  source k = elim (ℕ-discrete k c) [ yes e ↦ (d, record { slot = ap (headOf (after r c d)) e ∙ now-c .slot }) | no ne ↦ (k, now-other k ne) ]
+  source k = elim (ℕ-discrete k c) [ yes e ↦ (d, record { slot = ap (headOf (after r c d)) e ∙ now-c .slot }) | no ne ↦ (k, now-other r c d k ne) ]
 
-  -- a version behind a head is behind one still
-  behind-one : (v k : ℕ) → present r k ≡ true → ancestor (r .versions) v (head r k) ≡ true
-      → (x : ℕ) × (present (after r c d) x ≡ true) × (ancestor (r .versions) v (head (after r c d) x) ≡ true)
-  behind-one v k p a =
-      elim (ℕ-discrete k c) [
-        | yes e ↦
-            let p′ : present r c ≡ true = rw e at p in
-            let a′ : ancestor (r .versions) v (head r c) ≡ true = rw e at a in (
-              c,
-              there now-c q,
-              ap (ancestor (r .versions) v) (number now-c) ∙ ancestor-trans (r .versions) v (head r c) (head r d) a′ (b p′),
-            )
-        | no ne ↦ (k, there (now-other k ne) p, ap (ancestor (r .versions) v) (number (now-other k ne)) ∙ a)
-      ]
+  module _ (q : present r d ≡ true) (b : present r c ≡ true → ancestor (r .versions) (head r c) (head r d) ≡ true) where
+    -- a version behind a head is behind one still
+    behind-one : (v k : ℕ) → present r k ≡ true → ancestor (r .versions) v (head r k) ≡ true
+        → (x : ℕ) × (present (after r c d) x ≡ true) × (ancestor (r .versions) v (head (after r c d) x) ≡ true)
+    behind-one v k p a =
+        elim (ℕ-discrete k c) [
+          | yes e ↦
+              let p′ : present r c ≡ true = rw e at p in
+              let a′ : ancestor (r .versions) v (head r c) ≡ true = rw e at a in (
+                c,
+                there now-c q,
+                ap (ancestor (r .versions) v) (number now-c) ∙ ancestor-trans (r .versions) v (head r c) (head r d) a′ (b p′),
+              )
+          | no ne ↦ (k, there (now-other r c d k ne) p, ap (ancestor (r .versions) v) (number (now-other r c d k ne)) ∙ a)
+        ]
 
-  first-there : present (after r c d) 0 ≡ true
-  first-there =
-      elim (ℕ-discrete 0 c)
-      [ yes e ↦ ap (present (after r c d)) e ∙ there now-c q | no ne ↦ there (now-other 0 ne) (s .first) ]
+    first-there : present (after r c d) 0 ≡ true
+    first-there =
+        elim (ℕ-discrete 0 c)
+        [ yes e ↦ ap (present (after r c d)) e ∙ there now-c q | no ne ↦ there (now-other r c d 0 ne) (s .first) ]
 
-  pub moved-sound : Sound (moved r c (headOf r d))
-  moved-sound = record {
-    lower = s .lower;
-    based = s .based;
-    sixteen = length-set (r .heads) c (headOf r d) ∙ s .sixteen;
-    named = λ k v e. s .named (source k .0) v (sym (source k .1 .slot) ∙ e);
-    meets = λ k k′ p p′.
-        let m = s .meets (source k .0) (source k′ .0) (back (source k .1) p) (back (source k′ .1) p′) in (
-          m .0,
-          subst₂ (λ (u v : ℕ). Meet (r .versions) u v (m .0)) (sym (number (source k .1))) (sym (number (source k′ .1))) (m .1),
-        );
-    first = first-there;
-    behind = λ v bound. let k = s .behind v bound in behind-one v (k .0) (k .1) (k .2);
-    settings = s .settings;
-    fits = s .fits;
-    ranged = s .ranged;
-  }
+    pub moved-sound : Sound (moved r c (headOf r d))
+    moved-sound = record {
+      lower = s .lower;
+      based = s .based;
+      sixteen = length-set (r .heads) c (headOf r d) ∙ s .sixteen;
+      named = λ k v e. s .named (source k .0) v (sym (source k .1 .slot) ∙ e);
+      meets = λ k k′ p p′.
+          let m = s .meets (source k .0) (source k′ .0) (back (source k .1) p) (back (source k′ .1) p′) in (
+            m .0,
+            subst₂ (λ (u v : ℕ). Meet (r .versions) u v (m .0)) (sym (number (source k .1))) (sym (number (source k′ .1))) (m .1),
+          );
+      first = first-there;
+      behind = λ v bound. let k = s .behind v bound in behind-one v (k .0) (k .1) (k .2);
+      settings = s .settings;
+      fits = s .fits;
+      ranged = s .ranged;
+    }
+
+-- console c on a new version: every other console follows itself
+pub kept : (r : Room) (c : ℕ) (n : Node) (k : ℕ) → (k ≡ c → ⊥) → Follows (grown r c n) r k k
+kept r c n k ne = record { slot = getD-set-other (r .heads) c k (some (versionCount (r .versions))) none ne }
 
 module _ (r : Room) (s : Sound r) (c : ℕ) (p : present r c ≡ true) (n : Node) where
   pub new-head : headOf (grown r c n) c ≡ some (versionCount (r .versions))
@@ -106,29 +110,26 @@ module _ (r : Room) (s : Sound r) (c : ℕ) (p : present r c ≡ true) (n : Node
   at-new : (k : ℕ) → k ≡ c → head (grown r c n) k ≡ versionCount (r .versions)
   at-new k e = ap (head (grown r c n)) e ∙ new-number
 
-  pub kept : (k : ℕ) → (k ≡ c → ⊥) → Follows (grown r c n) r k k
-  kept k ne = record { slot = getD-set-other (r .heads) c k (some (versionCount (r .versions))) none ne }
-
   -- every version is new or old, and so is every head
   grown-named : (k v : ℕ) → headOf (grown r c n) k ≡ some v → v < suc (versionCount (r .versions))
   grown-named k v e =
       elim (ℕ-discrete k c) [
         | yes same ↦ let w : versionCount (r .versions) ≡ v = cc (new-head, ap (headOf (grown r c n)) same) in omega arith
-        | no ne ↦ omega (arith, s .named k v (sym (kept k ne .slot) ∙ e))
+        | no ne ↦ omega (arith, s .named k v (sym (kept r c n k ne .slot) ∙ e))
       ]
 
   grown-first : present (grown r c n) 0 ≡ true
   grown-first =
       elim (ℕ-discrete 0 c)
-      [ yes e ↦ ap (present (grown r c n)) e ∙ ap isSome new-head | no ne ↦ there (kept 0 ne) (s .first) ]
+      [ yes e ↦ ap (present (grown r c n)) e ∙ ap isSome new-head | no ne ↦ there (kept r c n 0 ne) (s .first) ]
 
   -- where the new version has a meet with every head, every two heads have one
   module _ (meeting : (d : ℕ) → present r d ≡ true → (d ≡ c → ⊥) → (m : ℕ) × Meet (n ∷ r .versions) (versionCount (r .versions)) (head r d) m) where
     -- a console that did not move has a meet with the one that did
     with-new : (k : ℕ) → present (grown r c n) k ≡ true → (k ≡ c → ⊥) → (m : ℕ) × Meet (n ∷ r .versions) (versionCount (r .versions)) (head (grown r c n) k) m
     with-new k q ne =
-        let m = meeting k (back (kept k ne) q) ne in
-        (m .0, rw (number (kept k ne)) (m .1))
+        let m = meeting k (back (kept r c n k ne) q) ne in
+        (m .0, rw (number (kept r c n k ne)) (m .1))
 
     pub grown-meets : (k k′ : ℕ) → present (grown r c n) k ≡ true → present (grown r c n) k′ ≡ true
         → (m : ℕ) × Meet (n ∷ r .versions) (head (grown r c n) k) (head (grown r c n) k′) m
@@ -147,9 +148,9 @@ module _ (r : Room) (s : Sound r) (c : ℕ) (p : present r c ≡ true) (n : Node
               elim (ℕ-discrete k′ c) [
                 | yes e′ ↦ let m = with-new k q ne in (m .0, rw (at-new k′ e′) (meet-sym (m .1)))
                 | no ne′ ↦
-                    let m = s .meets k k′ (back (kept k ne) q) (back (kept k′ ne′) q′) in (
+                    let m = s .meets k k′ (back (kept r c n k ne) q) (back (kept r c n k′ ne′) q′) in (
                       m .0,
-                      subst₂ (λ (u v : ℕ). Meet (n ∷ r .versions) u v (m .0)) (sym (number (kept k ne))) (sym (number (kept k′ ne′)))
+                      subst₂ (λ (u v : ℕ). Meet (n ∷ r .versions) u v (m .0)) (sym (number (kept r c n k ne))) (sym (number (kept r c n k′ ne′)))
                           (Meet-new n (m .1)),
                     )
               ]
@@ -172,8 +173,8 @@ module _ (r : Room) (s : Sound r) (c : ℕ) (p : present r c ≡ true) (n : Node
                 )
                 | no ne ↦ (
                   b .0,
-                  there (kept (b .0) ne) (b .1),
-                  ap (ancestor (n ∷ r .versions) v) (number (kept (b .0) ne))
+                  there (kept r c n (b .0) ne) (b .1),
+                  ap (ancestor (n ∷ r .versions) v) (number (kept r c n (b .0) ne))
                       ∙ ancestor-old n (r .versions) v (head r (b .0)) (ancestor-named (r .versions) v (head r (b .0)) (b .2)) ∙ b .2,
                 )
               ]

@@ -170,7 +170,7 @@ module _ (r : Room) (s : Sound r) (a b : ℕ) (pa : present r a ≡ true) (pb : 
       (λ t.
       let d = some-at consoleCount (splits r a b) t in
       let parts = split-parts r a b (d .0) (d .2) in
-      let f = kept r s a pa n (d .0) (parts .na) in
+      let f = kept r a n (d .0) (parts .na) in
       let z =
       two-met after a (d .0) (at consoleCount _ (at consoleCount _ h a (present-console r a (s .sixteen) pa)) (d .0) (d .1)) pa′ (there f (parts .pd)) in
       clash (d .2)

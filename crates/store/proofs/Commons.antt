@@ -82,6 +82,31 @@ module _ (s : List ℕ) (r : Room) (heads : (c : ℕ) → c < consoleCount → h
   pub not-zero : (c : ℕ) → c < consoleCount → present r c ≡ true → eqb (commonIn s c c) 0 ≡ false
   not-zero c l p = not-e _ (sym (present-is c l) ∙ p)
 
+  -- the field of a console with itself: its head
+  self-field : (c : ℕ) → c < consoleCount → commonIn s c c ≤ versionCount (r .versions) → Field r c c (commonIn s c c)
+  self-field c cl cn =
+      elim (decide (eqb (commonIn s c c) 0)) [
+        | inl a ↦ record { away = λ _. eqb-true (commonIn s c c) 0 a; both = λ p q. clash a (not-zero c cl p) }
+        | inr a ↦
+            let p = there c cl a in
+            let xp = eqb-false (commonIn s c c) 0 a in
+            record {
+              away = λ k. absurd (k p p);
+              both = λ _ _. (omega arith, rw head-is (meet-self (r .versions) (pred (commonIn s c c)) (omega arith)));
+            }
+      ]
+
+  -- a head is a version
+  pub field-named : (c : ℕ) → c < consoleCount → Field r c c (commonIn s c c) → commonIn s c c ≤ versionCount (r .versions)
+  field-named c cl f =
+      elim (decide (eqb (commonIn s c c) 0)) [
+        | inl a ↦ omega (arith, eqb-true (commonIn s c c) 0 a)
+        | inr a ↦
+            let p = there c cl a in
+            let k = f .both p p in
+            omega (arith, ancestor-below (r .versions) (pred (commonIn s c c)) (head r c) (k .1 .first))
+      ]
+
   module _ (small : versionCount (r .versions) ≤ maxCapacity) (h : Held s (r .versions)) where
     abbrev n : ℕ
     n = versionCount (r .versions)
@@ -123,7 +148,7 @@ module _ (s : List ℕ) (r : Room) (heads : (c : ℕ) → c < consoleCount → h
                   both = λ p q. (
                     zp,
                     rw (head-is c cl, head-is d dl)
-                        (rows-meet small h (pred x) (pred y) (pred z) (omega arith) (omega arith) (omega arith)
+                        (rows-meet h (pred x) (pred y) (pred z) (omega arith) (omega arith) small (omega arith)
                         (same-true _ _ (and-r (ltb 0 z && leb z n) rows found))),
                   );
                 }
@@ -145,33 +170,8 @@ module _ (s : List ℕ) (r : Room) (heads : (c : ℕ) → c < consoleCount → h
                 let zn = ancestor-below (r .versions) (pred z) (pred x) (m .first) in
                 cond-false _ _ _ a
                 ∙ and-i _ _ (and-i _ _ (lt-ltb 0 z (k .0)) (le-leb z n (omega arith)))
-                (same-of _ _ (meet-rows small h (pred x) (pred y) (pred z) (omega arith) (omega arith) m))
+                (same-of _ _ (meet-rows h (pred x) (pred y) (pred z) (omega arith) (omega arith) m))
           ])
-
-    -- the field of a console with itself: its head
-    self-field : (c : ℕ) → c < consoleCount → commonIn s c c ≤ n → Field r c c (commonIn s c c)
-    self-field c cl cn =
-        elim (decide (eqb (commonIn s c c) 0)) [
-          | inl a ↦ record { away = λ _. eqb-true (commonIn s c c) 0 a; both = λ p q. clash a (not-zero c cl p) }
-          | inr a ↦
-              let p = there c cl a in
-              let xp = eqb-false (commonIn s c c) 0 a in
-              record {
-                away = λ k. absurd (k p p);
-                both = λ _ _. (omega arith, rw head-is (meet-self (r .versions) (pred (commonIn s c c)) (omega arith)));
-              }
-        ]
-
-    -- a head is a version
-    pub field-named : (c : ℕ) → c < consoleCount → Field r c c (commonIn s c c) → commonIn s c c ≤ n
-    field-named c cl f =
-        elim (decide (eqb (commonIn s c c) 0)) [
-          | inl a ↦ omega (arith, eqb-true (commonIn s c c) 0 a)
-          | inr a ↦
-              let p = there c cl a in
-              let k = f .both p p in
-              omega (arith, ancestor-below (r .versions) (pred (commonIn s c c)) (head r c) (k .1 .first))
-        ]
 
     pub consoles-fields : everyBelow consoleCount (consoleRight s n) ≡ true
         → (c d : ℕ) → c < consoleCount → d < consoleCount → Field r c d (commonIn s c d)

@@ -63,11 +63,11 @@ module _ (r : Room) (s : Sound r) (c d : ℕ) (l : c < consoleCount) (q : presen
   keep u v m w = w
 
   pub moved-self : commonField after c c ≡ commonField r d d
-  moved-self = sym (field-is (follow-field (now-c r s c d l q b) (now-c r s c d l q b) keep (sound-field r s d d)))
+  moved-self = sym (field-is (follow-field (now-c r s c d l) (now-c r s c d l) keep (sound-field r s d d)))
 
   pub moved-row : (k : ℕ) → (k ≡ c → ⊥) → commonField after c k ≡ max (commonField r c k) (commonField r d k)
   moved-row k ne =
-      let e = field-is (follow-field (now-c r s c d l q b) (now-other r s c d l q b k ne) keep (sound-field r s d k)) in
+      let e = field-is (follow-field (now-c r s c d l) (now-other r c d k ne) keep (sound-field r s d k)) in
       omega (arith, field-behind r s c d k q b)
 
   pub moved-column : (k : ℕ) → (k ≡ c → ⊥) → commonField after k c ≡ max (commonField r c k) (commonField r d k)
@@ -75,7 +75,7 @@ module _ (r : Room) (s : Sound r) (c d : ℕ) (l : c < consoleCount) (q : presen
 
   pub moved-other : (j k : ℕ) → (j ≡ c → ⊥) → (k ≡ c → ⊥) → commonField after j k ≡ commonField r j k
   moved-other j k nj nk =
-      sym (field-is (follow-field (now-other r s c d l q b j nj) (now-other r s c d l q b k nk) keep (sound-field r s j k)))
+      sym (field-is (follow-field (now-other r c d j nj) (now-other r c d k nk) keep (sound-field r s j k)))
 
 -- console c on a new version
 module _ (r : Room) (s : Sound r) (c : ℕ) (p : present r c ≡ true) (n : Node) where
@@ -98,7 +98,7 @@ module _ (r : Room) (s : Sound r) (c : ℕ) (p : present r c ≡ true) (n : Node
   new-field : (k z : ℕ) → (k ≡ c → ⊥) → (present r k ≡ false → z ≡ 0)
       → (present r k ≡ true → (0 < z) × Meet (n ∷ r .versions) fresh (head r k) (pred z)) → Field (grown r c n) c k z
   new-field k z ne gone met =
-      let f = kept r s c p n k ne in
+      let f = kept r c n k ne in
       record {
         away = λ a. gone (refuted (present r k) (λ t. a new-there (there f t)));
         both = λ _ t.
@@ -108,7 +108,7 @@ module _ (r : Room) (s : Sound r) (c : ℕ) (p : present r c ≡ true) (n : Node
 
   pub grown-other : (j k : ℕ) → (j ≡ c → ⊥) → (k ≡ c → ⊥) → commonField (grown r c n) j k ≡ commonField r j k
   grown-other j k nj nk =
-      sym (field-is (follow-field (kept r s c p n j nj) (kept r s c p n k nk) (λ u v m. Meet-new n) (sound-field r s j k)))
+      sym (field-is (follow-field (kept r c n j nj) (kept r c n k nk) (λ u v m. Meet-new n) (sound-field r s j k)))
 
 -- an entry: the common versions of the console with the others stay
 module _ (r : Room) (s : Sound r) (c : ℕ) (p : present r c ≡ true) (code strip operand : ℕ) where

@@ -55,7 +55,7 @@ module _ (s : List ℕ) (b : Bytes s) where
     fields = consoles-fields s r (own-heads s) small held (k .consoles)
 
     low : (c : ℕ) → c < consoleCount → commonIn s c c ≤ versionCount g
-    low c l = field-named s r (own-heads s) small held c l (fields c c l l)
+    low c l = field-named s r (own-heads s) c l (fields c c l l)
 
     -- a head is the version that stands on the diagonal
     named : (c v : ℕ) → headOf r c ≡ some v → v < versionCount g

@@ -76,13 +76,13 @@ held-newest {s} {g} {n} h =
     }
 
 -- a version is the meet of two exactly when the row that stands there is the intersection of theirs
-module _ {s : List ℕ} {g : Graph} (small : versionCount g ≤ maxCapacity) (h : Held s g) (p q l : ℕ) (pn : p < versionCount g) (qn : q < versionCount g) where
+module _ {s : List ℕ} {g : Graph} (h : Held s g) (p q l : ℕ) (pn : p < versionCount g) (qn : q < versionCount g) where
   pub meet-rows : Meet g p q l → rowPart s l ≡ intersection (rowPart s p) (rowPart s q)
   meet-rows m =
       h .told l (ancestor-below g l p (m .first)) .line
       ∙ meet-lineage m
       ∙ sym (ap₂ intersection (h .told p pn .line) (h .told q qn .line))
 
-  pub rows-meet : l < versionCount g → rowPart s l ≡ intersection (rowPart s p) (rowPart s q) → Meet g p q l
-  rows-meet ln e =
+  pub rows-meet : versionCount g ≤ maxCapacity → l < versionCount g → rowPart s l ≡ intersection (rowPart s p) (rowPart s q) → Meet g p q l
+  rows-meet small ln e =
       lineage-meet g p q l small ln (sym (h .told l ln .line) ∙ e ∙ ap₂ intersection (h .told p pn .line) (h .told q qn .line))

@@ -108,7 +108,7 @@ module _ (s : List ℕ) (g : Graph) (small : versionCount g < maxCapacity) (h : 
       let second = ltb-true q v (search (and-l, and-r) depth 12) in
       let third = ltb-true l v (search (and-l, and-r) depth 12) in
       let m : Meet g p q l =
-      rows-meet (omega arith) h p q l first second third
+      rows-meet h p q l first second (omega arith) third
       (same-true (rowPart s l) (intersection (rowPart s p) (rowPart s q)) (search (and-l, and-r) depth 12)) in
       record {
         lower = and-i (ltb p v) (ltb q v) (lt-ltb p v first) (lt-ltb q v second);
@@ -139,7 +139,7 @@ module _ (s : List ℕ) (g : Graph) (small : versionCount g < maxCapacity) (h : 
       (and-i _ _ (and-i _ _ (and-i _ _
       (not-i _ (ne-eqb l p (λ d. base .2 (sym e ∙ d))))
       (not-i _ (ne-eqb l q (λ d. base .3 (sym e ∙ d)))))
-      (same-of _ _ (meet-rows (omega arith) h p q l first second m)))
+      (same-of _ _ (meet-rows h p q l first second m)))
       (same-of _ _ (k .told .line ∙ sym (merge-line first second)))))
       (same-of _ _ (k .told .board ∙ sym (merge-board first second m))))
       (not-i _ (k .told .listed))))

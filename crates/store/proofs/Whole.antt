@@ -78,4 +78,4 @@ module _ (s : List ℕ) (t : holdsStore s ≡ true) where
   whole-fields c d i j = rw (common-read s (roomIn s) whole-front whole-ranges c d i j) (field-of (roomIn s) c d (whole-sound .meets c d))
 
   pub whole-low : (c : ℕ) → c < consoleCount → commonIn s c c ≤ versionCount (roomIn s .versions)
-  whole-low c l = field-named s (roomIn s) (own-heads s) whole-small whole-held c l (whole-fields c c l l)
+  whole-low c l = field-named s (roomIn s) (own-heads s) c l (whole-fields c c l l)

@@ -12,7 +12,7 @@ common-in-requires c κs = (whole-header (c .before .args .s .now) (c .before .p
 returns : tie.Need-returns
 returns c =
     let start = c .before .before .before in
-    rw (c .before .common-in .ensures .0) (present-answer (start .args .s .now) (start .pre .0) (start .args .c .0) (start .pre .1))
+    rw (c .before .common-in .ensures .0) (present-answer (start .args .s .now) (start .args .c .0) (start .pre .1))
 
 pub is-present-spec : {M : Type 1} → statement M
 is-present-spec = tie.close (tie.spec common-in-requires returns)
