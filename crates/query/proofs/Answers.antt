@@ -15,13 +15,14 @@ use Rattle.graph.proofs.Ancestor.{ancestor-below}
 use Rattle.command.specs.Code.{consoleCount}
 use Rattle.room.specs.Room.{present, head, common}
 use Rattle.room.specs.Boards.{boardOf}
+use Rattle.room.proofs.Sound.{capacity-range}
 use Rattle.room.proofs.Steps.{common-meet}
 use Rattle.store.specs.Layout.{rowSize, blockAt, capacityAt, countAt, settingsIn, roomIn, holdsStore}
 use Rattle.store.specs.Check.{rowPart, boardPart, commonIn}
 use Rattle.store.proofs.Commons.{head-is, present-is}
 use Rattle.store.proofs.Reading.{count-read}
 use Rattle.store.proofs.Checks.{own-heads}
-use Rattle.store.proofs.Whole.{whole-ranges, whole-front, whole-long, whole-small, whole-held, whole-fields, whole-low}
+use Rattle.store.proofs.Whole.{whole-sound, whole-front, whole-long, whole-small, whole-held, whole-fields, whole-low}
 
 pub present-answer : (s : List ℕ) (c : ℕ) → c < consoleCount → not (eqb (commonIn s c c) 0) ≡ present (roomIn s) c
 present-answer s c l = sym (present-is s (roomIn s) (own-heads s) c l)
@@ -29,16 +30,16 @@ present-answer s c l = sym (present-is s (roomIn s) (own-heads s) c l)
 module _ (s : List ℕ) (t : holdsStore s ≡ true) where
   pub settings-answer : (settingsIn s ≡ roomIn s .settings) × (wordAt s capacityAt ≤ 1024)
   unfolding roomIn
-  settings-answer = (refl, whole-ranges s t .capacity)
+  settings-answer = (refl, capacity-range (roomIn s .settings) (whole-sound s t .settings) .1)
 
   pub count-answer : (wordAt s countAt ≡ versionCount (roomIn s .versions)) × (wordAt s countAt ≤ 1024)
   count-answer =
-      let e = count-read s (roomIn s) (whole-front s t) (whole-ranges s t) in
+      let e = count-read s (roomIn s) (whole-front s t) (whole-sound s t) in
       (e, omega (arith, whole-small s t))
 
   -- the blocks of its versions lie in the bytes
   pub versions-inside : blockAt (versionCount (roomIn s .versions)) ≤ length s
-  versions-inside = let k = whole-ranges s t in omega (arith, whole-long s t)
+  versions-inside = omega (arith, whole-sound s t .fits, whole-long s t)
 
   -- consoles
   pub head-answer : (c : ℕ) → c < consoleCount

@@ -23,7 +23,6 @@ use Rattle.store.specs.Layout.{headerSize, rowSize, storeSize, countAt, commons
 use Rattle.store.proofs.Blocks.{commonTable-length, block-length, table-field}
 use Rattle.store.proofs.Joined.{Placed, placed}
 use Rattle.store.proofs.Changed.{Changed, changed-store}
-use Rattle.store.proofs.Ranges.{ranges}
 use Rattle.store.proofs.RoundTrip.{encode-length}
 use Rattle.update.proofs.AppendedBlocks.{Standing}
 use Rattle.tape.specs.Tape.{Content, roomOf}
@@ -63,7 +62,7 @@ module _ (t : Content) (sound : soundRoom (roomOf t) ≡ true) (old : List ℕ) 
   opened-standing = record { versions = parts .versions; entries = parts .entries }
 
   pub opened-fits : blockAt (versionCount (t .versions)) ≤ length s
-  opened-fits = let k = ranges r sound in let long = opened-long in let f = fits in omega arith
+  opened-fits = let k = sound-facts r sound in let long = opened-long in let f = fits in omega arith
 
   module _ {now : List ℕ} (built : Built s now (t .versions)) (header : List ℕ)
       (common : part header commonsAt commonsSize ≡ commonTable r 0 consoleCount) where
@@ -102,7 +101,7 @@ module _ (t : Content) (sound : soundRoom (roomOf t) ≡ true) (old : List ℕ) 
 
     whole : Changed s final (freshRoom (t .settings)) r
     whole =
-        let k = ranges r sound in
+        let k = sound-facts r sound in
         let l = table-long in
         let long = counted-long in
         let f = fits in
@@ -111,7 +110,7 @@ module _ (t : Content) (sound : soundRoom (roomOf t) ≡ true) (old : List ℕ) 
         record {
           settings = refl;
           more = omega arith;
-          fits = k .count;
+          fits = k .fits;
           kept = λ i o. stays i (λ x y. o .1 (omega arith) y) (o .0) ∙ built .kept i (o .2) (λ x y. o .1 x (omega arith));
           count = stands-kept (put-stands now countAt n (omega (arith, now-long))) (λ i x y. outside i (omega arith));
           entries = stands-kept (built .standing .entries) (λ i x y. stays i (omega arith) (omega arith));

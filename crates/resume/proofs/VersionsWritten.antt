@@ -18,11 +18,10 @@ use Rattle.graph.specs.declared.Node.the-variants.{Entry, Merge}
 use Rattle.graph.specs.Graph.{Graph, entry, merge, versionCount, ancestor, meet, baseOf, servesAsBase, everyVersion, parentsLower, mergeHasBase}
 use Rattle.graph.proofs.Ancestor.{every-new, every-old, ancestor-old}
 use Rattle.room.specs.Sound.{entryInRange, soundRoom}
-use Rattle.room.proofs.Sound.{sound-facts}
+use Rattle.room.proofs.Sound.{versions-small, sound-facts}
 use Rattle.store.specs.Layout.{rowSize, entriesAt, blockAt, headFrom}
 use Rattle.store.specs.Rules.{nodeInRange}
 use Rattle.store.proofs.Diagonal.{meetNumber-below}
-use Rattle.store.proofs.Ranges.{ranges}
 use Rattle.update.specs.Append.{appended}
 use Rattle.update.proofs.AppendedBlocks.{Standing, Grew, entry-grew, merge-grew}
 use Rattle.tape.specs.Record.{recordIn}
@@ -67,12 +66,12 @@ ready-drop (suc m) (n ∷ g) r = ready-drop m g (ready-old r)
 -- the versions of a sound room
 pub sound-ready : (t : Content) {rows : List ℕ} → soundRoom (roomOf t) ≡ true → RowsOf rows (t .versions) → Ready rows (t .versions)
 sound-ready t sound shown =
-    let k = ranges (roomOf t) sound in
+    let k = sound-facts (roomOf t) sound in
     record {
-      lower = k .parents;
-      ranged = k .entries;
-      based = sound-facts (roomOf t) sound .based;
-      small = omega arith;
+      lower = k .lower;
+      ranged = k .ranged;
+      based = k .based;
+      small = versions-small (roomOf t) k;
       shown = shown;
     }
 

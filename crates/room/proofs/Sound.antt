@@ -40,6 +40,10 @@ pub record Sound (r : Room) : Type 0 where
   pub fits : versionCount (r .versions) ≤ r .settings .capacity
   pub ranged : everyVersion entryInRange (r .versions) ≡ true
 
+-- a sound room has no more versions than the largest capacity
+pub versions-small : (r : Room) → Sound r → versionCount (r .versions) ≤ maxCapacity
+versions-small r s = omega (arith, s .fits, capacity-range (r .settings) (s .settings))
+
 -- a present console is one of the sixteen
 pub present-console : (r : Room) (c : ℕ) → length (r .heads) ≡ consoleCount → present r c ≡ true → c < consoleCount
 present-console r c l p =
@@ -107,6 +111,9 @@ names-of : (g : Graph) (h : Option ℕ) → ((v : ℕ) → h ≡ some v → v < 
 names-of g none f = refl
 names-of g (some v) f = lt-ltb v (versionCount g) (f v refl)
 
+pub heads-named : (r : Room) → Sound r → (c : ℕ) → namesVersion (r .versions) (headOf r c) ≡ true
+heads-named r s c = names-of (r .versions) (headOf r c) (s .named c)
+
 pub facts-sound : (r : Room) → Sound r → soundRoom r ≡ true
 unfolding soundRoom headsMeet allBehindHeads
 facts-sound r s =
@@ -114,7 +121,7 @@ facts-sound r s =
     (s .lower)
     (s .based))
     (eq-eqb _ _ (s .sixteen)))
-    (of consoleCount _ (λ c l. names-of (r .versions) (headOf r c) (s .named c))))
+    (of consoleCount _ (λ c l. heads-named r s c)))
     (of consoleCount _ (λ c l. of consoleCount _ (λ d m. met-two r c d (s .meets c d)))))
     (s .first))
     (of (versionCount (r .versions)) _
@@ -124,10 +131,3 @@ facts-sound r s =
     (s .settings))
     (le-leb _ _ (s .fits)))
     (s .ranged)
-
--- the clause on heads as a test of each console
-pub heads-named : (r : Room) → soundRoom r ≡ true → (c : ℕ) → c < consoleCount → namesVersion (r .versions) (headOf r c) ≡ true
-unfolding soundRoom
-heads-named r h c l =
-    let named : headsNameVersions r ≡ true = search (and-l, and-r) depth 12 in
-    at consoleCount _ named c l

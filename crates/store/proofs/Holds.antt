@@ -25,7 +25,7 @@ use Rattle.store.proofs.Commons.{not-zero, fields-consoles}
 use Rattle.store.proofs.Behind.{behind-row, behind-all}
 use Rattle.store.proofs.Blocks.{stands-spare, stands-rest, stands-free}
 use Rattle.store.proofs.Checks.{Checks, checks-right, own-versions, own-heads}
-use Rattle.store.proofs.Whole.{whole-sound, whole-ranges, whole-front, whole-long, whole-small, whole-entries, whole-held, whole-fields, whole-low}
+use Rattle.store.proofs.Whole.{whole-sound, whole-front, whole-long, whole-small, whole-entries, whole-held, whole-fields, whole-low}
 
 module _ (s : List ℕ) (t : holdsStore s ≡ true) where
   abbrev r : Room
@@ -47,7 +47,7 @@ module _ (s : List ℕ) (t : holdsStore s ≡ true) where
       record {
         known = sound .settings;
         long = whole-long s t;
-        count = count-read s r (whole-front s t) (whole-ranges s t);
+        count = count-read s r (whole-front s t) sound;
         some = omega arith;
         fits = sound .fits;
         gap = stands-zero spareAt (entriesAt - spareAt) (stands-spare r (whole-front s t));

@@ -1,6 +1,5 @@
 pub mod Diagonal
 pub mod Blocks
-pub mod Ranges
 pub mod SettingsBytes
 pub mod Reading
 pub mod RoundTrip

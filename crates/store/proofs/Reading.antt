@@ -1,4 +1,4 @@
--- Reading versions and heads off bytes at whose front the encoding of a room of sound ranges stands gives the room's own.
+-- Reading versions and heads off bytes at whose front the encoding of a sound room stands gives the room's own.
 -- Assumes nothing.
 use mathlib.Core.Path.{_≡_, refl, sym, ap, ap₂, _∙_}
 use mathlib.Core.Bool.{Bool, true, false, _&&_}
@@ -20,12 +20,12 @@ use Rattle.graph.specs.Graph.{isSome, Graph, versionCount, nodeOf, everyVersion
 use Rattle.graph.proofs.Ancestor.{nodeOf-new, nodeOf-old}
 use Rattle.command.specs.Code.{consoleCount}
 use Rattle.room.specs.Room.{Room, headOf, present, head, common}
-use Rattle.room.specs.Sound.{entryInRange, namesVersion}
+use Rattle.room.specs.Sound.{entryInRange}
+use Rattle.room.proofs.Sound.{Sound, settings-fit, versions-small}
 use Rattle.store.specs.Layout.{fieldWhere, blockAt, commonAt, headAt, countAt, commonField, nodeBytes, encode, nodeIn, versionsIn, headFrom, headsIn, settingsIn}
 use Rattle.store.proofs.Diagonal.{meetNumber-below, meetNumber-self}
 use Rattle.store.proofs.Blocks.{stands-common, stands-node, stands-settings, stands-count}
 use Rattle.command.proofs.Limits.{operand-below}
-use Rattle.store.proofs.Ranges.{Ranges}
 use Rattle.store.proofs.SettingsBytes.{settings-back}
 
 -- a version in range reads back from its node; the graph g that its base is taken from does not matter
@@ -86,30 +86,30 @@ field-below true r c d = meetNumber-below (r .versions) (head r c) (head r d)
 field-below false r c d = omega arith
 
 -- on the diagonal stands the head
-field-self : (r : Room) (c : ℕ) (o : Option ℕ) → headOf r c ≡ o → namesVersion (r .versions) o ≡ true
+field-self : (r : Room) (c : ℕ) (o : Option ℕ) → headOf r c ≡ o → ((v : ℕ) → headOf r c ≡ some v → v < versionCount (r .versions))
     → headFrom (fieldWhere (isSome o && isSome o) r c c) ≡ o
 unfolding common
 field-self r c none e n = refl
-field-self r c (some v) e n = ap some (rw e (meetNumber-self (r .versions) v (ltb-true v (versionCount (r .versions)) n)))
+field-self r c (some v) e n = ap some (rw e (meetNumber-self (r .versions) v (n v e)))
 
-module _ (s : List ℕ) (r : Room) (h : Stands s 0 (encode r)) (k : Ranges r) where
+module _ (s : List ℕ) (r : Room) (h : Stands s 0 (encode r)) (k : Sound r) where
   pub settings-read : settingsIn s ≡ r .settings
-  settings-read = settings-back (r .settings) (stands-settings r h) (k .settings)
+  settings-read = settings-back (r .settings) (stands-settings r h) (settings-fit (r .settings) (k .settings))
 
   pub count-read : wordAt s countAt ≡ versionCount (r .versions)
-  count-read = stands-word (versionCount (r .versions)) (stands-count r h) (omega arith)
+  count-read = stands-word (versionCount (r .versions)) (stands-count r h) (omega (arith, versions-small r k))
 
   pub versions-read : versionsIn s (length (r .versions)) ≡ r .versions
   versions-read =
-      nodes-read s (r .versions) (r .versions) (λ v l. stands-node r h v (omega arith)) (omega arith) (k .parents) (k .entries)
+      nodes-read s (r .versions) (r .versions) (λ v l. stands-node r h v (omega arith)) (omega (arith, versions-small r k)) (k .lower) (k .ranged)
 
   -- the field of any two consoles
   pub common-read : (c d : ℕ) → c < consoleCount → d < consoleCount → wordAt s (commonAt c d) ≡ commonField r c d
   common-read c d i j = stands-word (commonField r c d) (stands-common r h c d i j)
-      (omega (arith, field-below (present r c && present r d) r c d))
+      (omega (arith, versions-small r k, field-below (present r c && present r d) r c d))
 
   head-read : (c : ℕ) → c < consoleCount → headFrom (wordAt s (headAt c)) ≡ headOf r c
-  head-read c i = ap headFrom (common-read c c i i) ∙ field-self r c (headOf r c) refl (k .heads c i)
+  head-read c i = ap headFrom (common-read c c i i) ∙ field-self r c (headOf r c) refl (k .named c)
 
   pub heads-read : headsIn s 0 consoleCount ≡ r .heads
   heads-read =

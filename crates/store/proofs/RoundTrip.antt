@@ -17,15 +17,15 @@ use Rattle.buffer.proofs.Stands.{stands-front}
 use Rattle.room.specs.declared.Settings.{Settings}
 use Rattle.room.specs.Room.{Room}
 use Rattle.room.specs.Sound.{soundRoom}
+use Rattle.room.proofs.Sound.{sound-facts}
 use Rattle.store.specs.Layout.{storeSize, capacityAt, encode, versionsIn, roomIn, holdsStore}
 use Rattle.store.proofs.Blocks.{header-length, blocks-length}
-use Rattle.store.proofs.Ranges.{ranges}
 use Rattle.store.proofs.Reading.{settings-read, count-read, versions-read, heads-read}
 
 pub encode-length : (r : Room) → soundRoom r ≡ true → length (encode r) ≡ storeSize (r .settings .capacity)
 unfolding encode
 encode-length r h =
-    let k = ranges r h in
+    let k = sound-facts r h in
     simp (length-append, header-length, blocks-length, zeros-length) (omega arith)
 
 -- reading a room off its encoding gives it back, with any bytes after it
@@ -34,7 +34,7 @@ unfolding roomIn
 room-encode r rest h =
     let s = encode r ++ rest in
     let front = stands-front (encode r) rest in
-    let k = ranges r h in
+    let k = sound-facts r h in
     λ i. record {
       settings = settings-read s r front k i;
       versions = (ap (λ (n : ℕ). versionsIn s (pred n)) (count-read s r front k) ∙ versions-read s r front k) i;
@@ -48,7 +48,7 @@ holds-encode r rest h =
     let n = storeSize (r .settings .capacity) in
     let l = encode-length r h in
     let fits = le-leb n (length s) (rw length-append (omega arith)) in
-    rw (ap (λ (x : Settings). x .capacity) (settings-read s r (stands-front (encode r) rest) (ranges r h)), room-encode r rest h, take-at (encode r) rest n l)
+    rw (ap (λ (x : Settings). x .capacity) (settings-read s r (stands-front (encode r) rest) (sound-facts r h)), room-encode r rest h, take-at (encode r) rest n l)
     (and-i (leb n (length s) && soundRoom r) (same (encode r) (encode r))
     (and-i (leb n (length s)) (soundRoom r) fits h) (same-refl (encode r)))
 

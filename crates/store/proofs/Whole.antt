@@ -17,11 +17,10 @@ use Rattle.board.specs.Board.{boardSize}
 use Rattle.graph.specs.Graph.{versionCount, isEntry, ancestor}
 use Rattle.command.specs.Code.{consoleCount}
 use Rattle.room.specs.Sound.{maxCapacity}
-use Rattle.room.proofs.Sound.{Sound, sound-facts}
+use Rattle.room.proofs.Sound.{Sound, versions-small, sound-facts}
 use Rattle.room.proofs.Lengths.{boardOf-length}
 use Rattle.store.specs.Layout.{headerSize, rowSize, storeSize, blockAt, encode, roomIn, holdsStore}
 use Rattle.store.specs.Check.{entriesPart, commonIn}
-use Rattle.store.proofs.Ranges.{Ranges, ranges}
 use Rattle.store.proofs.Blocks.{stands-entries, stands-node, stands-row, stands-board}
 use Rattle.store.proofs.Reading.{common-read}
 use Rattle.store.proofs.RoundTrip.{holds-sound, holds-front}
@@ -32,9 +31,6 @@ use Rattle.store.proofs.Checks.{own-heads}
 module _ (s : List ℕ) (t : holdsStore s ≡ true) where
   pub whole-sound : Sound (roomIn s)
   whole-sound = sound-facts (roomIn s) (holds-sound s t)
-
-  pub whole-ranges : Ranges (roomIn s)
-  whole-ranges = ranges (roomIn s) (holds-sound s t)
 
   pub whole-front : Stands s 0 (encode (roomIn s))
   whole-front = subst (λ (u : List ℕ). Stands u 0 (encode (roomIn s))) (sym (holds-front s t)) (stands-front (encode (roomIn s)) _)
@@ -47,10 +43,10 @@ module _ (s : List ℕ) (t : holdsStore s ≡ true) where
   whole-header = omega (arith, whole-long)
 
   pub whole-small : versionCount (roomIn s .versions) ≤ maxCapacity
-  whole-small = let k = whole-ranges in omega arith
+  whole-small = versions-small (roomIn s) whole-sound
 
   pub whole-block : (v : ℕ) → v < versionCount (roomIn s .versions) → blockAt (suc v) ≤ length s
-  whole-block v l = let k = whole-ranges in omega (arith, whole-long)
+  whole-block v l = omega (arith, whole-sound .fits, whole-long)
 
   pub whole-entries : entriesPart s ≡ row (isEntry (roomIn s .versions)) rowSize
   whole-entries =
@@ -75,7 +71,7 @@ module _ (s : List ℕ) (t : holdsStore s ≡ true) where
       }
 
   pub whole-fields : (c d : ℕ) → c < consoleCount → d < consoleCount → Field (roomIn s) c d (commonIn s c d)
-  whole-fields c d i j = rw (common-read s (roomIn s) whole-front whole-ranges c d i j) (field-of (roomIn s) c d (whole-sound .meets c d))
+  whole-fields c d i j = rw (common-read s (roomIn s) whole-front whole-sound c d i j) (field-of (roomIn s) c d (whole-sound .meets c d))
 
   pub whole-low : (c : ℕ) → c < consoleCount → commonIn s c c ≤ versionCount (roomIn s .versions)
   whole-low c l = field-named s (roomIn s) (own-heads s) c l (whole-fields c c l l)

@@ -37,7 +37,7 @@ module _ (r : Room) (s : soundRoom r ≡ true) where
   k = sound-facts r s
 
   named-heads : Named (r .versions) (r .heads)
-  named-heads c l = heads-named r s c (omega (arith, k .sixteen))
+  named-heads c l = heads-named r k c
 
   small : (r .settings .capacity ≤ maxCapacity) × (length (r .versions) < maxCapacity)
   small = omega (arith, k .fits, capacity-range (r .settings) (k .settings))

@@ -22,7 +22,7 @@ use Rattle.command.specs.Code.{consoleCount, isEntryCode, isStrip, isOperand}
 use Rattle.room.specs.Room.{Room, present, head, common}
 use Rattle.room.specs.Sound.{maxCapacity}
 use Rattle.room.specs.Step.{behind, someThirdSplits, grown}
-use Rattle.room.proofs.Sound.{Sound, facts-sound}
+use Rattle.room.proofs.Sound.{Sound, capacity-range, facts-sound}
 use Rattle.room.proofs.Steps.{head-named, entry-grown, merge-grown}
 use Rattle.store.specs.Layout.{headerSize, rowSize, countAt, entriesAt, commonsAt, commonsEnd, commonAt, blockAt, commonField, encode, roomIn, holdsStore}
 use Rattle.store.specs.Check.{commonIn}
@@ -30,7 +30,7 @@ use Rattle.store.proofs.Joined.{Placed, placed}
 use Rattle.store.proofs.Moved.{commonField-sym, grown-self, grown-other, entry-row, entry-column, merge-row, merge-column}
 use Rattle.store.proofs.Changed.{changed-store}
 use Rattle.store.proofs.Reading.{common-read}
-use Rattle.store.proofs.Whole.{whole-sound, whole-ranges, whole-front, whole-long, whole-header}
+use Rattle.store.proofs.Whole.{whole-sound, whole-front, whole-long, whole-header}
 use Rattle.update.specs.Append.{withEntry, withMerge}
 use Rattle.update.specs.Commons.{joinedCommons, putHead}
 use Rattle.update.proofs.AppendedBlocks.{Standing, Grew, entry-grew, merge-grew}
@@ -57,7 +57,7 @@ module _ (s : List ℕ) (t : holdsStore s ≡ true) (left : versionCount (roomIn
   n = versionCount g
 
   pub left-small : versionCount (roomIn s .versions) < maxCapacity
-  left-small = let k = whole-ranges s t in omega arith
+  left-small = omega (arith, capacity-range (r .settings) (whole-sound s t .settings))
 
   pub left-fits : blockAt (suc (versionCount (roomIn s .versions))) ≤ length s
   left-fits = omega (arith, whole-long s t)
@@ -93,7 +93,7 @@ module _ (s : List ℕ) (t : holdsStore s ≡ true) (left : versionCount (roomIn
     counted-read : (j k : ℕ) → j < consoleCount → k < consoleCount → commonIn counted j k ≡ commonField r j k
     counted-read j k jl kl =
         ap₂ (λ (x y : ℕ). x * 256 + y) (counted-kept (commonAt j k) (omega arith)) (counted-kept (commonAt j k + 1) (omega arith))
-        ∙ common-read s r (whole-front s t) (whole-ranges s t) j k jl kl
+        ∙ common-read s r (whole-front s t) (whole-sound s t) j k jl kl
 
     -- and the console moved to it: only the table changed
     grown-store : (u : List ℕ) (c : ℕ) → Sound (grown r c m) → length u ≡ length counted

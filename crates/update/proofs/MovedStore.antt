@@ -21,7 +21,7 @@ use Rattle.store.proofs.Joined.{placed}
 use Rattle.store.proofs.Moved.{moved-self, moved-row, moved-column, moved-other}
 use Rattle.store.proofs.Changed.{changed-store}
 use Rattle.store.proofs.Reading.{common-read}
-use Rattle.store.proofs.Whole.{whole-sound, whole-ranges, whole-front, whole-long, whole-header}
+use Rattle.store.proofs.Whole.{whole-sound, whole-front, whole-long, whole-header}
 use Rattle.update.specs.Commons.{joinedCommons, putHead}
 use Rattle.update.proofs.JoinedTable.{table-kept, table-length, table-stands}
 
@@ -34,7 +34,7 @@ module _ (s : List ℕ) (t : holdsStore s ≡ true) (c d : ℕ) (cl : c < consol
   changed = putHead (joinedCommons s c d consoleCount) c (commonIn s d d)
 
   read : (j k : ℕ) → j < consoleCount → k < consoleCount → commonIn s j k ≡ commonField (roomIn s) j k
-  read = common-read s (roomIn s) (whole-front s t) (whole-ranges s t)
+  read = common-read s (roomIn s) (whole-front s t) (whole-sound s t)
 
   -- bytes before and behind the table stay
   outside : (i : ℕ) → (commonsAt ≤ i → i < commonsEnd → ⊥) → getD changed i 0 ≡ getD s i 0
@@ -57,7 +57,7 @@ module _ (s : List ℕ) (t : holdsStore s ≡ true) (c d : ℕ) (cl : c < consol
       (record {
         settings = refl;
         more = omega arith;
-        fits = whole-ranges s t .count;
+        fits = sound .fits;
         kept = λ k o. outside k (λ x y. o .1 (omega arith) y);
         count = stands-kept (p .count) (λ i x y. outside i (omega arith));
         entries = stands-kept (p .entries) (λ i x y. outside i (omega arith));
