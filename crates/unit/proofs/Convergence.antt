@@ -22,12 +22,12 @@ use Rattle.refusal.specs.Refusal.{firstRefusal}
 use Rattle.command.specs.Code.{consoleCount, isConsole}
 use Rattle.room.specs.Room.{Room, head, heardCount}
 use Rattle.room.specs.Boards.{boardOf}
-use Rattle.room.proofs.Sound.{Sound, capacity-range, sound-facts, present-console, present-head}
+use Rattle.room.proofs.Sound.{Sound, versions-small, present-console, present-head}
 use Rattle.room.proofs.Steps.{common-meet}
 use Rattle.room.proofs.Counters.{tally, calls-tally}
 use Rattle.room.proofs.Lengths.{boardOf-length}
 use Rattle.store.specs.Layout.{roomIn, holdsStore}
-use Rattle.store.proofs.RoundTrip.{holds-sound}
+use Rattle.store.proofs.Whole.{whole-sound}
 use Rattle.unit.specs.Calls.{replied, written, boardOutcome, heardReply, commonReply}
 use Rattle.unit.specs.Journal.{Journal, Made, entered, merged, madeBy, isPresent, headNumber, leads, madeAs, wasEntered, holds, hasHeard, entriesHeard, callOf, callsHeard}
 use Rattle.unit.specs.Convergence.{Common, Converged, Demand3}
@@ -65,7 +65,7 @@ journalIn store = journalOf (roomIn store)
 
 module _ (store : List ℕ) (h : holdsStore store ≡ true) where
   s : Sound (roomIn store)
-  s = sound-facts (roomIn store) (holds-sound store h)
+  s = whole-sound store h
 
   well-formed : WellFormed (roomIn store .versions)
   well-formed = record { lower = s .lower; based = s .based }
@@ -128,7 +128,7 @@ module _ (store : List ℕ) (h : holdsStore store ≡ true) where
         let g = r .versions in
         let v = head r c in
         let named : v < versionCount g = s .named c v (present-head r c p) in
-        let small : length g < 65535 = omega (arith, s .fits, capacity-range (r .settings) (s .settings)) in
+        let small : length g < 65535 = omega (arith, versions-small r s) in
         let front = wordAt-left (boardOf g v) _ (callsAt k) (omega (arith, boardOf-length g v)) in
         rw (board-shown output fits) (refl, front ∙ calls-tally g v k well-formed small named l ∙ sym (calls-count r c k))
 
