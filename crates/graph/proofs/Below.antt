@@ -1,10 +1,10 @@
 -- Laws of the tests below a bound: what it says that all of them pass, that some do, which is the highest, and how many.
 -- Assumes nothing.
-use Prim.Native.Nat.{ℕ, zero, suc, _+_, _≤_, _<_}
+use Prim.Native.Nat.{ℕ, zero, suc, pred, _+_, _≤_, _<_}
 use mathlib.Core.Path.{_≡_, refl}
 use mathlib.Core.Logic.{inl, inr}
 use mathlib.Core.Bool.{Bool, true, false, cond, _&&_, _||_}
-use mathlib.Core.Option.{some}
+use mathlib.Core.Option.{none, some, Option·getD}
 use native.Mathlib.Omega.{arith}
 use native.Mathlib.Decide.{ℕ-discrete}
 use Rattle.laws.proofs.Logic.{clash, decide, and-l, and-r, and-i, or-l, or-r, or-split}
@@ -59,6 +59,16 @@ highest-of (suc n) f m l t h =
     elim (ℕ-discrete m n) [
       | yes e ↦ cc
       | no d ↦ cc (h n (omega arith) (omega arith), highest-of n f m (omega arith) t (λ k a b. h k a (omega arith)))
+    ]
+
+-- its number, or 0 where none passes, is below every bound but 0
+pub highest-below : (n : ℕ) (f : ℕ → Bool) → Option·getD (highestBelow n f) 0 ≤ pred n
+unfolding highestBelow
+highest-below zero f = omega arith
+highest-below (suc n) f =
+    elim (f n) as (λ b. Option·getD (cond b (some n) (highestBelow n f)) 0 ≤ n) [
+      | true ↦ omega arith
+      | false ↦ omega (arith, highest-below n f)
     ]
 
 pub count-ext : (n : ℕ) (f g : ℕ → Bool) → ((k : ℕ) → k < n → f k ≡ g k) → countBelow n f ≡ countBelow n g

@@ -1,17 +1,17 @@
 -- The meet of two versions: what the test and the search for it find is their single lowest common ancestor, and a new version changes
--- no meet of older ones.
+-- no meet of older ones. The number of a meet is a version's, and of a version with itself it is that version.
 -- Assumes nothing.
 use Prim.Native.Nat.{ℕ, _<_}
 use mathlib.Core.Path.{_≡_, refl, sym, _∙_, ap}
 use mathlib.Core.Bool.{Bool, true, not, _||_}
 use mathlib.Core.List.{_∷_}
-use mathlib.Core.Option.{Option, none, some}
+use mathlib.Core.Option.{Option, none, some, Option·getD}
 use native.Mathlib.Omega.{arith}
 use Rattle.laws.proofs.Logic.{refuted, and-l, and-r, and-i, implies-i, implies-e}
 use Rattle.graph.specs.Below.{everyBelow}
 use Rattle.graph.specs.declared.Node.{Node}
-use Rattle.graph.specs.Graph.{Graph, versionCount, ancestor, commonAncestor, isMeet, meet}
-use Rattle.graph.proofs.Below.{at, of, highest-some, highest-of}
+use Rattle.graph.specs.Graph.{Graph, versionCount, ancestor, commonAncestor, isMeet, meet, meetNumber}
+use Rattle.graph.proofs.Below.{at, of, highest-some, highest-of, highest-below}
 use Rattle.graph.proofs.Ancestor.{ancestor-old, ancestor-named, ancestor-le, ancestor-below, ancestor-self}
 
 -- "the ancestor of both heads of which every other common ancestor is an ancestor"
@@ -52,6 +52,15 @@ meet-found {g} {u} {v} {m} h =
     let none : (k : ℕ) → m < k → isMeet g u v k ≡ true → ⊥ = λ k l t. let r = isMeet-is g u v k t in omega (arith, ancestor-le g k m (h .lowest k (r .first) (r .second))) in
     highest-of (versionCount g) (isMeet g u v) m (ancestor-below g m u (h .first)) (isMeet-of g u v m h) (λ k l _. refuted (isMeet g u v k) (none k l))
 
+-- the number of a meet
+pub meet-number : {g : Graph} {u v m : ℕ} → Meet g u v m → meetNumber g u v ≡ m
+meet-number h = ap (λ (o : Option ℕ). Option·getD o 0) (meet-found h)
+
+-- it is a version's
+pub meetNumber-below : (g : Graph) (u v : ℕ) → meetNumber g u v < versionCount g
+unfolding meet
+meetNumber-below g u v = omega (arith, highest-below (versionCount g) (isMeet g u v))
+
 pub meet-none : (g : Graph) (u v : ℕ) → meet g u v ≡ none → (m : ℕ) → Meet g u v m → ⊥
 meet-none g u v e m h = let z : _≡_ {A = ℕ} 0 1 = cc (meet-found h) in omega arith
 
@@ -67,6 +76,10 @@ meet-behind g u v h = record { first = ancestor-self g u (ancestor-below g u v h
 
 pub meet-self : (g : Graph) (v : ℕ) → v < versionCount g → Meet g v v v
 meet-self g v l = meet-behind g v v (ancestor-self g v l)
+
+-- "of a console with itself: its head"
+pub meetNumber-self : (g : Graph) (v : ℕ) → v < versionCount g → meetNumber g v v ≡ v
+meetNumber-self g v l = meet-number (meet-self g v l)
 
 -- a meet is a matter of the ancestors of the three versions alone
 Meet-rows : {g k : Graph} {u v m : ℕ} → ((w : ℕ) → ancestor k w u ≡ ancestor g w u) → ((w : ℕ) → ancestor k w v ≡ ancestor g w v) →

@@ -17,7 +17,7 @@ use Rattle.buffer.proofs.Parts.{stands-part, part-stands}
 use Rattle.graph.specs.Below.{everyBelow}
 use Rattle.graph.specs.Graph.{versionCount, meet, isSome}
 use Rattle.graph.proofs.Below.{at, of}
-use Rattle.graph.proofs.Meet.{meet-self, meet-sym}
+use Rattle.graph.proofs.Meet.{Meet, meet-found, meet-self, meetNumber-self, meet-sym}
 use Rattle.command.specs.Code.{consoleCount}
 use Rattle.room.specs.Room.{Room, headOf, head, common}
 use Rattle.room.specs.Sound.{twoMeet, headsMeet}
@@ -26,7 +26,6 @@ use Rattle.store.specs.Layout.{headerSize, commonsAt, commonsSize, commonAt, he
 use Rattle.store.specs.Check.{commonIn}
 use Rattle.store.proofs.Blocks.{commonTable-length, table-field}
 use Rattle.store.proofs.Commons.{field-is, field-of, field-sym}
-use Rattle.store.proofs.Diagonal.{meetNumber-self}
 use Rattle.store.proofs.Joined.{join-commons}
 use Rattle.update.specs.Commons.{putCommon}
 use Rattle.update.proofs.JoinedTable.{common-length, put-kept, put-row, put-column}

@@ -17,11 +17,12 @@ use Rattle.graph.specs.declared.Node.{Node}
 use Rattle.graph.specs.declared.Node.the-variants.{Entry, Merge}
 use Rattle.graph.specs.Graph.{Graph, entry, merge, versionCount, ancestor, meet, baseOf, servesAsBase, everyVersion, parentsLower, mergeHasBase}
 use Rattle.graph.proofs.Ancestor.{every-new, every-old, ancestor-old}
+use Rattle.graph.proofs.Meet.{meetNumber-below}
 use Rattle.room.specs.Sound.{entryInRange, soundRoom}
 use Rattle.room.proofs.Sound.{versions-small, sound-facts}
 use Rattle.store.specs.Layout.{rowSize, entriesAt, blockAt, headFrom}
 use Rattle.store.specs.Rules.{nodeInRange}
-use Rattle.store.proofs.Diagonal.{meetNumber-below}
+use Rattle.store.proofs.Ranges.{ranges}
 use Rattle.update.specs.Append.{appended}
 use Rattle.update.proofs.AppendedBlocks.{Standing, Grew, entry-grew, merge-grew}
 use Rattle.tape.specs.Record.{recordIn}

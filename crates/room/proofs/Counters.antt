@@ -6,7 +6,7 @@ use mathlib.Core.Path.{_≡_, refl, sym, _∙_, ap}
 use mathlib.Core.Bool.{Bool, false, cond, _&&_}
 use mathlib.Core.List.{List, [], _∷_}
 use mathlib.Core.Logic.{inl, inr}
-use mathlib.Core.Option.{Option, none, some, Option·getD}
+use mathlib.Core.Option.{Option, none, some}
 use native.Mathlib.Omega.{arith}
 use native.Mathlib.Decide.{ℕ-discrete}
 use borrow.Author.Tests.{eqb-true, eq-eqb, ne-eqb}
@@ -23,7 +23,7 @@ use Rattle.graph.specs.Below.{countBelow}
 use Rattle.graph.proofs.Below.{count-ext}
 use Rattle.graph.proofs.Ancestor.{every-new, ancestor-below, nodeOf-new, nodeOf-old, nodeOf-named}
 use Rattle.graph.proofs.Parent.{parent-lower, sole, receiver, giver}
-use Rattle.graph.proofs.Meet.{meet-found}
+use Rattle.graph.proofs.Meet.{meet-number}
 use Rattle.graph.proofs.Growth.{WellFormed, wellFormed-old, merge-base}
 use Rattle.graph.proofs.Counting.{held, held-old, held-entry, held-merge, held-bound}
 use Rattle.room.specs.Boards.{boardMade, boardOf}
@@ -93,7 +93,7 @@ module _ (w : ℕ) (place : ℕ → ℕ)
       let lower = every-new parentsLower (merge p q) g (wf .lower) in
       let pl = parent-lower g lower receiver in
       let ql = parent-lower g lower giver in
-      let l : meetNumber g p q ≡ base .0 = ap (λ (o : Option ℕ). Option·getD o 0) (meet-found (base .1)) in
+      let l : meetNumber g p q ≡ base .0 = meet-number (base .1) in
       let bl : base .0 < versionCount g = ancestor-below g (base .0) p (base .1 .first) in
       let sum = held-merge (λ e. entryIs w k (nodeOf (merge p q ∷ g) e)) (base .1) (ap (entryIs w k) (nodeOf-new (merge p q) g)) in
       let tp = tally-same w k (merge p q) g p in

@@ -6,7 +6,6 @@ use mathlib.Core.Path.{_≡_, refl, sym, _∙_, ap, ap₂, subst, subst₂}
 use mathlib.Core.Bool.{true, false, not, _&&_}
 use mathlib.Core.List.{_∷_}
 use mathlib.Core.Logic.{inl, inr}
-use mathlib.Core.Option.{Option, Option·getD}
 use native.Mathlib.Decide.{ℕ-discrete}
 use borrow.Author.Tests.{lt-ltb, le-leb, ne-eqb, eqb-false, not-false}
 use lib.Dec.{eqb}
@@ -18,7 +17,7 @@ use Rattle.graph.specs.Below.{everyBelow, someBelow, highestBelow}
 use Rattle.graph.proofs.Below.{at, of, some-at, some-of}
 use Rattle.graph.proofs.Parent.{sole, receiver, giver}
 use Rattle.graph.proofs.Ancestor.{ancestor-above, ancestor-self}
-use Rattle.graph.proofs.Meet.{Meet, meet-found, meet-sym, meet-behind}
+use Rattle.graph.proofs.Meet.{Meet, meet-found, meet-number, meet-sym, meet-behind}
 use Rattle.graph.specs.declared.Console.{Console}
 use Rattle.command.specs.declared.Command.{Command}
 use Rattle.command.specs.declared.Command.the-variants.{Fork, Entry, Merge, FastForward}
@@ -66,7 +65,7 @@ entry-sound r s c code k x range h =
 -- the meet of two present consoles is their common version
 pub common-meet : (r : Room) (c d : ℕ) {m : ℕ} → Meet (r .versions) (head r c) (head r d) m → common r c d ≡ m
 unfolding common
-common-meet r c d b = ap (λ (o : Option ℕ). Option·getD o 0) (meet-found b)
+common-meet r c d b = meet-number b
 
 -- what it says that console d splits two others
 module _ (r : Room) (a b d : ℕ) where

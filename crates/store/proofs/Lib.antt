@@ -1,4 +1,3 @@
-pub mod Diagonal
 pub mod Blocks
 pub mod SettingsBytes
 pub mod Reading

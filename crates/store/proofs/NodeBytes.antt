@@ -13,9 +13,9 @@ use Rattle.buffer.proofs.Stands.{Stands, stands-left, stands-right, stands-fiel
 use Rattle.buffer.proofs.Parts.{Bytes, stands-one, stands-join, word-stands, zero-stands, stands-zero}
 use Rattle.graph.specs.declared.Node.{Node}
 use Rattle.graph.specs.Graph.{Graph, entry, merge, versionCount, baseOf}
+use Rattle.graph.proofs.Meet.{meetNumber-below}
 use Rattle.room.specs.Sound.{maxCapacity}
 use Rattle.store.specs.Layout.{nodeSize, blockAt, nodeCodeAt, nodeStripAt, nodeOperandAt, nodeParentAt, nodeGiverAt, nodeBaseAt, nodeBytes}
-use Rattle.store.proofs.Diagonal.{meetNumber-below}
 
 module _ (s : List ℕ) (v : ℕ) where
   -- the fields of the node

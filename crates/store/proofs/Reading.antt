@@ -18,12 +18,12 @@ use Rattle.graph.specs.declared.Node.{Node}
 use Rattle.graph.specs.declared.Node.the-variants.{Entry, Merge}
 use Rattle.graph.specs.Graph.{isSome, Graph, versionCount, nodeOf, everyVersion, parentsLower}
 use Rattle.graph.proofs.Ancestor.{nodeOf-new, nodeOf-old}
+use Rattle.graph.proofs.Meet.{meetNumber-below, meetNumber-self}
 use Rattle.command.specs.Code.{consoleCount}
 use Rattle.room.specs.Room.{Room, headOf, present, head, common}
 use Rattle.room.specs.Sound.{entryInRange}
 use Rattle.room.proofs.Sound.{Sound, settings-fit, versions-small}
 use Rattle.store.specs.Layout.{fieldWhere, blockAt, commonAt, headAt, countAt, commonField, nodeBytes, encode, nodeIn, versionsIn, headFrom, headsIn, settingsIn}
-use Rattle.store.proofs.Diagonal.{meetNumber-below, meetNumber-self}
 use Rattle.store.proofs.Blocks.{stands-common, stands-node, stands-settings, stands-count}
 use Rattle.command.proofs.Limits.{operand-below}
 use Rattle.store.proofs.SettingsBytes.{settings-back}

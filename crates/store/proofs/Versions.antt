@@ -4,7 +4,6 @@
 use mathlib.Core.Path.{_≡_, refl, sym, _∙_, ap, subst}
 use mathlib.Core.Bool.{Bool, true, false, cond, not, _&&_}
 use mathlib.Core.List.{List, []}
-use mathlib.Core.Option.{Option, Option·getD}
 use Prim.Native.Nat.{ℕ, zero, suc, _≤_, _<_}
 use native.Mathlib.Omega.{arith}
 use lib.Dec.{eqb, ltb}
@@ -16,9 +15,9 @@ use Rattle.buffer.specs.Row.{member, withMember, union, intersection}
 use Rattle.buffer.proofs.Fields.{same-true}
 use Rattle.buffer.proofs.Parts.{Bytes, same-of, zero-stands, stands-zero, zero-part, part-zero}
 use Rattle.board.specs.Board.{boardSize, enter, mergeBoard}
-use Rattle.graph.specs.Graph.{Graph, versionCount, nodeOf, baseOf, everyVersion}
+use Rattle.graph.specs.Graph.{Graph, versionCount, nodeOf, everyVersion}
 use Rattle.graph.proofs.Ancestor.{ancestor-below}
-use Rattle.graph.proofs.Meet.{Meet, meet-found}
+use Rattle.graph.proofs.Meet.{Meet, meet-found, meet-number}
 use Rattle.graph.proofs.Growth.{merge-base}
 use Rattle.room.specs.Sound.{maxCapacity}
 use Rattle.room.specs.Boards.{boardMade, boardOf}
@@ -29,10 +28,6 @@ use Rattle.store.proofs.Lineage.{root-lineage, entry-lineage, merge-lin
 use Rattle.store.proofs.Shown.{shown, made}
 use Rattle.store.proofs.Told.{Told, Held, Next, held-next, held-before, held-newest, meet-rows, rows-meet}
 use Rattle.store.proofs.NodeBytes.{codeIn, stripIn, operandIn, parentIn, giverIn, baseIn, entryIn, mergeIn, zero-entry, entry-zero, zero-merge, merge-zero, merge-rest, merge-base-read}
-
--- the number of a meet
-base-of-meet : {g : Graph} {p q l : ℕ} → Meet g p q l → baseOf g p q ≡ l
-base-of-meet m = ap (λ (o : Option ℕ). Option·getD o 0) (meet-found m)
 
 -- the version that stands in the block after the graph's
 module _ (s : List ℕ) (g : Graph) (small : versionCount g < maxCapacity) (h : Held s g) where
@@ -72,7 +67,7 @@ module _ (s : List ℕ) (g : Graph) (small : versionCount g < maxCapacity) (h : 
   merge-board : p < v → q < v → Meet g p q l → mergeBoard (boardPart s l) (boardPart s p) (boardPart s q) ≡ made g (mergeIn s v) .board
   unfolding boardMade
   merge-board a b m =
-      rw (h .told l (ancestor-below g l p (m .first)) .board, h .told p a .board, h .told q b .board, base-of-meet m)
+      rw (h .told l (ancestor-below g l p (m .first)) .board, h .told p a .board, h .told q b .board, meet-number m)
 
   entry-next : Bytes s → entryTest ≡ true → Next s g (entryIn s v)
   unfolding entryParts
@@ -115,7 +110,7 @@ module _ (s : List ℕ) (g : Graph) (small : versionCount g < maxCapacity) (h : 
         based = rw (meet-found m) (and-i (not (eqb l p)) (not (eqb l q)) (search (and-l, and-r) depth 12) (search (and-l, and-r) depth 12));
         ranged = refl;
         told = record {
-          node = zero-merge s v g b nine (sym (base-of-meet m)) (search (and-l, and-r) depth 12) (search (and-l, and-r) depth 12);
+          node = zero-merge s v g b nine (sym (meet-number m)) (search (and-l, and-r) depth 12) (search (and-l, and-r) depth 12);
           line = same-true (rowPart s v) (withMember (union (rowPart s p) (rowPart s q)) v) (search (and-l, and-r) depth 12) ∙ merge-line first second;
           board = same-true (boardPart s v) (mergeBoard (boardPart s l) (boardPart s p) (boardPart s q)) (search (and-l, and-r) depth 12) ∙ merge-board first second m;
           listed = not-e (member (entriesPart s) v) (search (and-l, and-r) depth 12);
@@ -129,7 +124,7 @@ module _ (s : List ℕ) (g : Graph) (small : versionCount g < maxCapacity) (h : 
       let second = ltb-true q v (and-r (ltb p v) (ltb q v) (k .lower)) in
       let grown = held-next h k in
       let base = merge-base (record { lower = grown .lower; based = grown .based }) in
-      let e : l ≡ base .0 = merge-base-read s v g (k .told .node) (omega arith) ∙ base-of-meet (base .1) in
+      let e : l ≡ base .0 = merge-base-read s v g (k .told .node) (omega arith) ∙ meet-number (base .1) in
       let m : Meet g p q l = rw e (base .1) in
       and-i _ _ (k .lower)
       (and-i _ _ (lt-ltb l v (ancestor-below g l p (m .first)))

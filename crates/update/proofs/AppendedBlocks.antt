@@ -23,13 +23,13 @@ use Rattle.buffer.proofs.Stands.{Stands, stands-kept}
 use Rattle.board.specs.Board.{boardSize}
 use Rattle.graph.specs.declared.Node.{Node}
 use Rattle.graph.specs.Graph.{Graph, entry, merge, versionCount, ancestor, nodeOf, isEntryNode, isEntry, baseOf, everyVersion, parentsLower}
+use Rattle.graph.proofs.Meet.{meetNumber-below}
 use Rattle.room.specs.Sound.{maxCapacity}
 use Rattle.room.specs.Boards.{boardMade, boardOf}
 use Rattle.room.proofs.Lengths.{boardOf-length}
 use Rattle.store.specs.Layout.{headerSize, rowSize, entriesAt, blockAt, nodeBytes, block}
 use Rattle.store.specs.Check.{rowPart, boardPart, entriesPart}
 use Rattle.store.proofs.Blocks.{block-length, block-row, block-board}
-use Rattle.store.proofs.Diagonal.{meetNumber-below}
 use Rattle.store.proofs.Lineage.{lineage, entry-lineage, merge-lineage}
 use Rattle.store.proofs.Shown.{Shown, made, shown-old, shown-new, no-entry}
 use Rattle.update.specs.Append.{entryBlock, mergeBlock, withEntry, withMerge}

@@ -14,6 +14,7 @@ use Rattle.buffer.proofs.Stands.{Stands}
 use Rattle.buffer.proofs.Parts.{stands-join}
 use Rattle.buffer.proofs.Patches.{set-part, with-length, with-outside, with-stands, with-kept, word-part}
 use Rattle.graph.specs.Graph.{nodeOf, isSome}
+use Rattle.graph.proofs.Meet.{meetNumber-self}
 use Rattle.command.specs.Code.{consoleCount}
 use Rattle.room.specs.Room.{Room, present, common, freshRoom}
 use Rattle.room.specs.declared.Settings.{Settings}
@@ -23,7 +24,6 @@ use Rattle.room.proofs.Sound.{capacity-range}
 use Rattle.room.proofs.Steps.{fresh-sound}
 use Rattle.store.specs.Layout.{headerSize, nodeSize, rowSize, blockSize, storeSize, settingsAt, settingsEnd, countAt, spareAt, entriesAt, commonsEnd, commonAt, headAt, blockAt, rowAt, boardAt, commonField, settingsBytes, nodeBytes, block, encode}
 use Rattle.board.specs.Board.{boardSize}
-use Rattle.store.proofs.Diagonal.{meetNumber-self}
 use Rattle.store.proofs.Behind.{empty-row}
 use Rattle.store.proofs.Lineage.{root-lineage}
 use Rattle.store.proofs.Joined.{Placed, join-block, join-encode}
