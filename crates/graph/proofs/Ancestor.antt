@@ -137,6 +137,20 @@ nodeOf-named (m ∷ g) v n h =
       | no d ↦ omega (arith, nodeOf-named g v n (cc (nodeOf-other m g v d)))
     ]
 
+-- a parent is an ancestor
+pub parent-ancestor : (g : Graph) (n : Node) (p v : ℕ) → everyVersion parentsLower g ≡ true → nodeOf g v ≡ some n → Parent n p → ancestor g p v ≡ true
+parent-ancestor [] n p v w e r = absurd (omega (arith, nodeOf-named [] v n e))
+parent-ancestor (m ∷ g) n p v w e r =
+    elim (ℕ-discrete v (versionCount g)) [
+      | yes d ↦
+          let is : m ≡ n = cc (nodeOf-new m g) in
+          let l : p < versionCount g = parent-lower g (rw is at (every-new parentsLower m g w)) r in
+          rw (d, is) (ancestor-above g p r (ancestor-self g p l))
+      | no d ↦
+          let l : v < versionCount g = omega (arith, nodeOf-named (m ∷ g) v n e) in
+          cc (ancestor-old m g p v l, parent-ancestor g n p v (every-old parentsLower m g w) (cc (nodeOf-old m g v l)) r)
+    ]
+
 pub isEntry-named : (g : Graph) (v : ℕ) → isEntry g v ≡ true → (0 < v) × (v < versionCount g)
 isEntry-named g v h = go (nodeOf g v) refl
   where

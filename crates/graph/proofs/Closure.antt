@@ -6,31 +6,15 @@ use mathlib.Core.Bool.{true}
 use mathlib.Core.List.{[], _∷_}
 use mathlib.Core.Option.{some}
 use native.Mathlib.Omega.{arith}
-use native.Mathlib.Decide.{ℕ-discrete}
 use Rattle.graph.specs.declared.Node.{Node}
 use Rattle.graph.specs.Graph.{Graph, versionCount, ancestor, nodeOf, everyVersion, parentsLower}
 pub use Rattle.graph.proofs.Parent.{Parent, sole, receiver, giver}
-use Rattle.graph.proofs.Parent.{parent-lower}
-use Rattle.graph.proofs.Ancestor.{every-new, every-old, nodeOf-new, nodeOf-old, nodeOf-named, ancestor-first, same, above, before, ways, ancestor-above, ancestor-old, ancestor-self, ancestor-trans}
+use Rattle.graph.proofs.Ancestor.{nodeOf-new, nodeOf-old, nodeOf-named, ancestor-first, same, above, before, ways, ancestor-self, ancestor-trans, parent-ancestor}
 
 -- v descends from u: it is u, or a parent of it descends from u
 pub data Descends (g : Graph) : ℕ → ℕ → Type 0 where
   itself : {v : ℕ} → v < versionCount g → Descends g v v
   onward : {u p v : ℕ} {n : Node} → Descends g u p → nodeOf g v ≡ some n → Parent n p → Descends g u v
-
--- a parent is an ancestor
-parent-ancestor : (g : Graph) (n : Node) (p v : ℕ) → everyVersion parentsLower g ≡ true → nodeOf g v ≡ some n → Parent n p → ancestor g p v ≡ true
-parent-ancestor [] n p v w e r = absurd (omega (arith, nodeOf-named [] v n e))
-parent-ancestor (m ∷ g) n p v w e r =
-    elim (ℕ-discrete v (versionCount g)) [
-      | yes d ↦
-          let is : m ≡ n = cc (nodeOf-new m g) in
-          let l : p < versionCount g = parent-lower g (rw is at (every-new parentsLower m g w)) r in
-          rw (d, is) (ancestor-above g p r (ancestor-self g p l))
-      | no d ↦
-          let l : v < versionCount g = omega (arith, nodeOf-named (m ∷ g) v n e) in
-          cc (ancestor-old m g p v l, parent-ancestor g n p v (every-old parentsLower m g w) (cc (nodeOf-old m g v l)) r)
-    ]
 
 pub closure-to : (g : Graph) {u v : ℕ} → everyVersion parentsLower g ≡ true → Descends g u v → ancestor g u v ≡ true
 closure-to g w (itself {v} l) = ancestor-self g v l

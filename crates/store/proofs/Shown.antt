@@ -1,12 +1,11 @@
 -- What a store shows of a version: its node, its row, its board and whether it is an entry. A new version changes nothing of what is shown of
 -- the older ones.
 -- Assumes nothing.
-use mathlib.Core.Path.{_≡_, refl, sym, _∙_, ap}
+use mathlib.Core.Path.{_≡_, refl, _∙_, ap}
 use mathlib.Core.Bool.{Bool, true, false, _||_}
 use mathlib.Core.List.{List, [], _∷_}
 use mathlib.Core.Option.{Option, none, some}
 use Prim.Native.Nat.{ℕ, _≤_, _<_}
-use native.Mathlib.Decide.{ℕ-discrete}
 use native.Mathlib.Omega.{arith}
 use lib.Dec.{eqb}
 use Rattle.laws.proofs.Logic.{refuted}
@@ -15,7 +14,7 @@ use Rattle.buffer.proofs.Sets.{row-ext}
 use Rattle.graph.specs.declared.Node.{Node}
 use Rattle.graph.specs.declared.Node.the-variants.{Entry, Merge}
 use Rattle.graph.specs.Graph.{Graph, versionCount, someParent, ancestor, nodeOf, isEntryNode, isEntry, baseOf, everyVersion, parentsLower}
-use Rattle.graph.proofs.Ancestor.{every-new, every-old, ancestor-new, ancestor-old, nodeOf-new, nodeOf-old, nodeOf-named, isEntry-new, isEntry-old, isEntry-named}
+use Rattle.graph.proofs.Ancestor.{ancestor-new, ancestor-old, ancestor-below, nodeOf-new, nodeOf-old, parent-ancestor, isEntry-new, isEntry-old, isEntry-named}
 use Rattle.graph.proofs.Parent.{Parent, parent-lower, receiver, giver}
 use Rattle.graph.proofs.Meet.{meet-old}
 use Rattle.room.specs.Boards.{boardMade, boardOf}
@@ -49,16 +48,7 @@ node-kept n (Entry p code strip operand) g h = refl
 node-kept n (Merge p q) g h = rw (meet-old n g (p .0) (q .0) (h (p .0) receiver) (h (q .0) giver))
 
 node-lower : (g : Graph) (v : ℕ) (m : Node) → everyVersion parentsLower g ≡ true → nodeOf g v ≡ some m → (p : ℕ) → Parent m p → p < versionCount g
-node-lower [] v m h e p r = absurd (omega (arith, nodeOf-named [] v m e))
-node-lower (n ∷ g) v m h e p r =
-    elim (ℕ-discrete v (versionCount g)) [
-      | yes d ↦
-          let same : n ≡ m = cc (nodeOf-new n g) in
-          omega (arith, parent-lower g (rw same at (every-new parentsLower n g h)) r)
-      | no d ↦
-          let named = nodeOf-named (n ∷ g) v m e in
-          omega (arith, node-lower g v m (every-old parentsLower n g h) (sym (nodeOf-old n g v (omega arith)) ∙ e) p r)
-    ]
+node-lower g v m h e p r = ancestor-below g p v (parent-ancestor g m p v h e r)
 
 node-old : (n : Node) (g : Graph) (v : ℕ) → everyVersion parentsLower g ≡ true → v < versionCount g
     → nodeBytes (n ∷ g) (nodeOf (n ∷ g) v) ≡ nodeBytes g (nodeOf g v)
