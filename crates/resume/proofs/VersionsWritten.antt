@@ -9,7 +9,7 @@ use native.Mathlib.Omega.{arith}
 use lib.Dec.{ltb}
 use lib.ListN.{length, getD, drop}
 use borrow.Author.Tests.{ltb-true}
-use Rattle.laws.proofs.Logic.{clash, and-l, and-r, and-i}
+use Rattle.laws.proofs.Logic.{clash, and-l, and-r}
 use Rattle.buffer.specs.Field.{same}
 use Rattle.buffer.specs.Row.{intersection}
 use Rattle.buffer.proofs.Sets.{row-ext}
@@ -21,7 +21,6 @@ use Rattle.graph.proofs.Meet.{meetNumber-below}
 use Rattle.room.specs.Sound.{entryInRange, soundRoom}
 use Rattle.room.proofs.Sound.{versions-small, sound-facts}
 use Rattle.store.specs.Layout.{rowSize, entriesAt, blockAt, headFrom}
-use Rattle.store.specs.Rules.{nodeInRange}
 use Rattle.store.proofs.Ranges.{ranges}
 use Rattle.update.specs.Append.{appended}
 use Rattle.update.proofs.AppendedBlocks.{Standing, Grew, entry-grew, merge-grew}
@@ -32,7 +31,6 @@ use Rattle.buffer.proofs.Parts.{Bytes}
 use Rattle.resume.specs.Rows.{ownRow, RowsOf, fieldWhen, meetField}
 use Rattle.resume.specs.Versions.{baseIn}
 use Rattle.resume.proofs.Along.{Versions, along-all, versions-none, version-number, version-first, version-more}
-use Rattle.resume.proofs.Passed.{node-ranged}
 use Rattle.resume.proofs.Meets.{meet-shown}
 
 -- a graph whose versions can be written, with its rows at hand
@@ -101,9 +99,6 @@ module _ {rows : List ℕ} {g : Graph} where
           field-some (same (ownRow rows (baseIn rows (merge p q))) (intersection (ownRow rows p) (ownRow rows q))) (baseIn rows (merge p q)) m
           (meet-shown (old .shown) (old .small) p q (parents p q r .0) (parents p q r .1) ∙ e)
 
-  ranged-new : (n : Node) → Ready rows (n ∷ g) → nodeInRange (versionCount g) n ≡ true
-  ranged-new n r = node-ranged g n ∙ and-i _ _ (every-new parentsLower n g (r .lower)) (every-new entryInRange n g (r .ranged))
-
   base-new : (n : Node) → Ready rows (n ∷ g) → baseIn rows n < versionCount g
   base-new (Entry p code strip operand) r = omega arith
   base-new (Merge p q) r = rw (base-read (p .0) (q .0) r) (meetNumber-below g (p .0) (q .0))
@@ -140,26 +135,24 @@ pub written-all : (t : Content) {s now : List ℕ} {k at : ℕ} → Versions t (
 written-all t a l = along-all _ _ a l .0
 
 module _ (tape : List ℕ) (t : Content) (bytes : Bytes tape) (says : contentOf tape ≡ some t) {rows s : List ℕ} (ready : Ready rows (t .versions))
-    (fits : blockAt (versionCount (t .versions)) ≤ length s) {k at : ℕ} {now : List ℕ} (a : Versions t (Built s now) k at) (l : k < length (t .versions)) where
-  pub next-fits : blockAt (suc (k + 1)) ≤ length now
-  next-fits = omega (arith, a .built .long)
+    {k at : ℕ} {now : List ℕ} (a : Versions t (Built s now) k at) (l : k < length (t .versions)) where
+  number : k + 1 ≡ versionCount (firstVersions k (t .versions))
+  number = version-number tape t bytes says a l
 
   module _ {x : Node} (read : x ≡ nodeOn (recordIn (drop at tape))) where
     next-ready : Ready rows (x ∷ firstVersions k (t .versions))
     next-ready = subst (Ready rows) (version-first tape t bytes says a l read) (ready-drop (length (t .versions) - suc k) (t .versions) ready)
 
-    number : k + 1 ≡ versionCount (firstVersions k (t .versions))
-    number = version-number tape t bytes says a l
-
-    pub next-ranged : nodeInRange (k + 1) x ≡ true
-    next-ranged = rw number (ranged-new x next-ready)
-
     pub next-based : baseIn rows x < k + 1
     next-based = rw number (base-new x next-ready)
 
-    pub written-more : {next : ℕ} {after : List ℕ} → after ≡ appended now (k + 1) x (baseIn rows x) → next ≡ placeAfter tape at
-        → Versions t (Built s after) (k + 1) next
-    written-more {after = after} made moved =
+  module _ (fits : blockAt (versionCount (t .versions)) ≤ length s) where
+    pub next-fits : blockAt (suc (k + 1)) ≤ length now
+    next-fits = omega (arith, a .built .long)
+
+    pub written-more : {x : Node} (read : x ≡ nodeOn (recordIn (drop at tape))) {next : ℕ} {after : List ℕ} → after ≡ appended now (k + 1) x (baseIn rows x)
+        → next ≡ placeAfter tape at → Versions t (Built s after) (k + 1) next
+    written-more {x} read {after = after} made moved =
         let grown : Grew now after (firstVersions k (t .versions)) x =
-        rw (made, number) (grew now x next-ready (a .built .standing) (omega (arith, next-fits, number))) in
+        rw (made, number) (grew now x (next-ready read) (a .built .standing) (omega (arith, next-fits, number))) in
         version-more tape t bytes says a l read (Built s after) moved (built-more (a .built) grown)

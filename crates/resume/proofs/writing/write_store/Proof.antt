@@ -2,12 +2,14 @@
 -- Assumes nothing.
 use Prim.Native.Nat.{_-_, _<_}
 use lib.ListN.{length}
+use Rattle.laws.proofs.Logic.{and-i}
 use Rattle.room.proofs.Sound.{sound-facts}
 use Rattle.tape.specs.Tape.{roomOf}
 use Rattle.buffer.proofs.Parts.{Bytes}
 use Rattle.resume.specs.Content.{contentIn}
 use Rattle.resume.proofs.Along.{Versions, version-inside}
-use Rattle.resume.proofs.VersionsWritten.{Built, sound-ready, written-none, written-all, written-more, next-fits, next-ranged, next-based}
+use Rattle.resume.proofs.Reread.{next-ranged}
+use Rattle.resume.proofs.VersionsWritten.{Built, sound-ready, written-none, written-all, written-more, next-fits, next-based}
 use Rattle.resume.proofs.StoreWritten.{opened-standing, opened-fits, header-fits, store-whole}
 use native.Mathlib.Omega.{arith}
 use Rattle.resume.proofs.writing.write_store.Statement.{statement}
@@ -43,17 +45,16 @@ read-version-requires c κs =
 base-in-requires : tie.Need-base-in-requires Inv-loop μ-loop
 base-in-requires c κs =
     let turn = c .before .before .before in
-    let opened = turn .before .before .before .before in
-    let known = opened .before .before .before .before in
+    let known = turn .before .before .before .before .before .before .before .before in
     let start = known .before .before in
     let a = start .args in
     let p = start .pre in
     let t = contentIn (a .tape .now) in
     let bytes : Bytes (a .tape .now) = λ i. known .shared-slice-known .given i .fits in
     let ready = sound-ready t (p .1 .1 .0 .0) (p .1 .1 .0 .1) in
-    let fits = opened-fits t (p .1 .1 .0 .0) (a .store .now) (a .settings) (p .1 .0 .0) (p .1 .1 .1 .1) (opened .«open» .ensures) in
+    let range = and-i _ _ (ready .lower) (ready .ranged) in
     let small = ready .small in
-    (p .1 .1 .0 .1 .long, omega arith, next-ranged (a .tape .now) t bytes (p .0) ready fits (turn .loop .inv) (omega arith) (c .before .read-version .ensures .0))
+    (p .1 .1 .0 .1 .long, omega arith, next-ranged (a .tape .now) t bytes (p .0) range (turn .loop .inv) (omega arith) (c .before .read-version .ensures .0))
 
 append-version-requires : tie.Need-append-version-requires Inv-loop μ-loop
 append-version-requires c κs =
@@ -67,12 +68,13 @@ append-version-requires c κs =
     let bytes : Bytes (a .tape .now) = λ i. known .shared-slice-known .given i .fits in
     let ready = sound-ready t (p .1 .1 .0 .0) (p .1 .1 .0 .1) in
     let fits = opened-fits t (p .1 .1 .0 .0) (a .store .now) (a .settings) (p .1 .0 .0) (p .1 .1 .1 .1) (opened .«open» .ensures) in
+    let range = and-i _ _ (ready .lower) (ready .ranged) in
     let small = ready .small in
     let read = c .before .before .read-version .ensures .0 in (
-      (omega arith, next-fits (a .tape .now) t bytes (p .0) ready fits (turn .loop .inv) (omega arith)),
+      (omega arith, next-fits (a .tape .now) t bytes (p .0) ready (turn .loop .inv) (omega arith) fits),
       (
-        next-ranged (a .tape .now) t bytes (p .0) ready fits (turn .loop .inv) (omega arith) read,
-        rw (c .base-in .ensures) (next-based (a .tape .now) t bytes (p .0) ready fits (turn .loop .inv) (omega arith) read),
+        next-ranged (a .tape .now) t bytes (p .0) range (turn .loop .inv) (omega arith) read,
+        rw (c .base-in .ensures) (next-based (a .tape .now) t bytes (p .0) ready (turn .loop .inv) (omega arith) read),
       ),
     )
 
@@ -91,7 +93,7 @@ loop-again c =
     let ready = sound-ready t (p .1 .1 .0 .0) (p .1 .1 .0 .1) in
     let fits = opened-fits t (p .1 .1 .0 .0) (a .store .now) (a .settings) (p .1 .0 .0) (p .1 .1 .1 .1) (opened .«open» .ensures) in
     let more : turn .loop .k < length (t .versions) = omega (arith, c .before .before .before .before .before .before .loop-test .taken, p .1 .0 .1) in
-    written-more (a .tape .now) t bytes (p .0) ready fits (turn .loop .inv) more (read .0)
+    written-more (a .tape .now) t bytes (p .0) ready (turn .loop .inv) more fits (read .0)
     (rw (made .before .base-in .ensures) at (made .append-version .ensures)) (read .1)
 
 add-put-header : tie.Need-add-put-header Inv-loop μ-loop
