@@ -6,7 +6,6 @@ use mathlib.Core.List.{List, [], _∷_}
 use mathlib.Core.Option.{some}
 use Prim.Native.Nat.{ℕ, zero, suc, _+_, _-_, _≤_, _<_}
 use native.Mathlib.Omega.{arith}
-use lib.Dec.{ltb}
 use lib.ListN.{length, drop}
 use borrow.Author.Tests.{ltb-true}
 use Rattle.laws.proofs.Logic.{and-l, and-r, and-i}
@@ -15,6 +14,7 @@ use Rattle.buffer.proofs.Writes.{put-length}
 use Rattle.graph.specs.declared.Node.{Node}
 use Rattle.graph.specs.declared.Node.the-variants.{Entry, Merge}
 use Rattle.graph.specs.Graph.{Graph, versionCount, everyVersion, parentsLower, mergeHasBase}
+use Rattle.graph.proofs.Parent.{parent-lower, receiver, giver}
 use Rattle.graph.proofs.Ancestor.{every-new}
 use Rattle.command.specs.Code.{consoleCount}
 use Rattle.room.specs.Sound.{entryInRange}
@@ -39,17 +39,11 @@ use Rattle.resume.proofs.HeadSlots.{Listed, no-heads, one-head, heads-l
 module _ {rows : List ℕ} {g : Graph} where
   rows-made : (n : Node) → RowsOf rows g → versionCount g < 1024 → parentsLower g n ≡ true → RowsOf (rowsWith rows (versionCount g) n) (n ∷ g)
   rows-made (Entry p code strip operand) r small l = rows-entry (p .0) code (strip .0) operand r small (ltb-true (p .0) (versionCount g) l)
-  rows-made (Merge p q) r small l =
-      rows-merge (p .0) (q .0) r small
-      (ltb-true (p .0) (versionCount g) (and-l (ltb (p .0) (versionCount g)) (ltb (q .0) (versionCount g)) l))
-      (ltb-true (q .0) (versionCount g) (and-r (ltb (p .0) (versionCount g)) (ltb (q .0) (versionCount g)) l))
+  rows-made (Merge p q) r small l = rows-merge (p .0) (q .0) r small (parent-lower g l receiver) (parent-lower g l giver)
 
   base-made : (n : Node) → RowsOf rows g → versionCount g ≤ 1024 → parentsLower g n ≡ true → baseFound rows n ≡ mergeHasBase g n
   base-made (Entry p code strip operand) r small l = refl
-  base-made (Merge p q) r small l =
-      base-shown r small (p .0) (q .0)
-      (ltb-true (p .0) (versionCount g) (and-l (ltb (p .0) (versionCount g)) (ltb (q .0) (versionCount g)) l))
-      (ltb-true (q .0) (versionCount g) (and-r (ltb (p .0) (versionCount g)) (ltb (q .0) (versionCount g)) l))
+  base-made (Merge p q) r small l = base-shown r small (p .0) (q .0) (parent-lower g l receiver) (parent-lower g l giver)
 
 -- the rows of the versions read so far, and whether each merge among them has a base
 abbrev pub Rowed : List ℕ → Bool → Graph → Type 0

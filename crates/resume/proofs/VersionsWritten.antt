@@ -6,16 +6,16 @@ use mathlib.Core.List.{List, [], _∷_}
 use mathlib.Core.Option.{Option, none, some, Option·getD}
 use Prim.Native.Nat.{ℕ, zero, suc, _+_, _-_, _≤_, _<_}
 use native.Mathlib.Omega.{arith}
-use lib.Dec.{ltb}
 use lib.ListN.{length, getD, drop}
 use borrow.Author.Tests.{ltb-true}
-use Rattle.laws.proofs.Logic.{clash, and-l, and-r}
+use Rattle.laws.proofs.Logic.{clash}
 use Rattle.buffer.specs.Field.{same}
 use Rattle.buffer.specs.Row.{intersection}
 use Rattle.buffer.proofs.Sets.{row-ext}
 use Rattle.graph.specs.declared.Node.{Node}
 use Rattle.graph.specs.declared.Node.the-variants.{Entry, Merge}
 use Rattle.graph.specs.Graph.{Graph, entry, merge, versionCount, ancestor, meet, baseOf, servesAsBase, everyVersion, parentsLower, mergeHasBase}
+use Rattle.graph.proofs.Parent.{parent-lower, receiver, giver}
 use Rattle.graph.proofs.Ancestor.{every-new, every-old, ancestor-old}
 use Rattle.graph.proofs.Meet.{meetNumber-below}
 use Rattle.room.specs.Sound.{entryInRange, soundRoom}
@@ -81,11 +81,7 @@ field-some false h m e = absurd (let z : _≡_ {A = ℕ} 0 1 = cc in omega arith
 -- one version more
 module _ {rows : List ℕ} {g : Graph} where
   parents : (p q : ℕ) → Ready rows (merge p q ∷ g) → (p < versionCount g) × (q < versionCount g)
-  parents p q r =
-      let l = every-new parentsLower (merge p q) g (r .lower) in (
-        ltb-true p (versionCount g) (and-l (ltb p (versionCount g)) (ltb q (versionCount g)) l),
-        ltb-true q (versionCount g) (and-r (ltb p (versionCount g)) (ltb q (versionCount g)) l),
-      )
+  parents p q r = let l = every-new parentsLower (merge p q) g (r .lower) in (parent-lower g l receiver, parent-lower g l giver)
 
   -- the base of a merge is the highest version that the rows of its parents have in common
   base-read : (p q : ℕ) → Ready rows (merge p q ∷ g) → baseIn rows (merge p q) ≡ baseOf g p q

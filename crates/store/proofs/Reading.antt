@@ -17,6 +17,7 @@ use Rattle.buffer.proofs.Stands.{Stands, stands-first, stands-field, stands-wor
 use Rattle.graph.specs.declared.Node.{Node}
 use Rattle.graph.specs.declared.Node.the-variants.{Entry, Merge}
 use Rattle.graph.specs.Graph.{isSome, Graph, versionCount, nodeOf, everyVersion, parentsLower}
+use Rattle.graph.proofs.Parent.{parent-lower, receiver, giver}
 use Rattle.graph.proofs.Ancestor.{nodeOf-new, nodeOf-old}
 use Rattle.graph.proofs.Meet.{meetNumber-below, meetNumber-self}
 use Rattle.command.specs.Code.{consoleCount}
@@ -47,8 +48,8 @@ node-read s v g before (Entry p code strip operand) h l i j =
     let other : eqb code 9 ≡ false = ne-eqb code 9 (omega arith) in
     rw (first, other, fourth, second, third)
 node-read s v g before (Merge p q) h l i j =
-    let a = ltb-true (p .0) (versionCount before) (search and-l) in
-    let b = ltb-true (q .0) (versionCount before) (search and-r) in
+    let a = parent-lower before i receiver in
+    let b = parent-lower before i giver in
     let first : getD s (blockAt v) 0 ≡ 9 = stands-first h in
     let third = stands-field h 4 (p .0) (omega arith) refl refl (omega arith) in
     let fourth = stands-field h 6 (q .0) (omega arith) refl refl (omega arith) in

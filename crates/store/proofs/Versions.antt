@@ -16,6 +16,7 @@ use Rattle.buffer.proofs.Fields.{same-true}
 use Rattle.buffer.proofs.Parts.{Bytes, same-of, zero-stands, stands-zero, zero-part, part-zero}
 use Rattle.board.specs.Board.{boardSize, enter, mergeBoard}
 use Rattle.graph.specs.Graph.{Graph, versionCount, nodeOf, everyVersion}
+use Rattle.graph.proofs.Parent.{parent-lower, receiver, giver}
 use Rattle.graph.proofs.Ancestor.{ancestor-below}
 use Rattle.graph.proofs.Meet.{Meet, meet-found, meet-number}
 use Rattle.graph.proofs.Growth.{merge-base}
@@ -120,8 +121,8 @@ module _ (s : List ℕ) (g : Graph) (small : versionCount g < maxCapacity) (h : 
   next-merge : Next s g (mergeIn s v) → mergeTest ≡ true
   unfolding mergeParts
   next-merge k =
-      let first = ltb-true p v (and-l (ltb p v) (ltb q v) (k .lower)) in
-      let second = ltb-true q v (and-r (ltb p v) (ltb q v) (k .lower)) in
+      let first = parent-lower g (k .lower) receiver in
+      let second = parent-lower g (k .lower) giver in
       let grown = held-next h k in
       let base = merge-base (record { lower = grown .lower; based = grown .based }) in
       let e : l ≡ base .0 = merge-base-read s v g (k .told .node) (omega arith) ∙ meet-number (base .1) in

@@ -7,13 +7,14 @@ use mathlib.Core.List.{List, [], _∷_, _++_, append-assoc}
 use mathlib.Core.Option.{Option, none, some}
 use native.Mathlib.Omega.{arith}
 use native.Mathlib.Nat.{zero-add, not-suc-le-zero}
-use lib.Dec.{eqb, ltb}
+use lib.Dec.{eqb}
 use lib.ListN.{length, getD, drop, length-append}
 use borrow.Author.Tests.{ltb-true}
 use Rattle.laws.proofs.Logic.{clash, and-l, and-r}
 use Rattle.graph.specs.declared.Node.{Node}
 use Rattle.graph.specs.declared.Node.the-variants.{Entry, Merge}
 use Rattle.graph.specs.Graph.{Graph, versionCount, isSome, everyVersion, parentsLower}
+use Rattle.graph.proofs.Parent.{parent-lower, receiver, giver}
 use Rattle.command.specs.Code.{consoleCount, shapeOf, lengthOf}
 use Rattle.command.proofs.Limits.{entry-below}
 use Rattle.room.specs.declared.Settings.{Settings}
@@ -52,7 +53,7 @@ node-fits : (g : Graph) (n : Node) → parentsLower g n ≡ true → entryInRang
 node-fits g (Entry p code strip operand) lower range l =
     let below = entry-below code (strip .0) operand range in omega (arith, ltb-true (p .0) (versionCount g) lower)
 node-fits g (Merge p q) lower range l =
-    omega (arith, ltb-true (p .0) (versionCount g) (and-l _ _ lower), ltb-true (q .0) (versionCount g) (and-r (ltb (p .0) (versionCount g)) _ lower))
+    omega (arith, parent-lower g lower receiver, parent-lower g lower giver)
 
 -- each version takes a byte at least
 pub versions-long : (g : Graph) → length g ≤ length (versionRecords g)
