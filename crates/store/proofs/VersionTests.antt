@@ -11,26 +11,25 @@ use lib.Dec.{ltb}
 use borrow.Author.Tests.{ltb-true}
 use Rattle.laws.proofs.Logic.{and-l, and-r, and-i, and-none, clash, refuted}
 use Rattle.board.specs.Board.{stripCount}
+use Rattle.graph.specs.declared.Version.{Version}
+use Rattle.graph.specs.declared.Strip.{Strip}
 use Rattle.graph.specs.declared.Node.{Node}
+use Rattle.graph.specs.declared.Node.the-variants.{Entry, Merge}
 use Rattle.store.specs.Layout.{nodeIn}
 use Rattle.store.specs.Rules.{entryRanges, bothBelow, nodeInRange}
 use Rattle.store.specs.Check.{rootRight, nodeParts, versionRight, versionsRight}
 
--- what the ranges of an entry say
-module _ (v p code strip operand : ℕ) (t : entryRanges v p code strip operand ≡ true) where
-  pub range-parent : p < v
-  range-parent = ltb-true p v (search (and-l, and-r))
+-- the numbers of a version in range, where it is an entry and where it is a merge
+pub entry-ranged : {v : ℕ} {node : Node} {p : Version} {code : ℕ} {strip : Strip} {operand : ℕ} → node ≡ Entry p code strip operand → nodeInRange v node ≡ true
+    → (p .0 < v) × (strip .0 < stripCount)
+entry-ranged {v} {p = p} {code = code} {strip = strip} {operand = operand} e h =
+    let t : entryRanges v (p .0) code (strip .0) operand ≡ true = rw e at h in
+    (ltb-true (p .0) v (search (and-l, and-r)), ltb-true (strip .0) stripCount (search (and-l, and-r)))
 
-  pub range-strip : strip < stripCount
-  range-strip = ltb-true strip stripCount (search (and-l, and-r))
-
--- and of a merge
-module _ (v p q : ℕ) (t : bothBelow v p q ≡ true) where
-  pub range-mine : p < v
-  range-mine = ltb-true p v (and-l (ltb p v) (ltb q v) t)
-
-  pub range-given : q < v
-  range-given = ltb-true q v (and-r (ltb p v) (ltb q v) t)
+pub merge-ranged : {v : ℕ} {node : Node} {p q : Version} → node ≡ Merge p q → nodeInRange v node ≡ true → (p .0 < v) × (q .0 < v)
+merge-ranged {v} {p = p} {q = q} e h =
+    let t : bothBelow v (p .0) (q .0) ≡ true = rw e at h in
+    (ltb-true (p .0) v (and-l (ltb (p .0) v) (ltb (q .0) v) t), ltb-true (q .0) v (and-r (ltb (p .0) v) (ltb (q .0) v) t))
 
 -- a version whose numbers are in their ranges is right by its parts, and another is wrong
 module _ (s : List ℕ) (v : ℕ) (node : Node) (e : node ≡ nodeIn s v) (r : Bool) (er : r ≡ nodeInRange v node) where

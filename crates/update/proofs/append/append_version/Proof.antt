@@ -1,10 +1,6 @@
 -- `update::append::append_version` meets its contract.
 -- Assumes nothing.
-use mathlib.Core.Path.{_≡_}
-use mathlib.Core.Bool.{true}
-use Rattle.graph.specs.declared.Node.the-variants.{Entry}
-use Rattle.store.specs.Rules.{nodeInRange}
-use Rattle.store.proofs.VersionTests.{range-parent, range-strip, range-mine, range-given}
+use Rattle.store.proofs.VersionTests.{entry-ranged, merge-ranged}
 use native.Mathlib.Omega.{arith}
 use borrow.Author.Needs.{needs}
 use Rattle.update.proofs.append.append_version.Statement.{statement}
@@ -12,20 +8,11 @@ use Rattle.update.proofs.append.append_version.Tie as tie
 
 append-entry-requires : tie.Need-append-entry-requires
 append-entry-requires c κs =
-    let start = c .before .before .before .before .before in
-    let n = c .before .before .node .given in
-    let t : nodeInRange (start .args .n .0) (Entry (n .0 .0) (n .0 .1 .0) (n .0 .1 .1 .0) (n .0 .1 .1 .1 .0)) ≡ true = rw (n .1) at (start .pre .1 .0) in
-    let parent = range-parent (start .args .n .0) (n .0 .0 .0) (n .0 .1 .0) (n .0 .1 .1 .0 .0) (n .0 .1 .1 .1 .0) t in
-    (omega arith, range-strip (start .args .n .0) (n .0 .0 .0) (n .0 .1 .0) (n .0 .1 .1 .0 .0) (n .0 .1 .1 .1 .0) t)
+    omega (arith, entry-ranged (c .before .before .node .given .1) (c .before .before .before .before .before .pre .1 .0))
 
 append-merge-requires : tie.Need-append-merge-requires
 append-merge-requires c κs =
-    let start = c .before .before .before .before .before in
-    let n = c .before .before .node2 .given in
-    let t = rw (n .1) at (start .pre .1 .0) in
-    let mine = range-mine (start .args .n .0) (n .0 .0 .0) (n .0 .1 .0 .0) t in
-    let given = range-given (start .args .n .0) (n .0 .0 .0) (n .0 .1 .0 .0) t in
-    omega arith
+    omega (arith, merge-ranged (c .before .before .node2 .given .1) (c .before .before .before .before .before .pre .1 .0))
 
 returns : tie.Need-returns
 returns c = rw (c .before .before .before .before .before .node .given .1) (c .before .before .append-entry .ensures)
