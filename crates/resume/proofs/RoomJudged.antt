@@ -17,7 +17,7 @@ use Rattle.graph.specs.Graph.{Graph, versionCount, isSome, everyVersion, parent
 use Rattle.graph.proofs.Below.{of}
 use Rattle.command.specs.Code.{consoleCount, isConsole}
 use Rattle.room.specs.Room.{headOf}
-use Rattle.room.specs.Sound.{settingsInRange, entryInRange, namesVersion, headsNameVersions, headsMeet, allBehindHeads, soundRoom}
+use Rattle.room.specs.Sound.{maxCapacity, settingsInRange, entryInRange, namesVersion, headsNameVersions, headsMeet, allBehindHeads, soundRoom}
 use Rattle.room.proofs.Sound.{capacity-range}
 use Rattle.tape.specs.Tape.{Content, headSlots, roomOf, consolesRise, headsNamed, inRange}
 use Rattle.tape.proofs.Heads.{length-slots}
@@ -25,26 +25,22 @@ use Rattle.resume.proofs.HeadSlots.{headField, heads-diagonal}
 
 -- what is in range of a tape's content
 pub record Facts (t : Content) : Type 0 where
-  pub count : versionCount (t .versions) ≤ t .settings .capacity
+  pub small : versionCount (t .versions) ≤ maxCapacity
   pub lower : everyVersion parentsLower (t .versions) ≡ true
   pub ranged : everyVersion entryInRange (t .versions) ≡ true
   pub rise : consolesRise (t .heads) ≡ true
   pub named : headsNamed (t .versions) (t .heads) ≡ true
 
-pub in-range : (t : Content) → inRange t ≡ true → Facts t
-in-range t h =
+pub in-range : (t : Content) → settingsInRange (t .settings) ≡ true → inRange t ≡ true → Facts t
+in-range t cap h =
+    let count = leb-true (versionCount (t .versions)) (t .settings .capacity) (search (and-l, and-r) depth 8) in
     record {
-      count = leb-true (versionCount (t .versions)) (t .settings .capacity) (search (and-l, and-r) depth 8);
+      small = omega (arith, capacity-range (t .settings) cap);
       lower = search (and-l, and-r) depth 8;
       ranged = search (and-l, and-r) depth 8;
       rise = search (and-l, and-r) depth 8;
       named = search (and-l, and-r) depth 8;
     }
-
-pub range-small : (t : Content) → settingsInRange (t .settings) ≡ true → Facts t → versionCount (t .versions) ≤ 1024
-range-small t cap k =
-    let c = k .count in
-    omega (arith, capacity-range (t .settings) cap)
 
 -- console 0 is there
 first-present : (heads : List (ℕ × ℕ)) → consolesRise heads ≡ true → isSome (getD (headSlots heads) 0 none) ≡ true
@@ -80,14 +76,14 @@ rest-passes true true true = refl
 module _ (t : Content) (cap : settingsInRange (t .settings) ≡ true) (range : inRange t ≡ true) where
   heads-name : headsNameVersions (roomOf t) ≡ true
   heads-name =
-      let k = in-range t range in
+      let k = in-range t cap range in
       let d = heads-diagonal t (k .rise) (k .named) in
       of consoleCount (λ c. namesVersion (t .versions) (headOf (roomOf t) c)) (λ c l. named-field (t .versions) (headOf (roomOf t) c) (d .named c l))
 
   pub room-judged : soundRoom (roomOf t) ≡ (everyVersion mergeHasBase (t .versions) && headsMeet (roomOf t) && allBehindHeads (roomOf t))
   unfolding soundRoom
   room-judged =
-      let k = in-range t range in
+      let k = in-range t cap range in
       let sixteen = eq-eqb (length (headSlots (t .heads))) consoleCount (length-slots (t .heads)) in
       let fits : leb (versionCount (t .versions)) (t .settings .capacity) ≡ true = search (and-l, and-r) depth 8 in
       rw (k .lower, sixteen, heads-name, first-present (t .heads) (k .rise), cap, fits, k .ranged)

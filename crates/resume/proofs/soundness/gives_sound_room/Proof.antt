@@ -6,7 +6,7 @@ use borrow.Author.Tests.{not-true, not-false}
 use Rattle.laws.proofs.Logic.{and-i, clash}
 use Rattle.resume.specs.Content.{contentIn}
 use Rattle.resume.proofs.HeadsJudged.{rows-inside, behind-told}
-use Rattle.resume.proofs.RoomJudged.{in-range, range-small, versions-fail, heads-fail, behind-decides}
+use Rattle.resume.proofs.RoomJudged.{in-range, versions-fail, heads-fail, behind-decides}
 use Rattle.resume.proofs.soundness.gives_sound_room.Statement.{statement}
 use Rattle.resume.proofs.soundness.gives_sound_room.Tie as tie
 
@@ -15,8 +15,8 @@ build-rows-requires c κs =
     let start = c .before .before .before .before in
     let p = start .pre in
     let t = contentIn (start .args .tape .now) in
-    let k = in-range t (p .1 .0 .1) in
-    let small = range-small t (p .1 .0 .0) k in
+    let k = in-range t (p .1 .0 .0) (p .1 .0 .1) in
+    let small = k .small in
     (p .0, (and-i _ _ (k .lower) (k .ranged), ((p .1 .1 .0 .0, omega arith), p .1 .1 .1 .0)))
 
 returns : tie.Need-returns
@@ -25,8 +25,6 @@ returns c =
     let start = made .before .before .before .before .before in
     let p = start .pre in
     let t = contentIn (start .args .tape .now) in
-    let k = in-range t (p .1 .0 .1) in
-    let small = range-small t (p .1 .0 .0) k in
     let told = made .build-rows .ensures in
     (versions-fail t (p .1 .0 .0) (p .1 .0 .1) (told .0) (not-true (made .build-rows .result) (c .if1 .taken)), told .1, λ h. clash h refl)
 
@@ -36,9 +34,8 @@ build-commons-requires c κs =
     let start = made .before .before .before .before .before in
     let p = start .pre in
     let t = contentIn (start .args .tape .now) in
-    let k = in-range t (p .1 .0 .1) in
-    let small = range-small t (p .1 .0 .0) k in
-    (p .0, ((k .rise, k .named), ((small, p .1 .1 .0 .1, p .1 .1 .0 .2), (made .build-rows .ensures .1, p .1 .1 .1 .1))))
+    let k = in-range t (p .1 .0 .0) (p .1 .0 .1) in
+    (p .0, ((k .rise, k .named), ((k .small, p .1 .1 .0 .1, p .1 .1 .0 .2), (made .build-rows .ensures .1, p .1 .1 .1 .1))))
 
 returns-2 : tie.Need-returns-2
 returns-2 c =
@@ -47,8 +44,6 @@ returns-2 c =
     let start = made .before .before .before .before .before in
     let p = start .pre in
     let t = contentIn (start .args .tape .now) in
-    let k = in-range t (p .1 .0 .1) in
-    let small = range-small t (p .1 .0 .0) k in
     let told = made .build-rows .ensures in
     let based = not-false (made .build-rows .result) (met .before .before .before .if1 .left) in (
       heads-fail t (p .1 .0 .0) (p .1 .0 .1) (told .0) based (met .build-commons .ensures .0) (not-true (met .build-commons .result) (c .if2 .taken)),
@@ -63,8 +58,8 @@ add-heads-reach-all c =
     let start = made .before .before .before .before .before in
     let p = start .pre in
     let t = contentIn (start .args .tape .now) in
-    let k = in-range t (p .1 .0 .1) in
-    let small = range-small t (p .1 .0 .0) k in
+    let k = in-range t (p .1 .0 .0) (p .1 .0 .1) in
+    let small = k .small in
     omega arith
 
 heads-reach-all-requires : tie.Need-heads-reach-all-requires
@@ -74,12 +69,11 @@ heads-reach-all-requires c κs =
     let start = made .before .before .before .before .before in
     let p = start .pre in
     let t = contentIn (start .args .tape .now) in
-    let k = in-range t (p .1 .0 .1) in
-    let small = range-small t (p .1 .0 .0) k in
+    let k = in-range t (p .1 .0 .0) (p .1 .0 .1) in
     let shown = made .build-rows .ensures .1 in
     let ok = not-false (met .build-commons .result) (c .before .before .if2 .left) in
     let header = met .build-commons .last .1 .1 .1 .1 .0 in
-    (omega arith, rows-inside t (k .rise) (k .named) small shown header (omega arith) (met .build-commons .ensures .1 ok))
+    (omega arith, rows-inside t (k .rise) (k .named) (k .small) shown header (omega arith) (met .build-commons .ensures .1 ok))
 
 returns-3 : tie.Need-returns-3
 returns-3 c =
@@ -88,14 +82,13 @@ returns-3 c =
     let start = made .before .before .before .before .before in
     let p = start .pre in
     let t = contentIn (start .args .tape .now) in
-    let k = in-range t (p .1 .0 .1) in
-    let small = range-small t (p .1 .0 .0) k in
+    let k = in-range t (p .1 .0 .0) (p .1 .0 .1) in
     let told = made .build-rows .ensures in
     let based = not-false (made .build-rows .result) (met .before .before .before .if1 .left) in
     let ok = not-false (met .build-commons .result) (c .before .before .before .if2 .left) in
     let written = met .build-commons .ensures .1 ok in
     let header = met .build-commons .last .1 .1 .1 .1 .0 in
-    let last = behind-told t (k .rise) (k .named) small (told .1) header (omega arith) written (omega arith) (c .heads-reach-all .ensures) in
+    let last = behind-told t (k .rise) (k .named) (k .small) (told .1) header (omega arith) written (omega arith) (c .heads-reach-all .ensures) in
     (behind-decides t (p .1 .0 .0) (p .1 .0 .1) (told .0) based (met .build-commons .ensures .0) ok last, told .1, λ _. written)
 
 pub gives-sound-room-spec : {M : Type 1} → statement M
