@@ -34,7 +34,7 @@ use Rattle.store.proofs.Whole.{whole-sound, whole-front, whole-long, whole-head
 use Rattle.update.specs.Append.{withEntry, withMerge}
 use Rattle.update.specs.Commons.{joinedCommons, putHead}
 use Rattle.update.proofs.AppendedBlocks.{Standing, Grew, entry-grew, merge-grew}
-use Rattle.update.proofs.JoinedTable.{table-kept, table-length, table-stands}
+use Rattle.update.proofs.JoinedTable.{table-length, table-outside, table-stands}
 
 pub in-range : (code strip operand : ℕ) → isEntryCode code ≡ true → strip < stripCount → isOperand code operand ≡ true
     → isEntryCode code && isStrip strip && isOperand code operand ≡ true
@@ -204,15 +204,7 @@ module _ (s : List ℕ) (t : holdsStore s ≡ true) (left : versionCount (roomIn
           let new = suc (versionCount g) in
           rw (eu, ee, eb, ea, add-one, en, eh, ek, el)
           (grown-store joined m joined-grew (putHead (joinedCommons joined-counted c d consoleCount) c new) c (merge-grown r sound c d p q ahead back split left)
-          (table-length joined-counted c d cl dl new header-left)
-          (λ i o.
-          table-kept joined-counted c d cl dl new header-left i
-          (λ j jl. (
-            λ x. o (omega arith) (omega arith),
-            λ x. o (omega arith) (omega arith),
-            λ x. o (omega arith) (omega arith),
-            λ x. o (omega arith) (omega arith),
-          )))
+          (table-length joined-counted c d new) (table-outside joined-counted c d new cl)
           (table-stands joined-counted c d cl dl new header-left (commonField r) (commonField (grown r c m)) (counted-commons joined m joined-grew)
           (counted-read joined m joined-grew) (grown-self r sound c p m) (merge-row r sound c d p q split)
           (merge-column r sound c d p q split) (grown-other r sound c p m)))

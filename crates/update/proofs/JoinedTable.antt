@@ -15,7 +15,7 @@ use Rattle.buffer.proofs.Stands.{Stands, stands-kept}
 use Rattle.buffer.proofs.Parts.{put-stands}
 use Rattle.buffer.proofs.Writes.{put-length, put-other}
 use Rattle.command.specs.Code.{consoleCount}
-use Rattle.store.specs.Layout.{headerSize, commonAt}
+use Rattle.store.specs.Layout.{headerSize, commonsAt, commonsEnd, commonAt}
 use Rattle.store.specs.Check.{commonIn}
 use Rattle.update.specs.Commons.{putCommon, joinedCommon, joinedCommons, putHead}
 
@@ -86,6 +86,30 @@ module _ (s : List ℕ) (c d : ℕ) where
             ∙ joined-kept n i (λ k l. f k (omega arith))
       ]
 
+  -- The table with the fields of c joined and its head written.
+  module _ (x : ℕ) where
+    pub table-length : length (putHead (joinedCommons s c d consoleCount) c x) ≡ length s
+    table-length = put-length (joinedCommons s c d consoleCount) (commonAt c c) x ∙ joined-length consoleCount
+
+    module _ (cl : c < consoleCount) where
+      -- bytes outside the row and the column of c stay
+      table-kept : (i : ℕ) → ((k : ℕ) → k < consoleCount → Clear c k i) → getD (putHead (joinedCommons s c d consoleCount) c x) i 0 ≡ getD s i 0
+      table-kept i f =
+          let own = f c cl in
+          put-other (joinedCommons s c d consoleCount) (commonAt c c) x i (own .0) (own .1)
+          ∙ joined-kept consoleCount i (λ k l _. f k l)
+
+      -- and so those before and behind the table
+      pub table-outside : (i : ℕ) → (commonsAt ≤ i → i < commonsEnd → ⊥) → getD (putHead (joinedCommons s c d consoleCount) c x) i 0 ≡ getD s i 0
+      table-outside i o =
+          table-kept i
+          (λ k kl. (
+            λ e. o (omega arith) (omega arith),
+            λ e. o (omega arith) (omega arith),
+            λ e. o (omega arith) (omega arith),
+            λ e. o (omega arith) (omega arith),
+          ))
+
   module _ (cl : c < consoleCount) (dl : d < consoleCount) where
     -- a field that is still to be joined is read as it was
     joined-ahead : (n j : ℕ) → n < consoleCount → j < consoleCount → (n ≡ c → ⊥)
@@ -120,20 +144,10 @@ module _ (s : List ℕ) (c d : ℕ) where
               ]
         ]
 
-    -- The table with the fields of c joined and its head written: where the old fields were `old`, the new ones are `new`.
+    -- The fields of that table: where the old ones were `old`, the new ones are `new`.
     module _ (x : ℕ) (long : headerSize ≤ length s) where
       abbrev table : List ℕ
       table = putHead (joinedCommons s c d consoleCount) c x
-
-      -- bytes outside the row and the column of c stay
-      pub table-kept : (i : ℕ) → ((k : ℕ) → k < consoleCount → Clear c k i) → getD (putHead (joinedCommons s c d consoleCount) c x) i 0 ≡ getD s i 0
-      table-kept i f =
-          let own = f c cl in
-          put-other (joinedCommons s c d consoleCount) (commonAt c c) x i (own .0) (own .1)
-          ∙ joined-kept consoleCount i (λ k l _. f k l)
-
-      pub table-length : length (putHead (joinedCommons s c d consoleCount) c x) ≡ length s
-      table-length = put-length (joinedCommons s c d consoleCount) (commonAt c c) x ∙ joined-length consoleCount
 
       table-fields : (k : ℕ) → k < consoleCount → (k ≡ c → ⊥)
           → Stands table (commonAt c k) (word (max (commonIn s c k) (commonIn s d k)))
@@ -163,6 +177,6 @@ module _ (s : List ℕ) (c d : ℕ) where
             | no jc ↦
                 elim (ℕ-discrete k c) [
                   | yes f ↦ rw (f, column j jc, ← read c j cl jl, ← read d j dl jl) (table-fields j jl jc .1)
-                  | no kc ↦ rw (other j k jc kc) (stands-kept (stand j k jl kl) (λ i l m. table-kept i (λ n nl. omega arith)))
+                  | no kc ↦ rw (other j k jc kc) (stands-kept (stand j k jl kl) (λ i l m. table-kept x cl i (λ n nl. omega arith)))
                 ]
           ]

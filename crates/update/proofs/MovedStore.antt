@@ -3,9 +3,8 @@
 use mathlib.Core.Path.{_≡_, refl, sym, _∙_}
 use mathlib.Core.Bool.{true}
 use mathlib.Core.List.{List}
-use Prim.Native.Nat.{ℕ, _≤_, _<_}
+use Prim.Native.Nat.{ℕ, _<_}
 use native.Mathlib.Omega.{arith}
-use lib.ListN.{getD}
 use Rattle.buffer.specs.Field.{overwrite}
 use Rattle.buffer.proofs.Rows.{rowFrom-length}
 use Rattle.buffer.proofs.Stands.{stands-kept}
@@ -15,7 +14,7 @@ use Rattle.room.specs.Room.{Room, headOf, present, head}
 use Rattle.room.specs.Step.{moved}
 use Rattle.room.proofs.Sound.{facts-sound}
 use Rattle.room.proofs.Moves.{moved-sound}
-use Rattle.store.specs.Layout.{rowSize, commonsAt, commonsEnd, commonField, encode, roomIn, holdsStore}
+use Rattle.store.specs.Layout.{rowSize, commonField, encode, roomIn, holdsStore}
 use Rattle.store.specs.Check.{commonIn}
 use Rattle.store.proofs.Joined.{placed}
 use Rattle.store.proofs.Moved.{moved-self, moved-row, moved-column, moved-other}
@@ -23,7 +22,7 @@ use Rattle.store.proofs.Changed.{changed-store}
 use Rattle.store.proofs.Reading.{common-read}
 use Rattle.store.proofs.Whole.{whole-sound, whole-front, whole-long, whole-header}
 use Rattle.update.specs.Commons.{joinedCommons, putHead}
-use Rattle.update.proofs.JoinedTable.{table-kept, table-length, table-stands}
+use Rattle.update.proofs.JoinedTable.{table-length, table-outside, table-stands}
 
 module _ (s : List ℕ) (t : holdsStore s ≡ true) (c d : ℕ) (cl : c < consoleCount) (dl : d < consoleCount) (q : present (roomIn s) d ≡ true)
     (b : present (roomIn s) c ≡ true → ancestor (roomIn s .versions) (head (roomIn s) c) (head (roomIn s) d) ≡ true) where
@@ -36,23 +35,13 @@ module _ (s : List ℕ) (t : holdsStore s ≡ true) (c d : ℕ) (cl : c < consol
   read : (j k : ℕ) → j < consoleCount → k < consoleCount → commonIn s j k ≡ commonField (roomIn s) j k
   read = common-read s (roomIn s) (whole-front s t) (whole-sound s t)
 
-  -- bytes before and behind the table stay
-  outside : (i : ℕ) → (commonsAt ≤ i → i < commonsEnd → ⊥) → getD changed i 0 ≡ getD s i 0
-  outside i o =
-      table-kept s c d cl dl (commonIn s d d) (whole-header s t) i
-      (λ k kl. (
-        λ x. o (omega arith) (omega arith),
-        λ x. o (omega arith) (omega arith),
-        λ x. o (omega arith) (omega arith),
-        λ x. o (omega arith) (omega arith),
-      ))
-
   pub moved-store : changed ≡ overwrite (encode after) s
   moved-store =
       let r = roomIn s in
       let sound = whole-sound s t in
       let p = placed r (whole-front s t) in
       let wide = rowFrom-length (isEntry (r .versions)) 0 rowSize in
+      let outside = table-outside s c d (commonIn s d d) cl in
       changed-store p
       (record {
         settings = refl;
@@ -67,4 +56,4 @@ module _ (s : List ℕ) (t : holdsStore s ≡ true) (c d : ℕ) (cl : c < consol
             (moved-row r sound c d cl q b) (moved-column r sound c d cl q b) (moved-other r sound c d cl q b);
         versions = λ v l. stands-kept (p .versions v l) (λ i x y. outside i (omega arith));
       })
-      s (facts-sound after (moved-sound r sound c d cl q b)) (whole-long s t) (table-length s c d cl dl (commonIn s d d) (whole-header s t)) (λ k l. refl)
+      s (facts-sound after (moved-sound r sound c d cl q b)) (whole-long s t) (table-length s c d (commonIn s d d)) (λ k l. refl)
