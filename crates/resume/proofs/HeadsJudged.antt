@@ -24,21 +24,22 @@ use Rattle.resume.proofs.HeadSlots.{headField, head-from, Diagonal, dia
 use Rattle.resume.proofs.HeadMeets.{table-judged, table-filled, table-diagonal}
 
 module _ (t : Content) (rise : consolesRise (t .heads) ≡ true) (named : headsNamed (t .versions) (t .heads) ≡ true)
-    (small : versionCount (t .versions) ≤ 1024) {header : List ℕ} (made : header ≡ headTable (t .heads)) where
+    {header : List ℕ} (made : header ≡ headTable (t .heads)) where
   diagonal : Diagonal (roomOf t) header
   diagonal = subst (Diagonal (roomOf t)) (sym made) (heads-diagonal t rise named)
 
   pub heads-long : length header ≡ headerSize
   heads-long = diagonal .long
 
-  pub heads-low : (k : ℕ) → k < consoleCount → commonIn header k k ≤ 1024
-  heads-low k l = omega (arith, diagonal-read small diagonal k l, diagonal .named k l)
+  module _ (small : versionCount (t .versions) ≤ 1024) where
+    pub heads-low : (k : ℕ) → k < consoleCount → commonIn header k k ≤ 1024
+    heads-low k l = omega (arith, diagonal-read small diagonal k l, diagonal .named k l)
 
-  pub heads-judged : {rows after : List ℕ} {r : Bool} → RowsOf rows (t .versions) → r ≡ tableMeets rows header consoleCount → after ≡ withConsoles rows header consoleCount
-      → (r ≡ headsMeet (roomOf t)) × (r ≡ true → part after commonsAt commonsSize ≡ commonTable (roomOf t) 0 consoleCount)
-  heads-judged {rows} shown er ea =
-      let met = er ∙ table-judged (roomOf t) rows shown small diagonal in
-      (met, λ h. ap (λ (u : List ℕ). part u commonsAt commonsSize) ea ∙ table-filled (roomOf t) rows shown small diagonal (sym met ∙ h))
+    pub heads-judged : {rows after : List ℕ} {r : Bool} → RowsOf rows (t .versions) → r ≡ tableMeets rows header consoleCount → after ≡ withConsoles rows header consoleCount
+        → (r ≡ headsMeet (roomOf t)) × (r ≡ true → part after commonsAt commonsSize ≡ commonTable (roomOf t) 0 consoleCount)
+    heads-judged {rows} shown er ea =
+        let met = er ∙ table-judged (roomOf t) rows shown small diagonal in
+        (met, λ h. ap (λ (u : List ℕ). part u commonsAt commonsSize) ea ∙ table-filled (roomOf t) rows shown small diagonal (sym met ∙ h))
 
 -- a header with the table of the tape's room, and the versions behind its heads
 module _ (t : Content) (rise : consolesRise (t .heads) ≡ true) (named : headsNamed (t .versions) (t .heads) ≡ true)

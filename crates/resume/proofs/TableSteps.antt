@@ -66,6 +66,10 @@ pub paired-none : (rows t : List ℕ) (c : ℕ) → length t ≡ headerSize → 
 unfolding withPairs consoleMeets
 paired-none rows t c l = record { within = omega arith; long = l; written = refl; met = refl }
 
+pub paired-all : {rows t : List ℕ} {c d : ℕ} {header : List ℕ} {ok : Bool} → Paired rows t c d header ok → c ≤ d
+    → (ok ≡ consoleMeets rows t c c) × (header ≡ withPairs rows t c c)
+paired-all {c = c} {d = d} p l = let w = p .within in let e : d ≡ c = omega arith in (rw e at (p .met), rw e at (p .written))
+
 module _ {rows t : List ℕ} {c d : ℕ} {header : List ℕ} {ok : Bool} (p : Paired rows t c d header ok) (cn : c < consoleCount) where
   -- the diagonal reads as at first
   pub paired-own : (k : ℕ) → k < consoleCount → commonIn header k k ≡ commonIn t k k
@@ -85,9 +89,6 @@ module _ {rows t : List ℕ} {c d : ℕ} {header : List ℕ} {ok : Bool} (p : Pa
         written = made ∙ ap (withPairs rows t c) (sym (add-one d));
         met = told ∙ ap (consoleMeets rows t c) (sym (add-one d));
       }
-
-  pub paired-all : c ≤ d → (ok ≡ consoleMeets rows t c c) × (header ≡ withPairs rows t c c)
-  paired-all l = let w = p .within in let e : d ≡ c = omega arith in (rw e at (p .met), rw e at (p .written))
 
 -- the pairs of all consoles below c are written
 pub record Tabled (rows t : List ℕ) (c : ℕ) (header : List ℕ) (ok : Bool) : Type 0 where

@@ -16,8 +16,8 @@ build-pairs-requires c κs =
     let p = start .pre in
     let t = contentIn (start .args .tape .now) in
     let made = put .put-heads .ensures in
-    let long = heads-long t (p .1 .0 .0) (p .1 .0 .1) (p .1 .1 .0 .0) made in
-    let low = heads-low t (p .1 .0 .0) (p .1 .0 .1) (p .1 .1 .0 .0) made in
+    let long = heads-long t (p .1 .0 .0) (p .1 .0 .1) made in
+    let low = heads-low t (p .1 .0 .0) (p .1 .0 .1) made (p .1 .1 .0 .0) in
     (p .1 .1 .1 .0 .long, (long, low))
 
 returns : tie.Need-returns
@@ -26,7 +26,7 @@ returns c =
     let put = judged .before .before .before .before in
     let start = put .before .before .before .before .before in
     let p = start .pre in
-    heads-judged (contentIn (start .args .tape .now)) (p .1 .0 .0) (p .1 .0 .1) (p .1 .1 .0 .0) (put .put-heads .ensures) (p .1 .1 .1 .0)
+    heads-judged (contentIn (start .args .tape .now)) (p .1 .0 .0) (p .1 .0 .1) (put .put-heads .ensures) (p .1 .1 .0 .0) (p .1 .1 .1 .0)
     (judged .build-pairs .ensures .0) (judged .build-pairs .ensures .1)
 
 pub build-commons-spec : {M : Type 1} → statement M

@@ -43,7 +43,7 @@ loop-again c =
     )
 
 returns : tie.Need-returns Inv-loop μ-loop
-returns c = let turn = c .before in paired-all (turn .loop .inv .1) (turn .before .before .before .pre .1 .1 .0) (omega arith)
+returns c = paired-all (c .before .loop .inv .1) (omega arith)
 
 pub build-console-spec : {M : Type 1} → statement M
 build-console-spec =
