@@ -12,8 +12,8 @@ use lib.Dec.{eqb}
 use borrow.Author.Tests.{eqb-true, eq-eqb, ne-eqb}
 use Rattle.laws.proofs.Logic.{clash, and-l, and-r, or-l, or-r, or-split, cond-true, cond-false}
 use Rattle.graph.specs.declared.Node.{Node}
-use Rattle.graph.specs.Graph.{Graph, versionCount, someParent, ancestor, nodeOf, isEntryNode, isEntry, everyVersion}
-use Rattle.graph.proofs.Parent.{Parent, parent-to, parent-from}
+use Rattle.graph.specs.Graph.{Graph, versionCount, someParent, ancestor, parentsLower, nodeOf, isEntryNode, isEntry, everyVersion}
+use Rattle.graph.proofs.Parent.{Parent, parent-to, parent-from, parent-lower}
 
 -- a test of every version holds at the newest, and of those before it
 pub every-new : (f : Graph → Node → Bool) (n : Node) (g : Graph) → everyVersion f (n ∷ g) ≡ true → f g n ≡ true

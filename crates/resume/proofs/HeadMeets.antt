@@ -17,7 +17,7 @@ use Rattle.buffer.proofs.Parts.{stands-part, part-stands}
 use Rattle.graph.specs.Below.{everyBelow}
 use Rattle.graph.specs.Graph.{versionCount, meet, isSome}
 use Rattle.graph.proofs.Below.{at, of}
-use Rattle.graph.proofs.Meet.{Meet, meet-found, meet-self, meetNumber-self, meet-sym}
+use Rattle.graph.proofs.Meet.{meet-self, meetNumber-self, meet-sym}
 use Rattle.command.specs.Code.{consoleCount}
 use Rattle.room.specs.Room.{Room, headOf, head, common}
 use Rattle.room.specs.Sound.{twoMeet, headsMeet}

@@ -21,7 +21,6 @@ use Rattle.graph.proofs.Meet.{meetNumber-below}
 use Rattle.room.specs.Sound.{entryInRange, soundRoom}
 use Rattle.room.proofs.Sound.{versions-small, sound-facts}
 use Rattle.store.specs.Layout.{rowSize, entriesAt, blockAt, headFrom}
-use Rattle.store.proofs.Ranges.{ranges}
 use Rattle.update.specs.Append.{appended}
 use Rattle.update.proofs.AppendedBlocks.{Standing, Grew, entry-grew, merge-grew}
 use Rattle.tape.specs.Record.{recordIn}
