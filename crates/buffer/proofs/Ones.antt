@@ -11,7 +11,7 @@ use lib.Count.{ones, ones-step, ones-cat, ones-le}
 use lib.ListN.{length, take}
 use lib.Seq.{take-add, take-all, length-take-le}
 use Rattle.buffer.specs.Field.{part}
-use Rattle.buffer.specs.Row.{bit, rowByte, bytewise, intersection, memberCount}
+use Rattle.buffer.specs.Row.{bit, rowByte, bytewise, intersection, memberCount, rowWidth}
 use Rattle.buffer.specs.Word.{longWord}
 use Rattle.buffer.proofs.Rows.{bit-le}
 use Rattle.buffer.proofs.Parts.{Bytes}
@@ -77,14 +77,14 @@ count-append (x ∷ s) t = ap (λ (n : ℕ). ones x + n) (count-append s t) ∙ 
 -- the members that two rows have in common before place i have been counted, i being a whole number of words
 pub record Counted (s t : List ℕ) (count i : ℕ) : Type 0 where
   pub long : length s ≡ length t
-  pub short : length s ≤ 128
+  pub short : length s ≤ rowWidth
   pub whole : length s % 8 ≡ 0
   pub step : i % 8 ≡ 0
   pub within : i ≤ length s
   pub few : count ≤ 8 * i
   pub found : count ≡ memberCount (intersection (take i s) (take i t))
 
-pub counted-none : (s t : List ℕ) → length s ≡ length t → length s % 8 ≡ 0 → length s ≤ 128 → Counted s t 0 0
+pub counted-none : (s t : List ℕ) → length s ≡ length t → length s % 8 ≡ 0 → length s ≤ rowWidth → Counted s t 0 0
 unfolding bytewise memberCount
 counted-none s t long whole short =
     record { long = long; short = short; whole = whole; step = refl; within = omega arith; few = omega arith; found = refl }
@@ -109,6 +109,6 @@ counted-more {s} {t} {count} {i} {n} c h e l =
     }
 
 pub counted-all : {s t : List ℕ} {count i : ℕ} → Counted s t count i → length s ≤ i
-    → (count ≡ memberCount (intersection s t)) × (count ≤ 1024)
+    → (count ≡ memberCount (intersection s t)) × (count ≤ 8 * rowWidth)
 counted-all {s} {t} {count} {i} c h =
     (c .found ∙ ap memberCount (ap₂ intersection (take-all i s h) (take-all i t (omega arith))), omega arith)

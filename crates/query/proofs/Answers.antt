@@ -23,16 +23,17 @@ use Rattle.store.proofs.Commons.{head-is, present-is}
 use Rattle.store.proofs.Reading.{count-read}
 use Rattle.store.proofs.Checks.{own-heads}
 use Rattle.store.proofs.Whole.{whole-sound, whole-front, whole-long, whole-small, whole-held, whole-fields, whole-low}
+use Rattle.room.specs.Sound.{maxCapacity}
 
 pub present-answer : (s : List ℕ) (c : ℕ) → c < consoleCount → not (eqb (commonIn s c c) 0) ≡ present (roomIn s) c
 present-answer s c l = sym (present-is s (roomIn s) (own-heads s) c l)
 
 module _ (s : List ℕ) (t : holdsStore s ≡ true) where
-  pub settings-answer : (settingsIn s ≡ roomIn s .settings) × (wordAt s capacityAt ≤ 1024)
+  pub settings-answer : (settingsIn s ≡ roomIn s .settings) × (wordAt s capacityAt ≤ maxCapacity)
   unfolding roomIn
   settings-answer = (refl, capacity-range (roomIn s .settings) (whole-sound s t .settings) .1)
 
-  pub count-answer : (wordAt s countAt ≡ versionCount (roomIn s .versions)) × (wordAt s countAt ≤ 1024)
+  pub count-answer : (wordAt s countAt ≡ versionCount (roomIn s .versions)) × (wordAt s countAt ≤ maxCapacity)
   count-answer =
       let e = count-read s (roomIn s) (whole-front s t) (whole-sound s t) in
       (e, omega (arith, whole-small s t))

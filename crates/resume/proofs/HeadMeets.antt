@@ -20,7 +20,7 @@ use Rattle.graph.proofs.Below.{at, of}
 use Rattle.graph.proofs.Meet.{meet-self, meetNumber-self, meet-sym}
 use Rattle.command.specs.Code.{consoleCount}
 use Rattle.room.specs.Room.{Room, headOf, head, common}
-use Rattle.room.specs.Sound.{twoMeet, headsMeet}
+use Rattle.room.specs.Sound.{twoMeet, headsMeet, maxCapacity}
 use Rattle.room.proofs.Sound.{two-met, met-two}
 use Rattle.store.specs.Layout.{headerSize, commonsAt, commonsSize, commonAt, headFrom, commonField, commonTable}
 use Rattle.store.specs.Check.{commonIn}
@@ -89,7 +89,7 @@ module _ (r : Room) (named : (c : ℕ) → c < consoleCount → headField (headO
         named = named;
       }
 
-module _ (r : Room) (rows : List ℕ) (shown : RowsOf rows (r .versions)) (small : versionCount (r .versions) ≤ 1024) where
+module _ (r : Room) (rows : List ℕ) (shown : RowsOf rows (r .versions)) (small : versionCount (r .versions) ≤ maxCapacity) where
   -- the fields of two consoles by their rows
   module _ (c d : ℕ) (cn : headField (headOf r c) ≤ versionCount (r .versions)) (dn : headField (headOf r d) ≤ versionCount (r .versions)) where
     field-some : (z : ℕ) → not (eqb z 0) ≡ isSome (headFrom z)

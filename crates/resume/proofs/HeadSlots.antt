@@ -24,6 +24,7 @@ use Rattle.store.specs.Layout.{headerSize, commonAt, headFrom}
 use Rattle.store.specs.Check.{commonIn}
 use Rattle.tape.specs.Tape.{Content, headSlots, roomOf, consolesRise, headsNamed}
 use Rattle.tape.proofs.Heads.{length-slots}
+use Rattle.room.specs.Sound.{maxCapacity}
 use Rattle.resume.specs.Heads.{headTable}
 
 -- the field of a head: 0 where there is none, else 1 more than the version
@@ -41,7 +42,7 @@ pub record Diagonal (r : Room) (t : List ℕ) : Type 0 where
   pub slot : (c : ℕ) → c < consoleCount → Stands t (commonAt c c) (word (headField (headOf r c)))
   pub named : (c : ℕ) → c < consoleCount → headField (headOf r c) ≤ versionCount (r .versions)
 
-pub diagonal-read : {r : Room} {t : List ℕ} → versionCount (r .versions) ≤ 1024 → Diagonal r t → (c : ℕ) → c < consoleCount
+pub diagonal-read : {r : Room} {t : List ℕ} → versionCount (r .versions) ≤ maxCapacity → Diagonal r t → (c : ℕ) → c < consoleCount
     → commonIn t c c ≡ headField (headOf r c)
 diagonal-read {r} small d c l = stands-word (headField (headOf r c)) (d .slot c l) (omega (arith, d .named c l))
 

@@ -13,7 +13,7 @@ use Rattle.buffer.specs.Row.{row}
 use Rattle.graph.specs.Graph.{versionCount, ancestor}
 use Rattle.command.specs.Code.{consoleCount}
 use Rattle.room.specs.Room.{headOf}
-use Rattle.room.specs.Sound.{headsMeet, allBehindHeads}
+use Rattle.room.specs.Sound.{headsMeet, allBehindHeads, maxCapacity}
 use Rattle.store.specs.Layout.{headerSize, rowSize, commonsAt, commonsSize, headFrom, commonTable}
 use Rattle.store.specs.Check.{commonIn, behindHeads}
 use Rattle.store.proofs.Behind.{behind-row, behind-judged}
@@ -31,8 +31,8 @@ module _ (t : Content) (rise : consolesRise (t .heads) ≡ true) (named : headsN
   pub heads-long : length header ≡ headerSize
   heads-long = diagonal .long
 
-  module _ (small : versionCount (t .versions) ≤ 1024) where
-    pub heads-low : (k : ℕ) → k < consoleCount → commonIn header k k ≤ 1024
+  module _ (small : versionCount (t .versions) ≤ maxCapacity) where
+    pub heads-low : (k : ℕ) → k < consoleCount → commonIn header k k ≤ maxCapacity
     heads-low k l = omega (arith, diagonal-read small diagonal k l, diagonal .named k l)
 
     pub heads-judged : {rows after : List ℕ} {r : Bool} → RowsOf rows (t .versions) → r ≡ tableMeets rows header consoleCount → after ≡ withConsoles rows header consoleCount
@@ -43,7 +43,7 @@ module _ (t : Content) (rise : consolesRise (t .heads) ≡ true) (named : headsN
 
 -- a header with the table of the tape's room, and the versions behind its heads
 module _ (t : Content) (rise : consolesRise (t .heads) ≡ true) (named : headsNamed (t .versions) (t .heads) ≡ true)
-    (small : versionCount (t .versions) ≤ 1024) {rows : List ℕ} (shown : RowsOf rows (t .versions))
+    (small : versionCount (t .versions) ≤ maxCapacity) {rows : List ℕ} (shown : RowsOf rows (t .versions))
     (header : List ℕ) (long : length header ≡ headerSize) (written : part header commonsAt commonsSize ≡ commonTable (roomOf t) 0 consoleCount) where
   filled : Diagonal (roomOf t) header
   filled = table-diagonal (roomOf t) (heads-diagonal t rise named .named) header long written

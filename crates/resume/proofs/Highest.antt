@@ -16,14 +16,16 @@ use Rattle.buffer.specs.Row.{member}
 use Rattle.buffer.proofs.Shared.{member-both, no-higher}
 use Rattle.graph.specs.Below.{highestBelow}
 use Rattle.graph.proofs.Below.{highest-of, highest-some}
+use Rattle.room.specs.Sound.{maxCapacity}
+use Rattle.store.specs.Layout.{rowSize}
 use Rattle.resume.specs.Rows.{highestCommon}
 
 -- no member from k bytes on is in both rows
 pub record NoneAbove (p q : List ℕ) (k : ℕ) : Type 0 where
-  pub within : k ≤ 128
-  pub none : (v : ℕ) → 8 * k ≤ v → v < 1024 → member p v && member q v ≡ false
+  pub within : k ≤ rowSize
+  pub none : (v : ℕ) → 8 * k ≤ v → v < maxCapacity → member p v && member q v ≡ false
 
-pub apart-start : (p q : List ℕ) → NoneAbove p q 128
+pub apart-start : (p q : List ℕ) → NoneAbove p q rowSize
 apart-start p q = record { within = omega arith; none = λ v a b. absurd (omega arith) }
 
 -- the byte of v, and the bit in it
@@ -50,28 +52,28 @@ module _ {p q : List ℕ} {k : ℕ} (a : NoneAbove p q k) (some-left : 0 < k) wh
       }
 
   -- or the highest bit of it is the highest of all
-  pub apart-found : (j : ℕ) → j < 8 → x / 2 ^ j ≡ 1 → (8 * (k - 1) + j ≡ highestCommon p q) × (8 * (k - 1) + j < 1024)
+  pub apart-found : (j : ℕ) → j < 8 → x / 2 ^ j ≡ 1 → (8 * (k - 1) + j ≡ highestCommon p q) × (8 * (k - 1) + j < maxCapacity)
   apart-found j l e =
       let w = a .within in
       let bit : (8 * (k - 1) + j) % 8 ≡ j = omega arith in
       let here : member p (8 * (k - 1) + j) && member q (8 * (k - 1) + j) ≡ true =
       shared-at p q (k - 1) (8 * (k - 1) + j) (omega arith) ∙ ap (λ (i : ℕ). eqb (x / 2 ^ i % 2) 1) bit ∙ ap (λ (y : ℕ). eqb (y % 2) 1) e in
-      let above : (v : ℕ) → 8 * (k - 1) + j < v → v < 1024 → member p v && member q v ≡ false =
+      let above : (v : ℕ) → 8 * (k - 1) + j < v → v < maxCapacity → member p v && member q v ≡ false =
       λ v m n.
       elim (decLt v (8 * k)) [
         | yes o ↦ shared-at p q (k - 1) v (omega arith) ∙ ap (λ (y : ℕ). eqb (y % 2) 1) (no-higher x j (v % 8) e (omega arith))
         | no o ↦ a .none v (omega arith) n
       ] in (
-        sym (ap (λ (o : Option ℕ). Option·getD o 0) (highest-of 1024 (λ v. member p v && member q v) (8 * (k - 1) + j) (omega arith) here above)),
+        sym (ap (λ (o : Option ℕ). Option·getD o 0) (highest-of maxCapacity (λ v. member p v && member q v) (8 * (k - 1) + j) (omega arith) here above)),
         omega arith,
       )
 
 -- no member at all
 pub apart-all : (p q : List ℕ) → NoneAbove p q 0 → 0 ≡ highestCommon p q
-apart-all p q a = go (highestBelow 1024 (λ v. member p v && member q v)) refl
+apart-all p q a = go (highestBelow maxCapacity (λ v. member p v && member q v)) refl
   where
-    go : (o : Option ℕ) → highestBelow 1024 (λ v. member p v && member q v) ≡ o → 0 ≡ Option·getD o 0
+    go : (o : Option ℕ) → highestBelow maxCapacity (λ v. member p v && member q v) ≡ o → 0 ≡ Option·getD o 0
     go none e = refl
     go (some m) e =
-        let r = highest-some 1024 (λ v. member p v && member q v) m e in
+        let r = highest-some maxCapacity (λ v. member p v && member q v) m e in
         clash (r .1) (a .none m (omega arith) (r .0))

@@ -23,6 +23,7 @@ use Rattle.graph.proofs.Meet.{Meet, meet-is, meet-found}
 use Rattle.store.specs.Layout.{rowSize, headFrom}
 use Rattle.store.specs.Rules.{isBase}
 use Rattle.store.proofs.Lineage.{lineage, meet-lineage, lineage-meet}
+use Rattle.room.specs.Sound.{maxCapacity}
 use Rattle.resume.specs.Rows.{highestCommon, ownRow, RowsOf, fieldWhen, meetField}
 
 highest-ext : (n : ℕ) (f g : ℕ → Bool) → ((k : ℕ) → k < n → f k ≡ g k) → highestBelow n f ≡ highestBelow n g
@@ -39,25 +40,25 @@ meet-highest {g} {u} {v} {m} h n l =
     refuted (commonAncestor g u v k)
     (λ t. omega (arith, ancestor-le g k m (h .lowest k (and-l (ancestor g k u) (ancestor g k v) t) (and-r (ancestor g k u) (ancestor g k v) t)))))
 
-module _ (g : Graph) (small : versionCount g ≤ 1024) (u v : ℕ) where
+module _ (g : Graph) (small : versionCount g ≤ maxCapacity) (u v : ℕ) where
   -- on the rows of the two
   abbrev highest : ℕ
   highest = highestCommon (lineage g u) (lineage g v)
 
-  rows-common : highestBelow 1024 (λ w. member (lineage g u) w && member (lineage g v) w) ≡ highestBelow 1024 (commonAncestor g u v)
+  rows-common : highestBelow maxCapacity (λ w. member (lineage g u) w && member (lineage g v) w) ≡ highestBelow maxCapacity (commonAncestor g u v)
   rows-common =
-      highest-ext 1024 (λ w. member (lineage g u) w && member (lineage g v) w) (commonAncestor g u v)
+      highest-ext maxCapacity (λ w. member (lineage g u) w && member (lineage g v) w) (commonAncestor g u v)
       (λ w l. ap₂ _&&_ (member-row (λ x. ancestor g x u) rowSize w l) (member-row (λ x. ancestor g x v) rowSize w l))
 
   highest-named : highest < versionCount g
-  highest-named = rw rows-common (go (highestBelow 1024 (commonAncestor g u v)) refl)
+  highest-named = rw rows-common (go (highestBelow maxCapacity (commonAncestor g u v)) refl)
     where
-      go : (o : Option ℕ) → highestBelow 1024 (commonAncestor g u v) ≡ o → Option·getD o 0 < versionCount g
+      go : (o : Option ℕ) → highestBelow maxCapacity (commonAncestor g u v) ≡ o → Option·getD o 0 < versionCount g
       go none e = omega arith
-      go (some m) e = ancestor-below g m u (and-l (ancestor g m u) (ancestor g m v) (highest-some 1024 (commonAncestor g u v) m e .1))
+      go (some m) e = ancestor-below g m u (and-l (ancestor g m u) (ancestor g m v) (highest-some maxCapacity (commonAncestor g u v) m e .1))
 
   highest-meet : {m : ℕ} → Meet g u v m → highest ≡ m
-  highest-meet h = ap (λ (o : Option ℕ). Option·getD o 0) (rows-common ∙ meet-highest h 1024 small)
+  highest-meet h = ap (λ (o : Option ℕ). Option·getD o 0) (rows-common ∙ meet-highest h maxCapacity small)
 
   -- the meet, by the rows
   pub meet-rows : meet g u v ≡ headFrom (fieldWhen (same (lineage g highest) (intersection (lineage g u) (lineage g v))) highest)
@@ -74,13 +75,13 @@ module _ (g : Graph) (small : versionCount g ≤ 1024) (u v : ℕ) where
           clash (same-of _ _ (rw (highest-meet h) (meet-lineage h))) t
 
 -- the same where the rows of a graph stand
-pub meet-shown : {t : List ℕ} {g : Graph} → RowsOf t g → versionCount g ≤ 1024 → (u v : ℕ) → u < versionCount g → v < versionCount g
+pub meet-shown : {t : List ℕ} {g : Graph} → RowsOf t g → versionCount g ≤ maxCapacity → (u v : ℕ) → u < versionCount g → v < versionCount g
     → headFrom (meetField t u v) ≡ meet g u v
 unfolding meetField
 meet-shown {t} {g} r small u v a b =
     rw (r .shown u a, r .shown v b, r .shown (highest g small u v) (highest-named g small u v)) (sym (meet-rows g small u v))
 
-pub base-shown : {t : List ℕ} {g : Graph} → RowsOf t g → versionCount g ≤ 1024 → (p q : ℕ) → p < versionCount g → q < versionCount g
+pub base-shown : {t : List ℕ} {g : Graph} → RowsOf t g → versionCount g ≤ maxCapacity → (p q : ℕ) → p < versionCount g → q < versionCount g
     → servesAsBase p q (headFrom (meetField t p q)) ≡ mergeHasBase g (merge p q)
 base-shown r small p q a b = ap (servesAsBase p q) (meet-shown r small p q a b)
 

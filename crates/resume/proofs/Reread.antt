@@ -17,7 +17,7 @@ use Rattle.graph.specs.Graph.{Graph, versionCount, everyVersion, parentsLower, 
 use Rattle.graph.proofs.Parent.{parent-lower, receiver, giver}
 use Rattle.graph.proofs.Ancestor.{every-new}
 use Rattle.command.specs.Code.{consoleCount}
-use Rattle.room.specs.Sound.{entryInRange}
+use Rattle.room.specs.Sound.{entryInRange, maxCapacity}
 use Rattle.store.specs.Layout.{headerSize, commonAt}
 use Rattle.store.specs.Rules.{nodeInRange}
 use Rattle.update.specs.Commons.{putHead}
@@ -37,11 +37,11 @@ use Rattle.resume.proofs.HeadSlots.{Listed, no-heads, one-head, heads-l
 
 -- a version on top of a graph: its row, and whether the parents of a merge have a base
 module _ {rows : List ℕ} {g : Graph} where
-  rows-made : (n : Node) → RowsOf rows g → versionCount g < 1024 → parentsLower g n ≡ true → RowsOf (rowsWith rows (versionCount g) n) (n ∷ g)
+  rows-made : (n : Node) → RowsOf rows g → versionCount g < maxCapacity → parentsLower g n ≡ true → RowsOf (rowsWith rows (versionCount g) n) (n ∷ g)
   rows-made (Entry p code strip operand) r small l = rows-entry (p .0) code (strip .0) operand r small (ltb-true (p .0) (versionCount g) l)
   rows-made (Merge p q) r small l = rows-merge (p .0) (q .0) r small (parent-lower g l receiver) (parent-lower g l giver)
 
-  base-made : (n : Node) → RowsOf rows g → versionCount g ≤ 1024 → parentsLower g n ≡ true → baseFound rows n ≡ mergeHasBase g n
+  base-made : (n : Node) → RowsOf rows g → versionCount g ≤ maxCapacity → parentsLower g n ≡ true → baseFound rows n ≡ mergeHasBase g n
   base-made (Entry p code strip operand) r small l = refl
   base-made (Merge p q) r small l = base-shown r small (p .0) (q .0) (parent-lower g l receiver) (parent-lower g l giver)
 
@@ -70,7 +70,7 @@ module _ (tape : List ℕ) (t : Content) (bytes : Bytes tape) (says : contentOf 
       rw (version-number tape t bytes says a l, node-ranged before x)
       (and-i _ _ next-lower (every-new entryInRange x before (version-holds tape t bytes says a l read entryInRange (and-r (everyVersion parentsLower (t .versions)) _ range))))
 
-pub rowed-more : (tape : List ℕ) (t : Content) (bytes : Bytes tape) (says : contentOf tape ≡ some t) → versionsInRange (t .versions) ≡ true → length (t .versions) < 1024
+pub rowed-more : (tape : List ℕ) (t : Content) (bytes : Bytes tape) (says : contentOf tape ≡ some t) → versionsInRange (t .versions) ≡ true → length (t .versions) < maxCapacity
     → {k at next : ℕ} {rows after : List ℕ} {based here : Bool} {x : Node} → Versions t (Rowed rows based) k at → k < length (t .versions)
     → x ≡ nodeOn (recordIn (drop at tape)) → here ≡ baseFound rows x → after ≡ rowsWith rows (k + 1) x → next ≡ placeAfter tape at
     → Versions t (Rowed after (here && based)) (k + 1) next

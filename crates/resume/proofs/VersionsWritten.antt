@@ -18,7 +18,7 @@ use Rattle.graph.specs.Graph.{Graph, entry, merge, versionCount, ancestor, meet
 use Rattle.graph.proofs.Parent.{parent-lower, receiver, giver}
 use Rattle.graph.proofs.Ancestor.{every-new, every-old, ancestor-old}
 use Rattle.graph.proofs.Meet.{meetNumber-below}
-use Rattle.room.specs.Sound.{entryInRange, soundRoom}
+use Rattle.room.specs.Sound.{entryInRange, soundRoom, maxCapacity}
 use Rattle.room.proofs.Sound.{versions-small, sound-facts}
 use Rattle.store.specs.Layout.{rowSize, entriesAt, blockAt, headFrom}
 use Rattle.update.specs.Append.{appended}
@@ -37,7 +37,7 @@ pub record Ready (rows : List ℕ) (g : Graph) : Type 0 where
   pub lower : everyVersion parentsLower g ≡ true
   pub ranged : everyVersion entryInRange g ≡ true
   pub based : everyVersion mergeHasBase g ≡ true
-  pub small : versionCount g ≤ 1024
+  pub small : versionCount g ≤ maxCapacity
   pub shown : RowsOf rows g
 
 ready-old : {rows : List ℕ} {n : Node} {g : Graph} → Ready rows (n ∷ g) → Ready rows g

@@ -14,7 +14,7 @@ use lib.Dec.{eqb}
 use lib.ListN.{length, getD-replicate}
 use Rattle.laws.proofs.Logic.{decide, and-l, and-r, cond-true, cond-false}
 use Rattle.buffer.specs.Field.{wordAt}
-use Rattle.board.specs.Board.{stripCount, boardSize, emptyBoard, callsAt, alertsAt, mergeCount, mergeBoard, enter}
+use Rattle.board.specs.Board.{stripCount, boardSize, emptyBoard, callsAt, alertsAt, mergeCount, mergeBoard, enter, alertOnEntry, callEntry}
 use Rattle.board.proofs.Cells.{calls-kept, alerts-kept, call-counted, alert-counted, calls-merged, alerts-merged}
 use Rattle.graph.specs.declared.Node.{Node}
 use Rattle.graph.specs.declared.Node.the-variants.{Entry, Merge}
@@ -146,11 +146,11 @@ nothing i l =
 
 -- "the call counter equals the number of call entries heard for that strip", of every version; and the alert count the alert entries
 pub calls-tally : (g : Graph) (v k : ℕ) → WellFormed g → length g < 65535 → v < versionCount g → k < stripCount
-    → wordAt (boardOf g v) (callsAt k) ≡ tally 6 k g v
+    → wordAt (boardOf g v) (callsAt k) ≡ tally callEntry k g v
 calls-tally g v k wf small l inside =
-    counter-tally 6 callsAt (λ j m. nothing (callsAt j) (omega arith)) calls-kept call-counted calls-merged k inside g v wf small l
+    counter-tally callEntry callsAt (λ j m. nothing (callsAt j) (omega arith)) calls-kept call-counted calls-merged k inside g v wf small l
 
 pub alerts-tally : (g : Graph) (v k : ℕ) → WellFormed g → length g < 65535 → v < versionCount g → k < stripCount
-    → wordAt (boardOf g v) (alertsAt k) ≡ tally 7 k g v
+    → wordAt (boardOf g v) (alertsAt k) ≡ tally alertOnEntry k g v
 alerts-tally g v k wf small l inside =
-    counter-tally 7 alertsAt (λ j m. nothing (alertsAt j) (omega arith)) alerts-kept alert-counted alerts-merged k inside g v wf small l
+    counter-tally alertOnEntry alertsAt (λ j m. nothing (alertsAt j) (omega arith)) alerts-kept alert-counted alerts-merged k inside g v wf small l

@@ -28,16 +28,16 @@ unfolding commonFields
 commonFields-length r c d zero = refl
 commonFields-length r c d (suc n) = rw (commonFields-length r c (suc d) n) (omega arith)
 
-pub commonTable-length : (r : Room) (c n : ℕ) → length (commonTable r c n) ≡ 32 * n
+pub commonTable-length : (r : Room) (c n : ℕ) → length (commonTable r c n) ≡ 2 * consoleCount * n
 unfolding commonTable
 commonTable-length r c zero = refl
 commonTable-length r c (suc n) =
-    rw (length-append, commonFields-length r c 0 16, commonTable-length r (suc c) n) (omega arith)
+    rw (length-append, commonFields-length r c 0 consoleCount, commonTable-length r (suc c) n) (omega arith)
 
 pub header-length : (r : Room) → length (header r) ≡ headerSize
 unfolding header
 header-length r =
-    simp (length-append, zeros-length, rowFrom-length (isEntry (r .versions)) 0 128, commonTable-length r 0 16)
+    simp (length-append, zeros-length, rowFrom-length (isEntry (r .versions)) 0 rowSize, commonTable-length r 0 consoleCount)
 
 pub nodeBytes-length : (g : Graph) (n : Option Node) → length (nodeBytes g n) ≡ nodeSize
 unfolding nodeBytes
@@ -48,7 +48,7 @@ nodeBytes-length g (some (Merge p q)) = refl
 pub block-length : (g : Graph) (v : ℕ) → length (block g v) ≡ blockSize
 unfolding block
 block-length g v =
-    simp (length-append, nodeBytes-length g (nodeOf g v), rowFrom-length (λ u. ancestor g u v) 0 128, boardOf-length g v)
+    simp (length-append, nodeBytes-length g (nodeOf g v), rowFrom-length (λ u. ancestor g u v) 0 rowSize, boardOf-length g v)
 
 pub blocks-length : (g : Graph) (n : ℕ) → length (blocks g n) ≡ blockSize * n
 unfolding blocks
@@ -68,23 +68,23 @@ stands-in-row {s} {at} r c d (suc n) (suc k) h l =
     (stands-in-row r c (suc d) n k (stands-right (word (commonField r c d)) (commonFields r c (suc d) n) h refl) (omega arith))
 
 stands-in-rows : {s : List ℕ} {at : ℕ} (r : Room) (c n k : ℕ) → Stands s at (commonTable r c n) → k < n
-    → Stands s (at + 32 * k) (commonFields r (c + k) 0 16)
+    → Stands s (at + 2 * consoleCount * k) (commonFields r (c + k) 0 consoleCount)
 unfolding commonTable
 stands-in-rows r c zero k h l = absurd (not-suc-le-zero l)
 stands-in-rows {s} {at} r c (suc n) zero h l =
-    subst₂ (λ (i j : ℕ). Stands s i (commonFields r j 0 16)) (omega arith) (omega arith)
-    (stands-left (commonFields r c 0 16) (commonTable r (suc c) n) h)
+    subst₂ (λ (i j : ℕ). Stands s i (commonFields r j 0 consoleCount)) (omega arith) (omega arith)
+    (stands-left (commonFields r c 0 consoleCount) (commonTable r (suc c) n) h)
 stands-in-rows {s} {at} r c (suc n) (suc k) h l =
-    subst₂ (λ (i j : ℕ). Stands s i (commonFields r j 0 16)) (omega arith) (omega arith)
-    (stands-in-rows {at = at + 32} r (suc c) n k
-    (stands-right (commonFields r c 0 16) (commonTable r (suc c) n) h (rw commonFields-length)) (omega arith))
+    subst₂ (λ (i j : ℕ). Stands s i (commonFields r j 0 consoleCount)) (omega arith) (omega arith)
+    (stands-in-rows {at = at + 2 * consoleCount} r (suc c) n k
+    (stands-right (commonFields r c 0 consoleCount) (commonTable r (suc c) n) h (rw commonFields-length)) (omega arith))
 
 -- a field of a table that stands anywhere
 pub table-field : {s : List ℕ} (r : Room) (at : ℕ) → Stands s at (commonTable r 0 consoleCount) → (c d : ℕ) → c < consoleCount → d < consoleCount
     → Stands s (at + 2 * (consoleCount * c + d)) (word (commonField r c d))
 table-field {s} r at h c d i j =
     subst₂ (λ (k e : ℕ). Stands s k (word (commonField r c e))) (omega arith) (zero-add d)
-    (stands-in-row r c 0 16 d (rw zero-add at (stands-in-rows r 0 16 c h i)) j)
+    (stands-in-row r c 0 consoleCount d (rw zero-add at (stands-in-rows r 0 consoleCount c h i)) j)
 
 stands-in-blocks : {s : List ℕ} {at : ℕ} (g : Graph) (n v : ℕ) → Stands s at (blocks g n) → v < n
     → Stands s (at + blockSize * v) (block g v)

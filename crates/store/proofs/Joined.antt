@@ -33,15 +33,15 @@ join-fields {s} {at} r c d (suc n) h =
     (λ k l. subst₂ (λ (i j : ℕ). Stands s i (word (commonField r c j))) (omega arith) (omega arith) (h (suc k) (omega arith))))
     refl
 
-join-table : {s : List ℕ} {at : ℕ} (r : Room) (c n : ℕ) → ((k : ℕ) → k < n → Stands s (at + 32 * k) (commonFields r (c + k) 0 16))
+join-table : {s : List ℕ} {at : ℕ} (r : Room) (c n : ℕ) → ((k : ℕ) → k < n → Stands s (at + 2 * consoleCount * k) (commonFields r (c + k) 0 consoleCount))
     → Stands s at (commonTable r c n)
 unfolding commonTable
 join-table r c zero h = nothing-stands
 join-table {s} {at} r c (suc n) h =
-    stands-join {to = at + 32} (commonFields r c 0 16) (commonTable r (suc c) n)
-    (subst₂ (λ (i j : ℕ). Stands s i (commonFields r j 0 16)) (omega arith) (omega arith) (h 0 (omega arith)))
+    stands-join {to = at + 2 * consoleCount} (commonFields r c 0 consoleCount) (commonTable r (suc c) n)
+    (subst₂ (λ (i j : ℕ). Stands s i (commonFields r j 0 consoleCount)) (omega arith) (omega arith) (h 0 (omega arith)))
     (join-table r (suc c) n
-    (λ k l. subst₂ (λ (i j : ℕ). Stands s i (commonFields r j 0 16)) (omega arith) (omega arith) (h (suc k) (omega arith))))
+    (λ k l. subst₂ (λ (i j : ℕ). Stands s i (commonFields r j 0 consoleCount)) (omega arith) (omega arith) (h (suc k) (omega arith))))
     (rw commonFields-length)
 
 join-blocks : {s : List ℕ} (g : Graph) (n : ℕ) → ((v : ℕ) → v < n → Stands s (blockAt v) (block g v)) → Stands s headerSize (blocks g n)
@@ -73,8 +73,8 @@ module _ {s : List ℕ} (r : Room) where
   pub join-commons : (at : ℕ) → ((c d : ℕ) → c < consoleCount → d < consoleCount → Stands s (at + 2 * (consoleCount * c + d)) (word (commonField r c d)))
       → Stands s at (commonTable r 0 consoleCount)
   join-commons at h =
-      join-table r 0 16
-      (λ c i. join-fields r (0 + c) 0 16
+      join-table r 0 consoleCount
+      (λ c i. join-fields r (0 + c) 0 consoleCount
       (λ d j. rw (zero-add c, zero-add d) (subst (λ (k : ℕ). Stands s k (word (commonField r c d))) (omega arith) (h c d i j))))
 
   join-header : Placed s r → Stands s 0 (header r)

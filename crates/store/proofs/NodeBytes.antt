@@ -15,7 +15,7 @@ use Rattle.graph.specs.declared.Node.{Node}
 use Rattle.graph.specs.Graph.{Graph, entry, merge, versionCount, baseOf}
 use Rattle.graph.proofs.Meet.{meetNumber-below}
 use Rattle.room.specs.Sound.{maxCapacity}
-use Rattle.store.specs.Layout.{nodeSize, blockAt, nodeCodeAt, nodeStripAt, nodeOperandAt, nodeParentAt, nodeGiverAt, nodeBaseAt, nodeBytes}
+use Rattle.store.specs.Layout.{nodeSize, blockAt, nodeCodeAt, nodeStripAt, nodeOperandAt, nodeParentAt, nodeGiverAt, nodeBaseAt, nodeBytes, mergeNodeCode}
 
 module _ (s : List ℕ) (v : ℕ) where
   -- the fields of the node
@@ -50,27 +50,27 @@ module _ (s : List ℕ) (v : ℕ) where
     zero-entry b h =
         let c = b (nodeCodeAt v) in
         let k = b (nodeStripAt v) in
-        stands-join (byte codeIn ∷ []) (byte stripIn ∷ word operandIn ++ word parentIn ++ zeros 26) (stands-one (omega arith))
-        (stands-join (byte stripIn ∷ []) (word operandIn ++ word parentIn ++ zeros 26) (stands-one (omega arith))
-        (stands-join (word operandIn) (word parentIn ++ zeros 26) (word-stands (nodeOperandAt v) b)
-        (stands-join (word parentIn) (zeros 26) (word-stands (nodeParentAt v) b) (zero-stands (nodeGiverAt v) 26 h)
+        stands-join (byte codeIn ∷ []) (byte stripIn ∷ word operandIn ++ word parentIn ++ zeros (nodeSize - 6)) (stands-one (omega arith))
+        (stands-join (byte stripIn ∷ []) (word operandIn ++ word parentIn ++ zeros (nodeSize - 6)) (stands-one (omega arith))
+        (stands-join (word operandIn) (word parentIn ++ zeros (nodeSize - 6)) (word-stands (nodeOperandAt v) b)
+        (stands-join (word parentIn) (zeros (nodeSize - 6)) (word-stands (nodeParentAt v) b) (zero-stands (nodeGiverAt v) (nodeSize - 6) h)
         (omega arith)) (omega arith)) (omega arith)) refl
 
     pub entry-zero : Stands s (blockAt v) (nodeBytes g (some entryIn)) → allZero (part s (nodeGiverAt v) (nodeSize - 6)) ≡ true
     unfolding nodeBytes
     entry-zero h =
-        stands-zero (nodeGiverAt v) 26 (stands-right (byte codeIn ∷ byte stripIn ∷ word operandIn ++ word parentIn) (zeros 26) h refl)
+        stands-zero (nodeGiverAt v) (nodeSize - 6) (stands-right (byte codeIn ∷ byte stripIn ∷ word operandIn ++ word parentIn) (zeros (nodeSize - 6)) h refl)
 
-    pub zero-merge : Bytes s → codeIn ≡ 9 → baseIn ≡ baseOf g parentIn giverIn → allZero (part s (nodeStripAt v) 3) ≡ true
+    pub zero-merge : Bytes s → codeIn ≡ mergeNodeCode → baseIn ≡ baseOf g parentIn giverIn → allZero (part s (nodeStripAt v) 3) ≡ true
         → allZero (part s (nodeBaseAt v + 2) (nodeSize - 10)) ≡ true → Stands s (blockAt v) (nodeBytes g (some mergeIn))
     unfolding nodeBytes
     zero-merge b nine base h k =
         rw (← base)
-        (stands-join (9 ∷ []) (zeros 3 ++ word parentIn ++ word giverIn ++ word baseIn ++ zeros 22) (stands-one nine)
-        (stands-join (zeros 3) (word parentIn ++ word giverIn ++ word baseIn ++ zeros 22) (zero-stands (nodeStripAt v) 3 h)
-        (stands-join (word parentIn) (word giverIn ++ word baseIn ++ zeros 22) (word-stands (nodeParentAt v) b)
-        (stands-join (word giverIn) (word baseIn ++ zeros 22) (word-stands (nodeGiverAt v) b)
-        (stands-join (word baseIn) (zeros 22) (word-stands (nodeBaseAt v) b) (zero-stands (nodeBaseAt v + 2) 22 k)
+        (stands-join (mergeNodeCode ∷ []) (zeros 3 ++ word parentIn ++ word giverIn ++ word baseIn ++ zeros (nodeSize - 10)) (stands-one nine)
+        (stands-join (zeros 3) (word parentIn ++ word giverIn ++ word baseIn ++ zeros (nodeSize - 10)) (zero-stands (nodeStripAt v) 3 h)
+        (stands-join (word parentIn) (word giverIn ++ word baseIn ++ zeros (nodeSize - 10)) (word-stands (nodeParentAt v) b)
+        (stands-join (word giverIn) (word baseIn ++ zeros (nodeSize - 10)) (word-stands (nodeGiverAt v) b)
+        (stands-join (word baseIn) (zeros (nodeSize - 10)) (word-stands (nodeBaseAt v) b) (zero-stands (nodeBaseAt v + 2) (nodeSize - 10) k)
         (omega arith)) (omega arith)) (omega arith)) (omega arith)) refl)
 
     module _ (h : Stands s (blockAt v) (nodeBytes g (some mergeIn))) where
@@ -81,11 +81,11 @@ module _ (s : List ℕ) (v : ℕ) where
       unfolding nodeBytes
       merge-zero =
           stands-zero (nodeStripAt v) 3
-          (stands-left (zeros 3) (fields ++ zeros 22) (stands-right (9 ∷ []) (zeros 3 ++ (fields ++ zeros 22)) h refl))
+          (stands-left (zeros 3) (fields ++ zeros (nodeSize - 10)) (stands-right (mergeNodeCode ∷ []) (zeros 3 ++ (fields ++ zeros (nodeSize - 10))) h refl))
 
       pub merge-rest : allZero (part s (nodeBaseAt v + 2) (nodeSize - 10)) ≡ true
       unfolding nodeBytes
-      merge-rest = stands-zero (nodeBaseAt v + 2) 22 (stands-right (9 ∷ zeros 3 ++ fields) (zeros 22) h (omega arith))
+      merge-rest = stands-zero (nodeBaseAt v + 2) (nodeSize - 10) (stands-right (mergeNodeCode ∷ zeros 3 ++ fields) (zeros (nodeSize - 10)) h (omega arith))
 
       pub merge-base-read : versionCount g ≤ maxCapacity → baseIn ≡ baseOf g parentIn giverIn
       unfolding nodeBytes

@@ -22,9 +22,9 @@ use Rattle.graph.proofs.Ancestor.{nodeOf-new, nodeOf-old}
 use Rattle.graph.proofs.Meet.{meetNumber-below, meetNumber-self}
 use Rattle.command.specs.Code.{consoleCount}
 use Rattle.room.specs.Room.{Room, headOf, present, head, common}
-use Rattle.room.specs.Sound.{entryInRange}
+use Rattle.room.specs.Sound.{entryInRange, maxCapacity}
 use Rattle.room.proofs.Sound.{Sound, settings-fit, versions-small}
-use Rattle.store.specs.Layout.{fieldWhere, blockAt, commonAt, headAt, countAt, commonField, nodeBytes, encode, nodeIn, versionsIn, headFrom, headsIn, settingsIn}
+use Rattle.store.specs.Layout.{fieldWhere, blockAt, commonAt, headAt, countAt, commonField, nodeBytes, encode, nodeIn, versionsIn, headFrom, headsIn, settingsIn, mergeNodeCode}
 use Rattle.store.proofs.Blocks.{stands-common, stands-node, stands-settings, stands-count}
 use Rattle.command.proofs.Limits.{operand-below}
 use Rattle.store.proofs.SettingsBytes.{settings-back}
@@ -32,7 +32,7 @@ use Rattle.store.proofs.SettingsBytes.{settings-back}
 -- a version in range reads back from its node; the graph g that its base is taken from does not matter
 node-read : (s : List ℕ) (v : ℕ) (g before : Graph) (n : Node)
     → Stands s (blockAt v) (nodeBytes g (some n))
-    → length before < 1024 → parentsLower before n ≡ true → entryInRange before n ≡ true
+    → length before < maxCapacity → parentsLower before n ≡ true → entryInRange before n ≡ true
     → nodeIn s v ≡ n
 unfolding nodeBytes nodeIn
 node-read s v g before (Entry p code strip operand) h l i j =
@@ -45,12 +45,12 @@ node-read s v g before (Entry p code strip operand) h l i j =
     let second : getD s (blockAt v + 1) 0 ≡ strip .0 = h .read 1 (omega arith) ∙ omega arith in
     let third = stands-field h 2 operand (omega arith) refl refl (omega arith) in
     let fourth = stands-field h 4 (p .0) (omega arith) refl refl (omega arith) in
-    let other : eqb code 9 ≡ false = ne-eqb code 9 (omega arith) in
+    let other : eqb code mergeNodeCode ≡ false = ne-eqb code mergeNodeCode (omega arith) in
     rw (first, other, fourth, second, third)
 node-read s v g before (Merge p q) h l i j =
     let a = parent-lower before i receiver in
     let b = parent-lower before i giver in
-    let first : getD s (blockAt v) 0 ≡ 9 = stands-first h in
+    let first : getD s (blockAt v) 0 ≡ mergeNodeCode = stands-first h in
     let third = stands-field h 4 (p .0) (omega arith) refl refl (omega arith) in
     let fourth = stands-field h 6 (q .0) (omega arith) refl refl (omega arith) in
     rw (first, third, fourth)
@@ -58,7 +58,7 @@ node-read s v g before (Merge p q) h l i j =
 -- the versions of h read back where their nodes stand, whatever graph g the bases are taken from
 nodes-read : (s : List ℕ) (g h : Graph)
     → ((v : ℕ) → v ≤ length h → Stands s (blockAt v) (nodeBytes g (nodeOf h v)))
-    → length h < 1024 → everyVersion parentsLower h ≡ true → everyVersion entryInRange h ≡ true
+    → length h < maxCapacity → everyVersion parentsLower h ≡ true → everyVersion entryInRange h ≡ true
     → versionsIn s (length h) ≡ h
 unfolding versionsIn everyVersion
 nodes-read s g [] at l p e = refl

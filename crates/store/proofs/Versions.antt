@@ -22,7 +22,7 @@ use Rattle.graph.proofs.Meet.{Meet, meet-found, meet-number}
 use Rattle.graph.proofs.Growth.{merge-base}
 use Rattle.room.specs.Sound.{maxCapacity}
 use Rattle.room.specs.Boards.{boardMade, boardOf}
-use Rattle.store.specs.Layout.{nodeSize, rowSize, blockAt, boardAt, nodeBytes, nodeIn, versionsIn}
+use Rattle.store.specs.Layout.{nodeSize, rowSize, blockAt, boardAt, nodeBytes, nodeIn, versionsIn, mergeNodeCode}
 use Rattle.store.specs.Rules.{nodeInRange}
 use Rattle.store.specs.Check.{rowPart, boardPart, entriesPart, rootRight, entryParts, mergeParts, nodeParts, versionRight, versionsRight}
 use Rattle.store.proofs.Lineage.{root-lineage, entry-lineage, merge-lineage}
@@ -97,7 +97,7 @@ module _ (s : List ℕ) (g : Graph) (small : versionCount g < maxCapacity) (h : 
       (same-of _ _ (k .told .board ∙ sym (entry-board a))))
       (k .told .listed))
 
-  merge-next : Bytes s → codeIn s v ≡ 9 → mergeTest ≡ true → Next s g (mergeIn s v)
+  merge-next : Bytes s → codeIn s v ≡ mergeNodeCode → mergeTest ≡ true → Next s g (mergeIn s v)
   unfolding mergeParts
   merge-next b nine t =
       let first = ltb-true p v (search (and-l, and-r) depth 12) in
@@ -142,16 +142,16 @@ module _ (s : List ℕ) (g : Graph) (small : versionCount g < maxCapacity) (h : 
 
   version-next : Bytes s → versionRight s v ≡ true → Next s g (nodeIn s v)
   unfolding versionRight nodeIn
-  version-next b t = go (eqb (codeIn s v) 9) refl t
+  version-next b t = go (eqb (codeIn s v) mergeNodeCode) refl t
     where
-      go : (n : Bool) → eqb (codeIn s v) 9 ≡ n → nodeInRange v (cond n (mergeIn s v) (entryIn s v)) && nodeParts s v (cond n (mergeIn s v) (entryIn s v)) ≡ true
+      go : (n : Bool) → eqb (codeIn s v) mergeNodeCode ≡ n → nodeInRange v (cond n (mergeIn s v) (entryIn s v)) && nodeParts s v (cond n (mergeIn s v) (entryIn s v)) ≡ true
           → Next s g (cond n (mergeIn s v) (entryIn s v))
-      go true e k = merge-next b (eqb-true (codeIn s v) 9 e) k
+      go true e k = merge-next b (eqb-true (codeIn s v) mergeNodeCode e) k
       go false e k = entry-next b k
 
   next-version : Next s g (nodeIn s v) → versionRight s v ≡ true
   unfolding versionRight nodeIn
-  next-version = go (eqb (codeIn s v) 9)
+  next-version = go (eqb (codeIn s v) mergeNodeCode)
     where
       go : (n : Bool) → Next s g (cond n (mergeIn s v) (entryIn s v))
           → nodeInRange v (cond n (mergeIn s v) (entryIn s v)) && nodeParts s v (cond n (mergeIn s v) (entryIn s v)) ≡ true

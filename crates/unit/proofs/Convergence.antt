@@ -12,7 +12,7 @@ use lib.ListN.{length, length-map}
 use Rattle.laws.proofs.Logic.{and-l, and-r, and-both}
 use Rattle.buffer.specs.Field.{wordAt}
 use Rattle.buffer.proofs.Fields.{wordAt-left}
-use Rattle.board.specs.Board.{stripCount, boardSize, callsAt}
+use Rattle.board.specs.Board.{stripCount, boardSize, callsAt, callEntry}
 use Rattle.graph.specs.Below.{countBelow}
 use Rattle.graph.specs.Graph.{versionCount, ancestor, isEntry}
 use Rattle.graph.proofs.Below.{count-ext}
@@ -50,7 +50,7 @@ call-heard k none b = refl
 call-heard k (some (entered p code strip)) b = refl
 call-heard k (some (merged p q)) b = refl
 
-calls-count : (r : Room) (c k : ℕ) → callsHeard (journalOf r) c k ≡ tally 6 k (r .versions) (head r c)
+calls-count : (r : Room) (c k : ℕ) → callsHeard (journalOf r) c k ≡ tally callEntry k (r .versions) (head r c)
 unfolding held
 calls-count r c k =
     let g = r .versions in

@@ -41,7 +41,7 @@ node-entered (some (Merge p q)) = refl
 eqb-sym : (a b : ℕ) → eqb a b ≡ eqb b a
 eqb-sym a b = bool-ext _ _ (λ t. eq-eqb b a (sym (eqb-true a b t))) (λ t. eq-eqb a b (sym (eqb-true b a t)))
 
-node-call : (k : ℕ) (o : Option Node) → callOf k (Option·map madeBy o) ≡ entryIs 6 k o
+node-call : (k : ℕ) (o : Option Node) → callOf k (Option·map madeBy o) ≡ entryIs callEntry k o
 node-call k none = refl
 node-call k (some (Entry p code strip operand)) = ap (λ (b : Bool). eqb code callEntry && b) (eqb-sym (strip .0) k)
 node-call k (some (Merge p q)) = refl
@@ -49,5 +49,5 @@ node-call k (some (Merge p q)) = refl
 pub entered-entry : (g : Graph) (e : ℕ) → wasEntered (madeAs (map madeBy g) e) ≡ isEntry g e
 entered-entry g e = rw made-node (node-entered (nodeOf g e))
 
-pub call-entry : (g : Graph) (k e : ℕ) → callOf k (madeAs (map madeBy g) e) ≡ entryIs 6 k (nodeOf g e)
+pub call-entry : (g : Graph) (k e : ℕ) → callOf k (madeAs (map madeBy g) e) ≡ entryIs callEntry k (nodeOf g e)
 call-entry g k e = rw made-node (node-call k (nodeOf g e))

@@ -15,7 +15,7 @@ use Rattle.board.specs.Board.{boardSize, enter, mergeBoard}
 use Rattle.board.proofs.Length.{enter-length, mergeBoard-length}
 use Rattle.graph.specs.declared.Node.{Node}
 use Rattle.graph.specs.declared.Node.the-variants.{Entry, Merge}
-use Rattle.store.specs.Layout.{nodeSize, rowSize, blockSize, entriesAt, blockAt, rowAt, boardAt, entryNodeBytes, mergeNodeBytes}
+use Rattle.store.specs.Layout.{nodeSize, rowSize, blockSize, entriesAt, blockAt, rowAt, boardAt, entryNodeBytes, mergeNodeBytes, mergeNodeCode}
 use Rattle.store.specs.Check.{rowPart, boardPart, entriesPart}
 use Rattle.update.specs.Append.{entryBlock, mergeBlock, withEntry, withMerge, nodeWith}
 
@@ -25,7 +25,7 @@ pub entry-node-made : (node z a b c d : List ℕ) (p code strip operand : ℕ) �
 entry-node-made node z a b c d p code strip operand l ez ea eb ec ed = rw (ed, ec, eb, ea, ez, l)
 
 pub merge-node-made : (node z a b c d : List ℕ) (p q l : ℕ) → length node ≡ nodeSize → z ≡ zeros (length node)
-    → a ≡ set z 0 (byte 9) → b ≡ putWord a 4 p → c ≡ putWord b 6 q → d ≡ putWord c 8 l → d ≡ mergeNodeBytes p q l
+    → a ≡ set z 0 (byte mergeNodeCode) → b ≡ putWord a 4 p → c ≡ putWord b 6 q → d ≡ putWord c 8 l → d ≡ mergeNodeBytes p q l
 merge-node-made node z a b c d p q l long ez ea eb ec ed = rw (ed, ec, eb, ea, ez, long)
 
 pub node-long : (node : Node) (l : ℕ) → length (nodeWith node l) ≡ nodeSize

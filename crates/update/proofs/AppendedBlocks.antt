@@ -27,7 +27,7 @@ use Rattle.graph.proofs.Meet.{meetNumber-below}
 use Rattle.room.specs.Sound.{maxCapacity}
 use Rattle.room.specs.Boards.{boardMade, boardOf}
 use Rattle.room.proofs.Lengths.{boardOf-length}
-use Rattle.store.specs.Layout.{headerSize, rowSize, entriesAt, blockAt, nodeBytes, block}
+use Rattle.store.specs.Layout.{headerSize, rowSize, entriesAt, blockAt, nodeBytes, block, blockSize}
 use Rattle.store.specs.Check.{rowPart, boardPart, entriesPart}
 use Rattle.store.proofs.Blocks.{block-length, block-row, block-board}
 use Rattle.store.proofs.Lineage.{lineage, entry-lineage, merge-lineage}
@@ -167,7 +167,7 @@ module _ (s : List ℕ) (g : Graph) (h : Standing s g) (lower : everyVersion par
     unfolding withMerge
     merge-grew =
         let new : List ℕ = mergeBlock s n p q l in
-        let size : length new ≡ 544 = mergeBlock-length s n fits p q l first second third in
+        let size : length new ≡ blockSize = mergeBlock-length s n fits p q l first second third in
         let kept : (k : ℕ) → (blockAt n ≤ k → k < blockAt (suc n) → ⊥) → getD (withPart s (blockAt n) new) k 0 ≡ getD s k 0 =
         λ k a. with-outside s new (blockAt n) (omega arith) k (λ x y. a x (omega arith)) in
         let same = row-ext (isEntry g) (isEntry (merge p q ∷ g)) rowSize (merge-unlisted g p q) in

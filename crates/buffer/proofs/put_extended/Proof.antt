@@ -2,7 +2,7 @@
 -- Assumes nothing.
 use mathlib.Core.Path.{refl, _∙_}
 use native.Mathlib.Omega.{arith}
-use Rattle.buffer.specs.Row.{withMember}
+use Rattle.buffer.specs.Row.{withMember, rowWidth}
 use Rattle.buffer.proofs.Rows.{withMember-length}
 use Rattle.buffer.proofs.Patches.{changed-lent}
 use Rattle.buffer.proofs.put_extended.Statement.{statement}
@@ -12,7 +12,7 @@ returns : tie.Need-returns
 returns c =
     let copied = c .before .before .before .before .before .before in
     let a = copied .before .before .before .args in
-    changed-lent (a .s .now) _ _ (λ x. withMember x (a .v)) (a .from) (a .from) (a .to) (a .to) 128 refl refl (omega arith) (omega arith)
+    changed-lent (a .s .now) _ _ (λ x. withMember x (a .v)) (a .from) (a .from) (a .to) (a .to) rowWidth refl refl (omega arith) (omega arith)
     (λ x e. withMember-length x (a .v) ∙ e) (copied .copy-within .ensures) (c .before .before .add-member .ensures)
 
 pub put-extended-spec : {M : Type 1} → statement M

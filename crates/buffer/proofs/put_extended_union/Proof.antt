@@ -4,7 +4,7 @@ use mathlib.Core.Path.{refl, sym, _∙_}
 use native.Mathlib.Omega.{arith}
 use lib.Bits.{bitOr}
 use Rattle.buffer.specs.Field.{part}
-use Rattle.buffer.specs.Row.{withMember, union}
+use Rattle.buffer.specs.Row.{withMember, union, rowWidth}
 use Rattle.buffer.proofs.Bytewise.{bytewise-length}
 use Rattle.buffer.proofs.Fields.{part-length}
 use Rattle.buffer.proofs.Rows.{withMember-length}
@@ -19,9 +19,9 @@ returns c =
     let kept = copied .before .before .before in
     let a = kept .before .before .before .before .before .args in
     let s = a .s .now in
-    let other = part s (a .q) 128 in
-    let long = part-length s (a .q) 128 (omega arith) in
-    changed-lent s _ _ (λ x. withMember (union x other) (a .v)) (a .p) (a .p) (a .to) (a .to) 128 refl refl (omega arith) (omega arith)
+    let other = part s (a .q) rowWidth in
+    let long = part-length s (a .q) rowWidth (omega arith) in
+    changed-lent s _ _ (λ x. withMember (union x other) (a .v)) (a .p) (a .p) (a .to) (a .to) rowWidth refl refl (omega arith) (omega arith)
     (λ x l. withMember-length (union x other) (a .v) ∙ bytewise-length bitOr x other (l ∙ sym long) ∙ l)
     (copied .copy-within .ensures) (rw (kept .copy .ensures, kept .before .part-of .ensures .0) at (added .add-extended .ensures))
 

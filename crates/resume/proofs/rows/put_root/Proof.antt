@@ -7,6 +7,7 @@ use Rattle.buffer.specs.Row.{withMember}
 use Rattle.buffer.proofs.Fields.{zeros-length}
 use Rattle.buffer.proofs.Rows.{withMember-length}
 use Rattle.buffer.proofs.Patches.{put-lent}
+use Rattle.store.specs.Layout.{rowSize}
 use Rattle.resume.proofs.rows.put_root.Statement.{statement}
 use Rattle.resume.proofs.rows.put_root.Tie as tie
 
@@ -14,7 +15,7 @@ returns : tie.Need-returns
 returns c =
     let root = c .before .before .make-root in
     let s = c .before .before .before .before .before .args .rows .now in
-    put-lent s _ (withMember (zeros 128) 0) 0 0 128 refl (root .ensures) (withMember-length (zeros 128) 0 ∙ zeros-length 128)
+    put-lent s _ (withMember (zeros rowSize) 0) 0 0 rowSize refl (root .ensures) (withMember-length (zeros rowSize) 0 ∙ zeros-length rowSize)
 
 pub put-root-spec : {M : Type 1} → statement M
 put-root-spec =
