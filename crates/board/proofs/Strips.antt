@@ -21,9 +21,9 @@ flag-rule true false l a b = or-false (ltb l a)
 flag-rule false true l a b = refl
 flag-rule false false l a b = refl
 
-pub byte-bit : (b : Bool) → boolByte b ≡ bit b
-byte-bit true = refl
-byte-bit false = refl
+pub bool-bit : (b : Bool) → boolByte b ≡ bit b
+bool-bit true = refl
+bool-bit false = refl
 
 -- the 12 bytes, whatever stood there before
 cells-written : (s : List ℕ) (u v w x y z : ℕ) → length s ≡ stripSize

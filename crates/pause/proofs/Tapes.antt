@@ -30,10 +30,10 @@ module _ (s : List ℕ) (n : ℕ) (count : n ≡ length (roomIn s .versions)) wh
   pub tape-size : length start + length (versionPieces s n) + length (headPieces (roomIn s) consoleCount) + length (recordBytes End) ≡ length (tapeOf (roomIn s))
   tape-size = sym (ap length own-pieces ∙ simp length-append)
 
-  pub tape-written : (old : List ℕ) {t₁ t₂ t₃ t₄ : List ℕ} {at to end last : ℕ} → length (tapeOf (roomIn s)) ≤ length old
+  pub records-written : (old : List ℕ) {t₁ t₂ t₃ t₄ : List ℕ} {at to end last : ℕ} → length (tapeOf (roomIn s)) ≤ length old
       → Put old 0 start t₁ at → Put t₁ at (versionPieces s n) t₂ to → Put t₂ to (headPieces (roomIn s) consoleCount) t₃ end → Put t₃ end (recordBytes End) t₄ last
       → t₄ ≡ overwrite (tapeOf (roomIn s)) old
-  tape-written old fits one two three four =
+  records-written old fits one two three four =
       let size = tape-size in
       let g₁ = laid-one start (omega arith) one in
       let g₂ = laid-more (versionPieces s n) g₁ (omega arith) two in

@@ -34,7 +34,7 @@ module _ {A : Type 0} (xs : List A) (place : ℕ → ℕ) where
       let e : k ≡ length xs = omega arith in
       (subst Built (ap (λ (m : ℕ). drop (length xs - m) xs) e ∙ all-first xs) (a .built), a .placed ∙ ap place e)
 
-  pub along-more : {Old New : List A → Type 0} {k at next : ℕ} {x : A} → Along xs place Old k at → k < length xs
+  along-more : {Old New : List A → Type 0} {k at next : ℕ} {x : A} → Along xs place Old k at → k < length xs
       → drop (length xs - suc k) xs ≡ x ∷ drop (length xs - k) xs → next ≡ place (suc k) → New (x ∷ drop (length xs - k) xs) → Along xs place New (k + 1) next
   along-more {New = New} {k = k} a l first e b =
       record {

@@ -25,8 +25,8 @@ pub record NoneAbove (p q : List ℕ) (k : ℕ) : Type 0 where
   pub within : k ≤ rowSize
   pub none : (v : ℕ) → 8 * k ≤ v → v < maxCapacity → member p v && member q v ≡ false
 
-pub apart-start : (p q : List ℕ) → NoneAbove p q rowSize
-apart-start p q = record { within = omega arith; none = λ v a b. absurd (omega arith) }
+pub above-start : (p q : List ℕ) → NoneAbove p q rowSize
+above-start p q = record { within = omega arith; none = λ v a b. absurd (omega arith) }
 
 -- the byte of v, and the bit in it
 shared-at : (p q : List ℕ) (k v : ℕ) → v / 8 ≡ k → member p v && member q v ≡ eqb (bitAnd (getD p k 0) (getD q k 0) / 2 ^ (v % 8) % 2) 1
@@ -37,8 +37,8 @@ module _ {p q : List ℕ} {k : ℕ} (a : NoneAbove p q k) (some-left : 0 < k) wh
   x = bitAnd (getD p (k - 1) 0) (getD q (k - 1) 0)
 
   -- the last byte has no member of both
-  pub apart-more : x ≡ 0 → NoneAbove p q (k - 1)
-  apart-more e =
+  pub above-more : x ≡ 0 → NoneAbove p q (k - 1)
+  above-more e =
       record {
         within = omega (arith, a .within);
         none = λ v l m.
@@ -52,8 +52,8 @@ module _ {p q : List ℕ} {k : ℕ} (a : NoneAbove p q k) (some-left : 0 < k) wh
       }
 
   -- or the highest bit of it is the highest of all
-  pub apart-found : (j : ℕ) → j < 8 → x / 2 ^ j ≡ 1 → (8 * (k - 1) + j ≡ highestCommon p q) × (8 * (k - 1) + j < maxCapacity)
-  apart-found j l e =
+  pub above-found : (j : ℕ) → j < 8 → x / 2 ^ j ≡ 1 → (8 * (k - 1) + j ≡ highestCommon p q) × (8 * (k - 1) + j < maxCapacity)
+  above-found j l e =
       let w = a .within in
       let bit : (8 * (k - 1) + j) % 8 ≡ j = omega arith in
       let here : member p (8 * (k - 1) + j) && member q (8 * (k - 1) + j) ≡ true =
@@ -69,8 +69,8 @@ module _ {p q : List ℕ} {k : ℕ} (a : NoneAbove p q k) (some-left : 0 < k) wh
       )
 
 -- no member at all
-pub apart-all : (p q : List ℕ) → NoneAbove p q 0 → 0 ≡ highestCommon p q
-apart-all p q a = go (highestBelow maxCapacity (λ v. member p v && member q v)) refl
+pub above-all : (p q : List ℕ) → NoneAbove p q 0 → 0 ≡ highestCommon p q
+above-all p q a = go (highestBelow maxCapacity (λ v. member p v && member q v)) refl
   where
     go : (o : Option ℕ) → highestBelow maxCapacity (λ v. member p v && member q v) ≡ o → 0 ≡ Option·getD o 0
     go none e = refl

@@ -32,7 +32,7 @@ highest-ext zero f g h = refl
 highest-ext (suc n) f g h = cc (highest-ext n f g (λ k l. h k (omega arith)), h n (omega arith))
 
 -- the meet of two versions is the highest of their common ancestors
-pub meet-highest : {g : Graph} {u v m : ℕ} → Meet g u v m → (n : ℕ) → versionCount g ≤ n → highestBelow n (commonAncestor g u v) ≡ some m
+meet-highest : {g : Graph} {u v m : ℕ} → Meet g u v m → (n : ℕ) → versionCount g ≤ n → highestBelow n (commonAncestor g u v) ≡ some m
 meet-highest {g} {u} {v} {m} h n l =
     highest-of n (commonAncestor g u v) m (omega (arith, ancestor-below g m u (h .first)))
     (and-i (ancestor g m u) (ancestor g m v) (h .first) (h .second))
@@ -61,8 +61,8 @@ module _ (g : Graph) (small : versionCount g ≤ maxCapacity) (u v : ℕ) where
   highest-meet h = ap (λ (o : Option ℕ). Option·getD o 0) (rows-common ∙ meet-highest h maxCapacity small)
 
   -- the meet, by the rows
-  pub meet-rows : meet g u v ≡ headFrom (fieldWhen (same (lineage g highest) (intersection (lineage g u) (lineage g v))) highest)
-  meet-rows =
+  meet-by-rows : meet g u v ≡ headFrom (fieldWhen (same (lineage g highest) (intersection (lineage g u) (lineage g v))) highest)
+  meet-by-rows =
       elim (decide (same (lineage g highest) (intersection (lineage g u) (lineage g v)))) [
         | inl t ↦ rw t (meet-found (lineage-meet g u v highest small highest-named (same-true _ _ t)))
         | inr t ↦ rw t (go (meet g u v) refl t)
@@ -79,7 +79,7 @@ pub meet-shown : {t : List ℕ} {g : Graph} → RowsOf t g → versionCount g �
     → headFrom (meetField t u v) ≡ meet g u v
 unfolding meetField
 meet-shown {t} {g} r small u v a b =
-    rw (r .shown u a, r .shown v b, r .shown (highest g small u v) (highest-named g small u v)) (sym (meet-rows g small u v))
+    rw (r .shown u a, r .shown v b, r .shown (highest g small u v) (highest-named g small u v)) (sym (meet-by-rows g small u v))
 
 pub base-shown : {t : List ℕ} {g : Graph} → RowsOf t g → versionCount g ≤ maxCapacity → (p q : ℕ) → p < versionCount g → q < versionCount g
     → servesAsBase p q (headFrom (meetField t p q)) ≡ mergeHasBase g (merge p q)

@@ -62,7 +62,7 @@ module _ (tape : List ℕ) (t : Content) (bytes : Bytes tape) (says : contentOf 
   abbrev before : Graph
   before = firstVersions k (t .versions)
 
-  pub next-lower : parentsLower (firstVersions k (t .versions)) x ≡ true
+  next-lower : parentsLower (firstVersions k (t .versions)) x ≡ true
   next-lower = every-new parentsLower x before (version-holds tape t bytes says a l read parentsLower (and-l (everyVersion parentsLower (t .versions)) _ range))
 
   pub next-ranged : nodeInRange (k + 1) x ≡ true

@@ -31,8 +31,8 @@ pub record Facts (t : Content) : Type 0 where
   pub rise : consolesRise (t .heads) ≡ true
   pub named : headsNamed (t .versions) (t .heads) ≡ true
 
-pub in-range : (t : Content) → settingsInRange (t .settings) ≡ true → inRange t ≡ true → Facts t
-in-range t cap h =
+pub range-facts : (t : Content) → settingsInRange (t .settings) ≡ true → inRange t ≡ true → Facts t
+range-facts t cap h =
     let count = leb-true (versionCount (t .versions)) (t .settings .capacity) (search (and-l, and-r) depth 8) in
     record {
       small = omega (arith, capacity-range (t .settings) cap);
@@ -76,14 +76,14 @@ rest-passes true true true = refl
 module _ (t : Content) (cap : settingsInRange (t .settings) ≡ true) (range : inRange t ≡ true) where
   heads-name : headsNameVersions (roomOf t) ≡ true
   heads-name =
-      let k = in-range t cap range in
+      let k = range-facts t cap range in
       let d = heads-diagonal t (k .rise) (k .named) in
       of consoleCount (λ c. namesVersion (t .versions) (headOf (roomOf t) c)) (λ c l. named-field (t .versions) (headOf (roomOf t) c) (d .named c l))
 
-  pub room-judged : soundRoom (roomOf t) ≡ (everyVersion mergeHasBase (t .versions) && headsMeet (roomOf t) && allBehindHeads (roomOf t))
+  room-judged : soundRoom (roomOf t) ≡ (everyVersion mergeHasBase (t .versions) && headsMeet (roomOf t) && allBehindHeads (roomOf t))
   unfolding soundRoom
   room-judged =
-      let k = in-range t cap range in
+      let k = range-facts t cap range in
       let sixteen = eq-eqb (length (headSlots (t .heads))) consoleCount (length-slots (t .heads)) in
       let fits : leb (versionCount (t .versions)) (t .settings .capacity) ≡ true = search (and-l, and-r) depth 8 in
       rw (k .lower, sixteen, heads-name, first-present (t .heads) (k .rise), cap, fits, k .ranged)

@@ -47,7 +47,7 @@ module _ (t : Content) (sound : soundRoom (roomOf t) ≡ true) (old : List ℕ) 
   fresh-length : length (encode (freshRoom (t .settings))) ≡ storeSize (t .settings .capacity)
   fresh-length = encode-length (freshRoom (t .settings)) (fresh-sound (t .settings) (sound-facts r sound .settings))
 
-  pub opened-long : length s ≡ length old
+  opened-long : length s ≡ length old
   opened-long = let long = fresh-length in let f = fits in rw opened (simp (length-append, length-drop) (omega arith))
 
   opened-behind : (k : ℕ) → storeSize (t .settings .capacity) ≤ k → getD s k 0 ≡ getD old k 0

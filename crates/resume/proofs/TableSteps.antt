@@ -44,7 +44,7 @@ module _ (rows t : List ℕ) where
   pairs-length c zero = refl
   pairs-length c (suc d) = common-length (withPairs rows t c d) c d _ ∙ pairs-length c d
 
-  pub pairs-own : (c d k : ℕ) → d ≤ c → c < consoleCount → k < consoleCount → commonIn (withPairs rows t c d) k k ≡ commonIn t k k
+  pairs-own : (c d k : ℕ) → d ≤ c → c < consoleCount → k < consoleCount → commonIn (withPairs rows t c d) k k ≡ commonIn t k k
   unfolding withPairs
   pairs-own c zero k dc cn kn = refl
   pairs-own c (suc d) k dc cn kn = pair-own (withPairs rows t c d) c d _ k dc cn kn ∙ pairs-own c d k (omega arith) cn kn

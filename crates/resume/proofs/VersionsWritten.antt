@@ -123,11 +123,11 @@ built-more b w =
     }
 
 -- the versions read so far have been written into s, which is a fresh store
-pub written-none : (t : Content) {s : List ℕ} {at : ℕ} → at ≡ startLength → Standing s [] → Versions t (Built s s) 0 at
-written-none t {s} e h = versions-none t e (Built s s) (record { long = refl; standing = h; kept = λ k outside apart. refl })
+pub versions-written-none : (t : Content) {s : List ℕ} {at : ℕ} → at ≡ startLength → Standing s [] → Versions t (Built s s) 0 at
+versions-written-none t {s} e h = versions-none t e (Built s s) (record { long = refl; standing = h; kept = λ k outside apart. refl })
 
-pub written-all : (t : Content) {s now : List ℕ} {k at : ℕ} → Versions t (Built s now) k at → length (t .versions) ≤ k → Built s now (t .versions)
-written-all t a l = along-all _ _ a l .0
+pub versions-written-all : (t : Content) {s now : List ℕ} {k at : ℕ} → Versions t (Built s now) k at → length (t .versions) ≤ k → Built s now (t .versions)
+versions-written-all t a l = along-all _ _ a l .0
 
 module _ (tape : List ℕ) (t : Content) (bytes : Bytes tape) (says : contentOf tape ≡ some t) {rows s : List ℕ} (ready : Ready rows (t .versions))
     {k at : ℕ} {now : List ℕ} (a : Versions t (Built s now) k at) (l : k < length (t .versions)) where
@@ -145,9 +145,9 @@ module _ (tape : List ℕ) (t : Content) (bytes : Bytes tape) (says : contentOf 
     pub next-fits : blockAt (suc (k + 1)) ≤ length now
     next-fits = omega (arith, a .built .long)
 
-    pub written-more : {x : Node} (read : x ≡ nodeOn (recordIn (drop at tape))) {next : ℕ} {after : List ℕ} → after ≡ appended now (k + 1) x (baseIn rows x)
+    pub versions-written-more : {x : Node} (read : x ≡ nodeOn (recordIn (drop at tape))) {next : ℕ} {after : List ℕ} → after ≡ appended now (k + 1) x (baseIn rows x)
         → next ≡ placeAfter tape at → Versions t (Built s after) (k + 1) next
-    written-more {x} read {after = after} made moved =
+    versions-written-more {x} read {after = after} made moved =
         let grown : Grew now after (firstVersions k (t .versions)) x =
         rw (made, number) (grew now x (next-ready read) (a .built .standing) (omega (arith, next-fits, number))) in
         version-more tape t bytes says a l read (Built s after) moved (built-more (a .built) grown)

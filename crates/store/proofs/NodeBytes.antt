@@ -19,30 +19,30 @@ use Rattle.store.specs.Layout.{nodeSize, blockAt, nodeCodeAt, nodeStripA
 
 module _ (s : List ℕ) (v : ℕ) where
   -- the fields of the node
-  abbrev pub codeIn : ℕ
-  codeIn = getD s (nodeCodeAt v) 0
+  abbrev pub nodeCodeIn : ℕ
+  nodeCodeIn = getD s (nodeCodeAt v) 0
 
-  abbrev pub stripIn : ℕ
-  stripIn = getD s (nodeStripAt v) 0
+  abbrev pub nodeStripIn : ℕ
+  nodeStripIn = getD s (nodeStripAt v) 0
 
-  abbrev pub operandIn : ℕ
-  operandIn = wordAt s (nodeOperandAt v)
+  abbrev pub nodeOperandIn : ℕ
+  nodeOperandIn = wordAt s (nodeOperandAt v)
 
-  abbrev pub parentIn : ℕ
-  parentIn = wordAt s (nodeParentAt v)
+  abbrev pub nodeParentIn : ℕ
+  nodeParentIn = wordAt s (nodeParentAt v)
 
-  abbrev pub giverIn : ℕ
-  giverIn = wordAt s (nodeGiverAt v)
+  abbrev pub nodeGiverIn : ℕ
+  nodeGiverIn = wordAt s (nodeGiverAt v)
 
-  abbrev pub baseIn : ℕ
-  baseIn = wordAt s (nodeBaseAt v)
+  abbrev pub nodeBaseIn : ℕ
+  nodeBaseIn = wordAt s (nodeBaseAt v)
 
   -- the node, where it is an entry, and where it is a merge
   abbrev pub entryIn : Node
-  entryIn = entry parentIn codeIn stripIn operandIn
+  entryIn = entry nodeParentIn nodeCodeIn nodeStripIn nodeOperandIn
 
   abbrev pub mergeIn : Node
-  mergeIn = merge parentIn giverIn
+  mergeIn = merge nodeParentIn nodeGiverIn
 
   module _ (g : Graph) where
     pub zero-entry : Bytes s → allZero (part s (nodeGiverAt v) (nodeSize - 6)) ≡ true → Stands s (blockAt v) (nodeBytes g (some entryIn))
@@ -50,32 +50,32 @@ module _ (s : List ℕ) (v : ℕ) where
     zero-entry b h =
         let c = b (nodeCodeAt v) in
         let k = b (nodeStripAt v) in
-        stands-join (byte codeIn ∷ []) (byte stripIn ∷ word operandIn ++ word parentIn ++ zeros (nodeSize - 6)) (stands-one (omega arith))
-        (stands-join (byte stripIn ∷ []) (word operandIn ++ word parentIn ++ zeros (nodeSize - 6)) (stands-one (omega arith))
-        (stands-join (word operandIn) (word parentIn ++ zeros (nodeSize - 6)) (word-stands (nodeOperandAt v) b)
-        (stands-join (word parentIn) (zeros (nodeSize - 6)) (word-stands (nodeParentAt v) b) (zero-stands (nodeGiverAt v) (nodeSize - 6) h)
+        stands-join (byte nodeCodeIn ∷ []) (byte nodeStripIn ∷ word nodeOperandIn ++ word nodeParentIn ++ zeros (nodeSize - 6)) (stands-one (omega arith))
+        (stands-join (byte nodeStripIn ∷ []) (word nodeOperandIn ++ word nodeParentIn ++ zeros (nodeSize - 6)) (stands-one (omega arith))
+        (stands-join (word nodeOperandIn) (word nodeParentIn ++ zeros (nodeSize - 6)) (word-stands (nodeOperandAt v) b)
+        (stands-join (word nodeParentIn) (zeros (nodeSize - 6)) (word-stands (nodeParentAt v) b) (zero-stands (nodeGiverAt v) (nodeSize - 6) h)
         (omega arith)) (omega arith)) (omega arith)) refl
 
     pub entry-zero : Stands s (blockAt v) (nodeBytes g (some entryIn)) → allZero (part s (nodeGiverAt v) (nodeSize - 6)) ≡ true
     unfolding nodeBytes
     entry-zero h =
-        stands-zero (nodeGiverAt v) (nodeSize - 6) (stands-right (byte codeIn ∷ byte stripIn ∷ word operandIn ++ word parentIn) (zeros (nodeSize - 6)) h refl)
+        stands-zero (nodeGiverAt v) (nodeSize - 6) (stands-right (byte nodeCodeIn ∷ byte nodeStripIn ∷ word nodeOperandIn ++ word nodeParentIn) (zeros (nodeSize - 6)) h refl)
 
-    pub zero-merge : Bytes s → codeIn ≡ mergeNodeCode → baseIn ≡ baseOf g parentIn giverIn → allZero (part s (nodeStripAt v) 3) ≡ true
+    pub zero-merge : Bytes s → nodeCodeIn ≡ mergeNodeCode → nodeBaseIn ≡ baseOf g nodeParentIn nodeGiverIn → allZero (part s (nodeStripAt v) 3) ≡ true
         → allZero (part s (nodeBaseAt v + 2) (nodeSize - 10)) ≡ true → Stands s (blockAt v) (nodeBytes g (some mergeIn))
     unfolding nodeBytes
     zero-merge b nine base h k =
         rw (← base)
-        (stands-join (mergeNodeCode ∷ []) (zeros 3 ++ word parentIn ++ word giverIn ++ word baseIn ++ zeros (nodeSize - 10)) (stands-one nine)
-        (stands-join (zeros 3) (word parentIn ++ word giverIn ++ word baseIn ++ zeros (nodeSize - 10)) (zero-stands (nodeStripAt v) 3 h)
-        (stands-join (word parentIn) (word giverIn ++ word baseIn ++ zeros (nodeSize - 10)) (word-stands (nodeParentAt v) b)
-        (stands-join (word giverIn) (word baseIn ++ zeros (nodeSize - 10)) (word-stands (nodeGiverAt v) b)
-        (stands-join (word baseIn) (zeros (nodeSize - 10)) (word-stands (nodeBaseAt v) b) (zero-stands (nodeBaseAt v + 2) (nodeSize - 10) k)
+        (stands-join (mergeNodeCode ∷ []) (zeros 3 ++ word nodeParentIn ++ word nodeGiverIn ++ word nodeBaseIn ++ zeros (nodeSize - 10)) (stands-one nine)
+        (stands-join (zeros 3) (word nodeParentIn ++ word nodeGiverIn ++ word nodeBaseIn ++ zeros (nodeSize - 10)) (zero-stands (nodeStripAt v) 3 h)
+        (stands-join (word nodeParentIn) (word nodeGiverIn ++ word nodeBaseIn ++ zeros (nodeSize - 10)) (word-stands (nodeParentAt v) b)
+        (stands-join (word nodeGiverIn) (word nodeBaseIn ++ zeros (nodeSize - 10)) (word-stands (nodeGiverAt v) b)
+        (stands-join (word nodeBaseIn) (zeros (nodeSize - 10)) (word-stands (nodeBaseAt v) b) (zero-stands (nodeBaseAt v + 2) (nodeSize - 10) k)
         (omega arith)) (omega arith)) (omega arith)) (omega arith)) refl)
 
     module _ (h : Stands s (blockAt v) (nodeBytes g (some mergeIn))) where
       abbrev fields : List ℕ
-      fields = word parentIn ++ word giverIn ++ word (baseOf g parentIn giverIn)
+      fields = word nodeParentIn ++ word nodeGiverIn ++ word (baseOf g nodeParentIn nodeGiverIn)
 
       pub merge-zero : allZero (part s (nodeStripAt v) 3) ≡ true
       unfolding nodeBytes
@@ -87,7 +87,7 @@ module _ (s : List ℕ) (v : ℕ) where
       unfolding nodeBytes
       merge-rest = stands-zero (nodeBaseAt v + 2) (nodeSize - 10) (stands-right (mergeNodeCode ∷ zeros 3 ++ fields) (zeros (nodeSize - 10)) h (omega arith))
 
-      pub merge-base-read : versionCount g ≤ maxCapacity → baseIn ≡ baseOf g parentIn giverIn
+      pub merge-base-read : versionCount g ≤ maxCapacity → nodeBaseIn ≡ baseOf g nodeParentIn nodeGiverIn
       unfolding nodeBytes
       merge-base-read small =
-          stands-field h 8 (baseOf g parentIn giverIn) (omega arith) refl refl (omega (arith, meetNumber-below g parentIn giverIn))
+          stands-field h 8 (baseOf g nodeParentIn nodeGiverIn) (omega arith) refl refl (omega (arith, meetNumber-below g nodeParentIn nodeGiverIn))

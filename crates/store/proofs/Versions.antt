@@ -28,7 +28,7 @@ use Rattle.store.specs.Check.{rowPart, boardPart, entriesPart, rootRight
 use Rattle.store.proofs.Lineage.{root-lineage, entry-lineage, merge-lineage}
 use Rattle.store.proofs.Shown.{shown, made}
 use Rattle.store.proofs.Told.{Told, Held, Next, held-next, held-before, held-newest, meet-rows, rows-meet}
-use Rattle.store.proofs.NodeBytes.{codeIn, stripIn, operandIn, parentIn, giverIn, baseIn, entryIn, mergeIn, zero-entry, entry-zero, zero-merge, merge-zero, merge-rest, merge-base-read}
+use Rattle.store.proofs.NodeBytes.{nodeCodeIn, nodeStripIn, nodeOperandIn, nodeParentIn, nodeGiverIn, nodeBaseIn, entryIn, mergeIn, zero-entry, entry-zero, zero-merge, merge-zero, merge-rest, merge-base-read}
 
 -- the version that stands in the block after the graph's
 module _ (s : List ℕ) (g : Graph) (small : versionCount g < maxCapacity) (h : Held s g) where
@@ -36,17 +36,17 @@ module _ (s : List ℕ) (g : Graph) (small : versionCount g < maxCapacity) (h : 
   v = versionCount g
 
   abbrev p : ℕ
-  p = parentIn s v
+  p = nodeParentIn s v
 
   abbrev q : ℕ
-  q = giverIn s v
+  q = nodeGiverIn s v
 
   abbrev l : ℕ
-  l = baseIn s v
+  l = nodeBaseIn s v
 
   -- its board, where it is an entry
   abbrev entered : List ℕ → List ℕ
-  entered = enter (codeIn s v) (stripIn s v) (operandIn s v)
+  entered = enter (nodeCodeIn s v) (nodeStripIn s v) (nodeOperandIn s v)
 
   -- the tests of it, where it is an entry and where it is a merge
   abbrev entryTest : Bool
@@ -97,7 +97,7 @@ module _ (s : List ℕ) (g : Graph) (small : versionCount g < maxCapacity) (h : 
       (same-of _ _ (k .told .board ∙ sym (entry-board a))))
       (k .told .listed))
 
-  merge-next : Bytes s → codeIn s v ≡ mergeNodeCode → mergeTest ≡ true → Next s g (mergeIn s v)
+  merge-next : Bytes s → nodeCodeIn s v ≡ mergeNodeCode → mergeTest ≡ true → Next s g (mergeIn s v)
   unfolding mergeParts
   merge-next b nine t =
       let first = ltb-true p v (search (and-l, and-r) depth 12) in
@@ -142,16 +142,16 @@ module _ (s : List ℕ) (g : Graph) (small : versionCount g < maxCapacity) (h : 
 
   version-next : Bytes s → versionRight s v ≡ true → Next s g (nodeIn s v)
   unfolding versionRight nodeIn
-  version-next b t = go (eqb (codeIn s v) mergeNodeCode) refl t
+  version-next b t = go (eqb (nodeCodeIn s v) mergeNodeCode) refl t
     where
-      go : (n : Bool) → eqb (codeIn s v) mergeNodeCode ≡ n → nodeInRange v (cond n (mergeIn s v) (entryIn s v)) && nodeParts s v (cond n (mergeIn s v) (entryIn s v)) ≡ true
+      go : (n : Bool) → eqb (nodeCodeIn s v) mergeNodeCode ≡ n → nodeInRange v (cond n (mergeIn s v) (entryIn s v)) && nodeParts s v (cond n (mergeIn s v) (entryIn s v)) ≡ true
           → Next s g (cond n (mergeIn s v) (entryIn s v))
-      go true e k = merge-next b (eqb-true (codeIn s v) mergeNodeCode e) k
+      go true e k = merge-next b (eqb-true (nodeCodeIn s v) mergeNodeCode e) k
       go false e k = entry-next b k
 
   next-version : Next s g (nodeIn s v) → versionRight s v ≡ true
   unfolding versionRight nodeIn
-  next-version = go (eqb (codeIn s v) mergeNodeCode)
+  next-version = go (eqb (nodeCodeIn s v) mergeNodeCode)
     where
       go : (n : Bool) → Next s g (cond n (mergeIn s v) (entryIn s v))
           → nodeInRange v (cond n (mergeIn s v) (entryIn s v)) && nodeParts s v (cond n (mergeIn s v) (entryIn s v)) ≡ true

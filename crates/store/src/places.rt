@@ -31,7 +31,7 @@ pub const BLOCK: usize = NODE + ROW + BOARD;
 // commons and its end.
 pub const CAPACITY: usize = 0;
 
-pub const SETTINGS_END: usize = CAPACITY + 2;
+const SETTINGS_END: usize = CAPACITY + 2;
 
 pub const COUNT: usize = SETTINGS_END;
 

@@ -24,8 +24,8 @@ use Rattle.tape.proofs.Written.{tape-written}
 use Rattle.tape.proofs.Reading.{read-versions, versions-long, read-heads}
 
 -- what the tape of a room says
-abbrev pub contentIn : Room → Content
-contentIn r = record { settings = r .settings; versions = r .versions; heads = headsFrom 0 (r .heads) [] }
+abbrev pub contentFrom : Room → Content
+contentFrom r = record { settings = r .settings; versions = r .versions; heads = headsFrom 0 (r .heads) [] }
 
 tape-parts : (r : Room)
     → tapeOf r ≡ recordBytes (Start (r .settings)) ++ (versionRecords (r .versions) ++ (headRecords 0 (r .heads) ++ recordBytes End))
@@ -45,7 +45,7 @@ module _ (r : Room) (s : soundRoom r ≡ true) where
   read-parts : (fuel : ℕ) → length (versionRecords (r .versions)) + length (headRecords 0 (r .heads)) < fuel
       → readOn fuel inVersions (record { settings = r .settings; versions = []; heads = [] })
       (versionRecords (r .versions) ++ (headRecords 0 (r .heads) ++ recordBytes End))
-      ≡ some (contentIn r)
+      ≡ some (contentFrom r)
   read-parts fuel enough =
       let long = versions-long (r .versions) in
       let split : fuel ≡ length (r .versions) + (fuel - length (r .versions)) = omega arith in
@@ -53,28 +53,28 @@ module _ (r : Room) (s : soundRoom r ≡ true) where
       (read-versions (r .versions) (fuel - length (r .versions)) (r .settings) _ (k .lower) (k .ranged) (omega (arith, small))
       ∙ read-heads _ 0 inVersions (r .heads) _ (omega arith) (k .first) named-heads (omega (arith, small)) (omega (arith, k .sixteen)))
 
-  pub tape-content : contentOf (tapeOf r) ≡ some (contentIn r)
+  pub tape-content : contentOf (tapeOf r) ≡ some (contentFrom r)
   unfolding contentOf
   tape-content =
       let fits = settings-fit (r .settings) (k .settings) in
       rw (tape-parts, record-read (Start (r .settings)) _ fits, record-rest (Start (r .settings)) _ fits)
       (read-parts _ (simp length-append (omega arith)))
 
-  pub tape-room : roomOf (contentIn r) ≡ r
+  pub tape-room : roomOf (contentFrom r) ≡ r
   tape-room = rw (slots-back (r .heads) (k .sixteen))
 
-  pub tape-accepted : contentRefusal (some (contentIn r)) ≡ 0
+  pub tape-accepted : contentRefusal (some (contentFrom r)) ≡ 0
   tape-accepted =
       let enough = le-leb (versionCount (r .versions)) (r .settings .capacity) (k .fits) in
       let rise = rises (r .heads) (k .sixteen) (k .first) in
       let named = all-named (r .versions) (r .heads) named-heads in
-      accepts (contentIn r)
+      accepts (contentFrom r)
       (record { size = k .settings; range = simp (enough, k .lower, k .ranged, rise, named); room = rw tape-room s })
 
 -- the tape of a sound room is accepted, and gives back that room
 pub tape-back : (r : Room) → soundRoom r ≡ true
     → (c : Content) × (contentOf (tapeOf r) ≡ some c) × (contentRefusal (some c) ≡ 0) × (roomOf c ≡ r)
-tape-back r s = (contentIn r, tape-content r s, tape-accepted r s, tape-room r s)
+tape-back r s = (contentFrom r, tape-content r s, tape-accepted r s, tape-room r s)
 
 -- an accepted tape is the tape of its room
 pub tape-forth : (t : List ℕ) (c : Content) → Bytes t → contentOf t ≡ some c → contentRefusal (some c) ≡ 0 → tapeOf (roomOf c) ≡ t

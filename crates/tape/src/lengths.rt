@@ -1,25 +1,16 @@
 // How many bytes each record takes, its code included. The widths of what follows a code stand in `command` alone.
+use crate::place::coded_length;
 use command::codes::END_RECORD;
 use command::codes::ENTRY_RECORD;
 use command::codes::HEAD_RECORD;
 use command::codes::MERGE_RECORD;
 use command::codes::START_RECORD;
-use command::decoder::length_of;
-use command::decoder::widths_of;
 use graph::Node;
 ghost use mathlib.Core.Path.{_≡_};
 ghost use Prim.Native.Nat.{_≤_};
 ghost use lib.ListN.{length};
-ghost use Rattle.command.specs.Code.{shapeOf, lengthOf};
 ghost use Rattle.tape.specs.Record.{versionBytes, longestRecord};
 ghost use Rattle.tape.specs.Reader.{startLength, headLength, endLength};
-
-// The length of a record by its code; 0 for a code that is no record's.
-pub fn coded_length(code: usize) -> usize
-    ensures { λ r. ⌜ r ≡ lengthOf (shapeOf code) ⌝ }
-{
-    length_of(widths_of(code))
-}
 
 // The length of the record that every tape begins with, which is the place of the next.
 pub fn start_length() -> usize

@@ -1,6 +1,5 @@
 // The reading place: the record that stands there, and the place past it. By value first, then lent.
 use crate::Record;
-use crate::lengths::coded_length;
 use buffer::wide;
 use command::Operands;
 use command::codes::END_RECORD;
@@ -8,6 +7,7 @@ use command::codes::ENTRY_RECORD;
 use command::codes::HEAD_RECORD;
 use command::codes::MERGE_RECORD;
 use command::codes::START_RECORD;
+use command::decoder::length_of;
 use command::decoder::operands_of;
 use command::decoder::widths_of;
 use graph::Console;
@@ -19,6 +19,7 @@ ghost use mathlib.Core.Path.{_≡_};
 ghost use mathlib.Core.List.{_++_};
 ghost use Prim.Native.Nat.{_+_, _≤_, _<_};
 ghost use lib.ListN.{length, getD, drop};
+ghost use Rattle.command.specs.Code.{shapeOf, lengthOf};
 ghost use Rattle.tape.specs.Record.{recordLength, recordFrom, recordIn, recordBytes, recordRefusal};
 ghost use Rattle.tape.specs.Reader.{placeAfter};
 
@@ -72,6 +73,13 @@ fn front_code(t: &[u8]) -> usize
         return 0;
     }
     wide(t[0])
+}
+
+// How many bytes a code and what follows it take; 0 for an unknown code.
+pub fn coded_length(code: usize) -> usize
+    ensures { λ r. ⌜ r ≡ lengthOf (shapeOf code) ⌝ }
+{
+    length_of(widths_of(code))
 }
 
 // How many bytes the record at the front of a tape takes.

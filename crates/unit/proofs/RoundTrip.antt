@@ -19,7 +19,7 @@ use Rattle.store.proofs.RoundTrip.{encode-length, room-encode, holds-encode, ho
 use Rattle.tape.specs.Tape.{Content, contentOf, contentTests, contentRefusal, roomOf, tapeOf}
 use Rattle.buffer.proofs.Parts.{Bytes}
 use Rattle.tape.proofs.Accepted.{Accepted, accepted, accepts}
-use Rattle.tape.proofs.RoundTrip.{contentIn, tape-content, tape-room, tape-accepted, tape-forth}
+use Rattle.tape.proofs.RoundTrip.{contentFrom, tape-content, tape-room, tape-accepted, tape-forth}
 use Rattle.unit.specs.Calls.{replied, written, pauseTests, pauseOutcome, resumeTests, resumed, resumeOutcome}
 use Rattle.unit.proofs.Answered.{buffer-fits, buffer-allowed}
 
@@ -84,7 +84,7 @@ module _ (store : List ℕ) (held : holdsStore store ≡ true) (buffer : List �
   tape-resumes fits =
       let r = roomIn store in
       let s = holds-sound store held in
-      let t = contentIn r in
+      let t = contentFrom r in
       let over = ap (λ (x : Room). overwrite (encode x) buffer) (tape-room r s) ∙ store-over in
       rw (tape-content r s, resume-none t buffer (accepted t (tape-accepted r s)) fits) (λ i. record { reply = replied 0 0; buffer = over i })
 

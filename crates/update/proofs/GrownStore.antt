@@ -36,9 +36,9 @@ use Rattle.update.specs.Commons.{joinedCommons, putHead}
 use Rattle.update.proofs.AppendedBlocks.{Standing, Grew, entry-grew, merge-grew}
 use Rattle.update.proofs.JoinedTable.{table-length, table-outside, table-stands}
 
-pub in-range : (code strip operand : ℕ) → isEntryCode code ≡ true → strip < stripCount → isOperand code operand ≡ true
+pub entry-in-range : (code strip operand : ℕ) → isEntryCode code ≡ true → strip < stripCount → isOperand code operand ≡ true
     → isEntryCode code && isStrip strip && isOperand code operand ≡ true
-in-range code strip operand a b c = and-i _ _ (and-i _ _ a (lt-ltb strip stripCount b)) c
+entry-in-range code strip operand a b c = and-i _ _ (and-i _ _ a (lt-ltb strip stripCount b)) c
 
 -- the base of a merge of two consoles is their common version
 common-base : (r : Room) (c d : ℕ) → common r c d ≡ baseOf (r .versions) (head r c) (head r d)

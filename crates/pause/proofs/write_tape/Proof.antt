@@ -6,7 +6,7 @@ use Prim.Native.Nat.{_-_}
 use lib.ListN.{length}
 use Rattle.store.specs.Layout.{roomIn}
 use Rattle.store.proofs.Whole.{whole-block}
-use Rattle.pause.proofs.Tapes.{tape-size, tape-written}
+use Rattle.pause.proofs.Tapes.{tape-size, records-written}
 use Rattle.pause.proofs.write_tape.Statement.{statement}
 use Rattle.pause.proofs.write_tape.Tie as tie
 
@@ -47,7 +47,7 @@ returns c =
     let count = versions .before .before in
     let first = count .before .before .before in
     let start = first .before .before .before .before .before in
-    tape-written (start .args .s .now) (count .version-count .result - 1) (omega arith) (start .args .tape .now) (start .pre .1)
+    records-written (start .args .s .now) (count .version-count .result - 1) (omega arith) (start .args .tape .now) (start .pre .1)
     (rw (first .before .settings-of .ensures .0) at (first .put-start-record .ensures)) (versions .put-version-records .ensures) (heads .put-head-records .ensures) (end .put-end-record .ensures)
 
 pub write-tape-spec : {M : Type 1} → statement M

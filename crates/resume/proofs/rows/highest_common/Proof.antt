@@ -2,7 +2,7 @@
 -- Assumes nothing.
 use mathlib.Core.Path.{_≡_}
 use native.Mathlib.Omega.{arith}
-use Rattle.resume.proofs.Highest.{NoneAbove, apart-start, apart-more, apart-found, apart-all}
+use Rattle.resume.proofs.Highest.{NoneAbove, above-start, above-more, above-found, above-all}
 use Rattle.resume.proofs.rows.highest_common.Statement.{statement}
 use Rattle.resume.proofs.rows.highest_common.Tie as tie
 
@@ -13,20 +13,20 @@ abbrev μ-loop : tie.MeasureT-loop
 μ-loop p q k₀ k = k
 
 loop-holds : tie.Need-loop-holds Inv-loop μ-loop
-loop-holds c = apart-start _ _
+loop-holds c = above-start _ _
 
 returns : tie.Need-returns Inv-loop μ-loop
 returns c =
     let turn = c .before .before .before .before in
-    apart-found (turn .before .loop .inv) (turn .loop-test .taken) (c .top-bit .result) (c .top-bit .ensures .0) (c .top-bit .ensures .1)
+    above-found (turn .before .loop .inv) (turn .loop-test .taken) (c .top-bit .result) (c .top-bit .ensures .0) (c .top-bit .ensures .1)
 
 loop-again : tie.Need-loop-again Inv-loop μ-loop
-loop-again c = let turn = c .before .before .before in apart-more (turn .before .loop .inv) (turn .loop-test .taken) (c .if1 .left)
+loop-again c = let turn = c .before .before .before in above-more (turn .before .loop .inv) (turn .loop-test .taken) (c .if1 .left)
 
 returns-2 : tie.Need-returns-2 Inv-loop μ-loop
 returns-2 c =
     let e : c .before .loop .k ≡ 0 = omega arith in
-    (apart-all _ _ (rw e at (c .before .loop .inv)), omega arith)
+    (above-all _ _ (rw e at (c .before .loop .inv)), omega arith)
 
 pub highest-common-spec : {M : Type 1} → statement M
 highest-common-spec =

@@ -6,7 +6,7 @@ use borrow.Author.Tests.{not-true, not-false}
 use Rattle.laws.proofs.Logic.{and-i, clash}
 use Rattle.resume.specs.Content.{contentIn}
 use Rattle.resume.proofs.HeadsJudged.{rows-inside, behind-told}
-use Rattle.resume.proofs.RoomJudged.{in-range, versions-fail, heads-fail, behind-decides}
+use Rattle.resume.proofs.RoomJudged.{range-facts, versions-fail, heads-fail, behind-decides}
 use Rattle.resume.proofs.soundness.gives_sound_room.Statement.{statement}
 use Rattle.resume.proofs.soundness.gives_sound_room.Tie as tie
 
@@ -15,7 +15,7 @@ build-rows-requires c κs =
     let start = c .before .before .before .before in
     let p = start .pre in
     let t = contentIn (start .args .tape .now) in
-    let k = in-range t (p .1 .0 .0) (p .1 .0 .1) in
+    let k = range-facts t (p .1 .0 .0) (p .1 .0 .1) in
     let small = k .small in
     (p .0, (and-i _ _ (k .lower) (k .ranged), ((p .1 .1 .0 .0, omega arith), p .1 .1 .1 .0)))
 
@@ -34,7 +34,7 @@ build-commons-requires c κs =
     let start = made .before .before .before .before .before in
     let p = start .pre in
     let t = contentIn (start .args .tape .now) in
-    let k = in-range t (p .1 .0 .0) (p .1 .0 .1) in
+    let k = range-facts t (p .1 .0 .0) (p .1 .0 .1) in
     (p .0, ((k .rise, k .named), ((k .small, p .1 .1 .0 .1, p .1 .1 .0 .2), (made .build-rows .ensures .1, p .1 .1 .1 .1))))
 
 returns-2 : tie.Need-returns-2
@@ -58,7 +58,7 @@ add-heads-reach-all c =
     let start = made .before .before .before .before .before in
     let p = start .pre in
     let t = contentIn (start .args .tape .now) in
-    let k = in-range t (p .1 .0 .0) (p .1 .0 .1) in
+    let k = range-facts t (p .1 .0 .0) (p .1 .0 .1) in
     let small = k .small in
     omega arith
 
@@ -69,7 +69,7 @@ heads-reach-all-requires c κs =
     let start = made .before .before .before .before .before in
     let p = start .pre in
     let t = contentIn (start .args .tape .now) in
-    let k = in-range t (p .1 .0 .0) (p .1 .0 .1) in
+    let k = range-facts t (p .1 .0 .0) (p .1 .0 .1) in
     let shown = made .build-rows .ensures .1 in
     let ok = not-false (met .build-commons .result) (c .before .before .if2 .left) in
     let header = met .build-commons .last .1 .1 .1 .1 .0 in
@@ -82,7 +82,7 @@ returns-3 c =
     let start = made .before .before .before .before .before in
     let p = start .pre in
     let t = contentIn (start .args .tape .now) in
-    let k = in-range t (p .1 .0 .0) (p .1 .0 .1) in
+    let k = range-facts t (p .1 .0 .0) (p .1 .0 .1) in
     let told = made .build-rows .ensures in
     let based = not-false (made .build-rows .result) (met .before .before .before .if1 .left) in
     let ok = not-false (met .build-commons .result) (c .before .before .before .if2 .left) in

@@ -9,7 +9,7 @@ use Rattle.buffer.proofs.Parts.{Bytes}
 use Rattle.resume.specs.Content.{contentIn}
 use Rattle.resume.proofs.Along.{Versions, version-inside}
 use Rattle.resume.proofs.Reread.{next-ranged}
-use Rattle.resume.proofs.VersionsWritten.{Built, sound-ready, written-none, written-all, written-more, next-fits, next-based}
+use Rattle.resume.proofs.VersionsWritten.{Built, sound-ready, versions-written-none, versions-written-all, versions-written-more, next-fits, next-based}
 use Rattle.resume.proofs.StoreWritten.{opened-standing, opened-fits, header-fits, store-whole}
 use native.Mathlib.Omega.{arith}
 use Rattle.resume.proofs.writing.write_store.Statement.{statement}
@@ -34,7 +34,7 @@ loop-holds c =
     let a = start .args in
     let p = start .pre in
     let t = contentIn (a .tape .now) in
-    written-none t (c .start-length .ensures) (opened-standing t (p .1 .1 .0 .0) (a .store .now) (a .settings) (p .1 .0 .0) (p .1 .1 .1 .1) (opened .«open» .ensures))
+    versions-written-none t (c .start-length .ensures) (opened-standing t (p .1 .1 .0 .0) (a .store .now) (a .settings) (p .1 .0 .0) (p .1 .1 .1 .1) (opened .«open» .ensures))
 
 read-version-requires : tie.Need-read-version-requires Inv-loop μ-loop
 read-version-requires c κs =
@@ -93,7 +93,7 @@ loop-again c =
     let ready = sound-ready t (p .1 .1 .0 .0) (p .1 .1 .0 .1) in
     let fits = opened-fits t (p .1 .1 .0 .0) (a .store .now) (a .settings) (p .1 .0 .0) (p .1 .1 .1 .1) (opened .«open» .ensures) in
     let more : turn .loop .k < length (t .versions) = omega (arith, c .before .before .before .before .before .before .loop-test .taken, p .1 .0 .1) in
-    written-more (a .tape .now) t bytes (p .0) ready (turn .loop .inv) more fits (read .0)
+    versions-written-more (a .tape .now) t bytes (p .0) ready (turn .loop .inv) more fits (read .0)
     (rw (made .before .base-in .ensures) at (made .append-version .ensures)) (read .1)
 
 add-put-header : tie.Need-add-put-header Inv-loop μ-loop
@@ -111,7 +111,7 @@ put-header-requires c κs =
     let p = start .pre in
     let t = contentIn (a .tape .now) in (
       header-fits t (p .1 .1 .0 .0) (a .store .now) (a .settings) (p .1 .0 .0) (p .1 .1 .1 .1) (opened .«open» .ensures)
-          (written-all t (turn .loop .inv) (omega arith)) (a .header .now) (p .1 .1 .1 .0 .1),
+          (versions-written-all t (turn .loop .inv) (omega arith)) (a .header .now) (p .1 .1 .1 .0 .1),
       p .1 .1 .1 .0 .0,
     )
 
@@ -125,7 +125,7 @@ returns c =
     let p = start .pre in
     let t = contentIn (a .tape .now) in
     store-whole t (p .1 .1 .0 .0) (a .store .now) (a .settings) (p .1 .0 .0) (p .1 .1 .1 .1) (opened .«open» .ensures)
-    (written-all t (turn .loop .inv) (omega arith)) (a .header .now) (p .1 .1 .1 .0 .1) (p .1 .0 .1) (done .put-header .ensures)
+    (versions-written-all t (turn .loop .inv) (omega arith)) (a .header .now) (p .1 .1 .1 .0 .1) (p .1 .0 .1) (done .put-header .ensures)
 
 pub write-store-spec : {M : Type 1} → statement M
 write-store-spec =

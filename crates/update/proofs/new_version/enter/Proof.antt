@@ -4,7 +4,7 @@ use borrow.Author.Tests.{lt-ltb}
 use denote.Ref.{now}
 use Rattle.laws.proofs.Logic.{and-i}
 use Rattle.store.proofs.Whole.{whole-header}
-use Rattle.update.proofs.GrownStore.{in-range, left-small, left-fits, entered-store}
+use Rattle.update.proofs.GrownStore.{entry-in-range, left-small, left-fits, entered-store}
 use native.Mathlib.Omega.{arith}
 use borrow.Author.Needs.{needs}
 use Rattle.update.proofs.new_version.enter.Statement.{statement}
@@ -17,7 +17,7 @@ append-version-requires c κs =
     let s = now (a .s) in
     let rest = start .pre .1 in
     let left = rest .1 .1 .1 in
-    let range = in-range (a .code) (a .strip .0) (a .operand) (rest .1 .0 .0) (rest .0 .1) (rest .1 .0 .1) in
+    let range = entry-in-range (a .code) (a .strip .0) (a .operand) (rest .1 .0 .0) (rest .0 .1) (rest .1 .0 .1) in
     let parent = c .before .head-of .result .0 in
     let number = c .before .before .before .version-count .result in
     let small = left-small s (start .pre .0) left in
@@ -45,7 +45,7 @@ returns c =
     let a = start .args in
     let rest = start .pre .1 in
     entered-store (now (a .s)) (start .pre .0) (rest .1 .1 .1) (a .c .0) (rest .0 .0) (rest .1 .1 .0) (a .code) (a .strip .0) (a .operand)
-    (in-range _ _ _ (rest .1 .0 .0) (rest .0 .1) (rest .1 .0 .1)) _ _ _ _ _ (found .before .before .version-count .ensures .0)
+    (entry-in-range _ _ _ (rest .1 .0 .0) (rest .0 .1) (rest .1 .0 .1)) _ _ _ _ _ (found .before .before .version-count .ensures .0)
     (found .head-of .ensures .0) (written .append-version .ensures) (counted .put-word .ensures)
     (rw (field .field-of .ensures) at (moved .put-head .ensures))
 

@@ -1,10 +1,10 @@
--- `tape::lengths::coded_length` meets its contract.
+-- `tape::place::coded_length` meets its contract.
 -- Assumes nothing.
 use mathlib.Core.Path.{_∙_, ap}
 use Rattle.command.specs.Code.{lengthOf}
 use Rattle.command.proofs.Shapes.{narrow-shape}
-use Rattle.tape.proofs.lengths.coded_length.Statement.{statement}
-use Rattle.tape.proofs.lengths.coded_length.Tie as tie
+use Rattle.tape.proofs.place.coded_length.Statement.{statement}
+use Rattle.tape.proofs.place.coded_length.Tie as tie
 
 length-of-requires : tie.Need-length-of-requires
 length-of-requires c κs = rw (c .widths-of .ensures .0) (narrow-shape _)
