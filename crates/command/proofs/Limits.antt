@@ -34,9 +34,12 @@ each P low (suc n) x h p q =
       | no ne ↦ each P (suc low) n x (h .1) (omega arith) (omega arith)
     ]
 
--- below 2 there is only 0 beside 1
-pub neither-one : (x : ℕ) → x < 2 → x ≢ 1 → x ≡ 0
-neither-one x l ne = omega arith
+-- below and above the code 01, at which a match over the codes begins
+pub below-one : (x : ℕ) → x < 1 → x ≡ 0
+below-one x l = omega arith
+
+pub above-one : (x : ℕ) → 1 ≤ x → x ≢ 1 → 2 ≤ x
+above-one x l ne = omega arith
 
 -- what holds of the codes 02 to 08 holds of every code that makes an entry
 pub each-entry : (P : ℕ → Type 0) → P 2 → P 3 → P 4 → P 5 → P 6 → P 7 → P 8 → (code : ℕ) → isEntryCode code ≡ true → P code

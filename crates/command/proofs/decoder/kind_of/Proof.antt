@@ -3,7 +3,7 @@
 use borrow.Author.Needs.{needs}
 use Rattle.board.specs.Board.{levelEntry, alertOffEntry}
 use Rattle.command.specs.Code.{kindOf}
-use Rattle.command.proofs.Limits.{within-i, neither-one}
+use Rattle.command.proofs.Limits.{within-i, below-one, above-one}
 use Rattle.command.proofs.CodeKinds.{kind-entry, kind-none}
 use Rattle.command.proofs.decoder.kind_of.Statement.{statement}
 use Rattle.command.proofs.decoder.kind_of.Tie as tie
@@ -23,11 +23,11 @@ returns-3 c = rw (c .match .keys3)
 returns-4 : tie.Need-returns-4
 returns-4 c =
     let code = c .before .before .before .args .code in
-    kind-entry code (within-i levelEntry alertOffEntry code (search needs) (search needs))
+    kind-entry code (within-i levelEntry alertOffEntry code (above-one code (search needs) (search needs)) (search needs))
 
 returns-5 : tie.Need-returns-5
 unfolding kindOf
-returns-5 c = rw (neither-one (c .before .before .args .code) (search needs) (search needs))
+returns-5 c = rw (below-one (c .before .before .args .code) (search needs))
 
 returns-6 : tie.Need-returns-6
 returns-6 c = kind-none _ (search needs) (search needs) (search needs) (search needs)

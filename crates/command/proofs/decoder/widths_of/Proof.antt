@@ -4,7 +4,7 @@ use mathlib.Core.Path.{_≡_, refl}
 use borrow.Author.Needs.{needs}
 use Rattle.command.specs.declared.Shape.the-variants.{Known}
 use Rattle.command.specs.Code.{shapeOf}
-use Rattle.command.proofs.Limits.{each, neither-one}
+use Rattle.command.proofs.Limits.{each, below-one, above-one}
 use Rattle.command.proofs.Shapes.{shape-none, shape-told}
 use Rattle.command.proofs.decoder.widths_of.Statement.{statement}
 use Rattle.command.proofs.decoder.widths_of.Tie as tie
@@ -35,7 +35,7 @@ returns-6 c = shape-told _ _ (rw (c .match .keys6))
 
 returns-7 : tie.Need-returns-7
 unfolding shapeOf
-returns-7 c = shape-told _ _ (each (λ k. Known 1 1 2 0 ≡ shapeOf k) 2 2 (c .before .before .before .args .code) (refl, (refl, tt)) (search needs) (search needs))
+returns-7 c = shape-told _ _ (each (λ k. Known 1 1 2 0 ≡ shapeOf k) 2 2 (c .before .before .before .args .code) (refl, (refl, tt)) (above-one _ (search needs) (search needs)) (search needs))
 
 returns-8 : tie.Need-returns-8
 unfolding shapeOf
@@ -51,7 +51,7 @@ returns-10 c = shape-told _ _ (each (λ k. Known 1 1 0 0 ≡ shapeOf k) 9 2 (c .
 
 returns-11 : tie.Need-returns-11
 unfolding shapeOf
-returns-11 c = shape-told _ _ (rw (neither-one (c .before .before .args .code) (search needs) (search needs)))
+returns-11 c = shape-told _ _ (rw (below-one (c .before .before .args .code) (search needs)))
 
 returns-12 : tie.Need-returns-12
 returns-12 c = shape-told _ _ (shape-none _ (search needs) (search needs) (search needs) (search needs) (search needs) (search needs))
