@@ -50,7 +50,7 @@ markCount = 16
 abbrev pub markBit : ℕ → ℕ
 markBit x = 2 ^ (x % markCount)
 
--- a flag is on when its byte is 1; in a sound store it is 0 or 1
+-- a flag is on when its byte is 1; in a sound store that byte is 0 or 1
 abbrev pub flagOn : List ℕ → ℕ → Bool
 flagOn s k = eqb (getD s (flagAt k) 0) 1
 

@@ -8,7 +8,7 @@ use lib.Count.{ones}
 use lib.ListN.{getD, set, drop}
 use Rattle.buffer.specs.Field.{allZero}
 
--- the bytes of a whole row, which has a bit for each of 1,024 numbers
+-- how many bytes a whole row has, with a bit for each of 1,024 numbers
 abbrev pub rowWidth : ℕ
 rowWidth = 128
 

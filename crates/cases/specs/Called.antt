@@ -24,7 +24,7 @@ abbrev pub headReply : Option ℕ → Reply
 headReply none = replied 12 0
 headReply (some v) = replied 0 v
 
--- these commands on room r, with this rest behind its bytes; true of every sound room
+-- these commands on room r, with this rest behind its bytes; true of every sound room, with any rest and any commands
 pub record Called (r : Room) (rest : List ℕ) (commands : List (List ℕ)) : Type 0 where
   pub answered : answersTo (encode r ++ rest) (map command commands) ≡ answers r commands
   -- the buffer afterwards, whatever journal is fed along

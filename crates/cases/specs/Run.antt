@@ -21,7 +21,7 @@ infix 60 _gives_
 abbrev pub _gives_ : List ℕ → List ℕ → Case
 computed gives told = record { got = computed; due = told }
 
--- The commands that the rows name.
+-- The commands that the rows name, in the paper's own bytes and not by the definitions' names for the codes.
 abbrev pub fork : ℕ → ℕ → List ℕ
 fork new old = 0x01 ∷ new ∷ old ∷ []
 
@@ -60,7 +60,7 @@ answers r (c ∷ cs) = answerIn r (decode c) ∷ answers (roomAfter r (decode c)
 abbrev pub answer : Room → List ℕ → List ℕ
 answer r c = answerIn r (decode c) ∷ []
 
--- how a row says where a console is: on a version, or nowhere while it is absent
+-- how a row says where a console is: on a version, or nowhere while it is absent; 1 more than the version, so that version 0 is not nowhere
 abbrev pub nowhere : ℕ
 nowhere = 0
 
@@ -71,12 +71,12 @@ abbrev pub shown : Option ℕ → ℕ
 shown none = nowhere
 shown (some v) = on v
 
--- the head of each console
+-- where each of the 16 consoles is, console 0 first
 abbrev pub headsShown : Room → List ℕ
 headsShown r = map shown (r .heads)
 
--- "Each line: .. answer (0 or refusal), head of the console in the first operand", then the number of versions. Ordinals are left out. Of
--- commands that are not answered 1 or 2, as the paper's are: after such an answer the program stops, and this does not.
+-- "Each line: .. answer (0 or refusal), head of the console in the first operand", then the number of versions. Ordinals are left out.
+-- Meant for commands none of which is answered 1 or 2, and the paper's are such: after these answers the program stops, and this goes on.
 unfoldable pub session : Room → List (List ℕ) → List ℕ
 session r [] = versionCount (r .versions) ∷ []
 session r (c ∷ cs) =

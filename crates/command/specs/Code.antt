@@ -50,7 +50,7 @@ endRecord = 0x24
 abbrev pub isEntryCode : ℕ → Bool
 isEntryCode code = within levelEntry alertOffEntry code
 
--- The kind of a code. The commands are the codes of a kind other than Unknown, 01 to 0A.
+-- The kind of a code. The codes of commands are those of a kind other than Unknown: 01 to 0A.
 unfoldable pub kindOf : ℕ → Kind
 kindOf code =
     cond (eqb code forkCommand) kind-is.Fork

@@ -38,8 +38,8 @@ someThirdSplits r receiver giver = someBelow consoleCount (splits r receiver giv
 abbrev pub versionLeft : Room → Bool
 versionLeft r = ltb (versionCount (r .versions)) (r .settings .capacity)
 
--- The tests of a command in the state of a room, in their order, given whether a version is left: so the same lists also say what would be
--- accepted if one were. "12 a named console is absent (fork: the old one). 13 fork's new console is present. 14 merge or fast-forward: giver's
+-- The tests of a command in the state of a room, in their order, given whether a version is left; with `true` they say what would be
+-- accepted if one were left. "12 a named console is absent (fork: the old one). 13 fork's new console is present. 14 merge or fast-forward: giver's
 -- head is an ancestor of receiver's. 15 merge: receiver's head is an ancestor of giver's. 16 fast-forward: receiver's head isn't an ancestor
 -- of giver's."
 abbrev pub receiverGiverTests : Room → ℕ → ℕ → List (ℕ × Bool)

@@ -99,17 +99,18 @@ consoleTests store console =
     ∷ 12 when absent (roomIn store) console
     ∷ []
 
--- and after two: by the bytes of the store, and before that by the numbers
-abbrev pub presenceTests : List ℕ → ℕ → ℕ → List (ℕ × Bool)
-presenceTests store first second =
+-- and after two: the refusals from the state
+abbrev pub pairStateTests : List ℕ → ℕ → ℕ → List (ℕ × Bool)
+pairStateTests store first second =
     11 when holdsNoStore store
     ∷ 12 when (absent (roomIn store) first || absent (roomIn store) second)
     ∷ []
 
+-- before them the one from the input
 abbrev pub pairTests : List ℕ → ℕ → ℕ → List (ℕ × Bool)
 pairTests store first second =
     3 when (not (isConsole first) || not (isConsole second))
-    ∷ presenceTests store first second
+    ∷ pairStateTests store first second
 
 -- "its heard count"
 unfoldable pub heardReply : List ℕ → ℕ → Reply

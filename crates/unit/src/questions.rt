@@ -20,12 +20,12 @@ ghost use Prim.Native.Nat.{_<_};
 ghost use Rattle.board.specs.Board.{boardSize};
 ghost use Rattle.refusal.specs.Refusal.{firstRefusal};
 ghost use Rattle.command.specs.Code.{consoleCount};
-ghost use Rattle.unit.specs.Calls.{bufferTests, consoleTests, presenceTests, pairTests, heardReply, commonReply, boardOutcome};
+ghost use Rattle.unit.specs.Calls.{bufferTests, consoleTests, pairStateTests, pairTests, heardReply, commonReply, boardOutcome};
 
 // Why these bytes can't be asked after two consoles, or 0.
-fn presence_refusal(store: &[u8], c: Console, d: Console) -> u32
+fn pair_state_refusal(store: &[u8], c: Console, d: Console) -> u32
     requires { ⌜ (c .0 < consoleCount) × (d .0 < consoleCount) ⌝ }
-    ensures { λ r. ⌜ r ≡ firstRefusal (presenceTests (now (store .entry)) (c .0) (d .0)) ⌝ }
+    ensures { λ r. ⌜ r ≡ firstRefusal (pairStateTests (now (store .entry)) (c .0) (d .0)) ⌝ }
 {
     if !holds(store) {
         return 11;
@@ -42,7 +42,7 @@ fn pair_refusal(store: &[u8], first: u32, second: u32) -> u32
     if !is_console(c) | !is_console(d) {
         return 3;
     }
-    presence_refusal(store, Console(c), Console(d))
+    pair_state_refusal(store, Console(c), Console(d))
 }
 
 // Why a console's board can't be copied out into this buffer, or 0.

@@ -14,8 +14,8 @@ returns c =
     let sized = second .before .before in
     given-here 3 _ _ (rw (second .before .is-console .ensures, second .is-console2 .ensures, sized .before .size .ensures, sized .size2 .ensures) at (c .if1 .taken))
 
-presence-refusal-requires : tie.Need-presence-refusal-requires
-presence-refusal-requires c κs =
+pair-state-refusal-requires : tie.Need-pair-state-refusal-requires
+pair-state-refusal-requires c κs =
     let second = c .before in
     let none = rw (second .before .is-console .ensures, second .is-console2 .ensures) at (c .if1 .left) in
     let sized = second .before .before in
@@ -28,8 +28,8 @@ returns-2 c =
     let sized = second .before .before in
     given-later 3 _ _ _
     (rw (second .before .is-console .ensures, second .is-console2 .ensures, sized .before .size .ensures, sized .size2 .ensures) at (passed .if1 .left))
-    (rw (sized .before .size .ensures, sized .size2 .ensures) at (c .presence-refusal .ensures))
+    (rw (sized .before .size .ensures, sized .size2 .ensures) at (c .pair-state-refusal .ensures))
 
 pub pair-refusal-spec : {M : Type 1} → statement M
 pair-refusal-spec =
-    tie.close (tie.spec (λ c κs. tt) (λ c κs. tt) (λ c κs. tt) (λ c κs. tt) returns presence-refusal-requires returns-2)
+    tie.close (tie.spec (λ c κs. tt) (λ c κs. tt) (λ c κs. tt) (λ c κs. tt) returns pair-state-refusal-requires returns-2)

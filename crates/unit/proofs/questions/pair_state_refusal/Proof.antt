@@ -1,11 +1,11 @@
--- `unit::questions::presence_refusal` meets its contract.
+-- `unit::questions::pair_state_refusal` meets its contract.
 -- Assumes nothing.
 use mathlib.Core.Path.{sym, _∙_}
 use native.Mathlib.Omega.{arith}
 use borrow.Author.Tests.{not-false}
 use Rattle.refusal.proofs.Refusals.{given-here, given-later}
-use Rattle.unit.proofs.questions.presence_refusal.Statement.{statement}
-use Rattle.unit.proofs.questions.presence_refusal.Tie as tie
+use Rattle.unit.proofs.questions.pair_state_refusal.Statement.{statement}
+use Rattle.unit.proofs.questions.pair_state_refusal.Tie as tie
 
 returns : tie.Need-returns
 returns c = given-here 11 _ _ (rw (c .before .holds .ensures) at (c .if1 .taken))
@@ -23,6 +23,6 @@ returns-2 c =
     given-later 11 _ _ _ (rw (passed .before .holds .ensures) at (passed .if1 .left))
     (rw (second .before .is-present .ensures, second .is-present2 .ensures) at (c .when .ensures))
 
-pub presence-refusal-spec : {M : Type 1} → statement M
-presence-refusal-spec =
+pub pair-state-refusal-spec : {M : Type 1} → statement M
+pair-state-refusal-spec =
     tie.close (tie.spec (λ c κs. tt) returns is-present-requires is-present-requires-2 (λ c κs. tt) returns-2)
