@@ -55,6 +55,11 @@ first-append [] b h = refl
 first-append ((number, true) ∷ later) b h = rw (not-e (eqb number 0) (and-l (not (eqb number 0)) (numbered later) h))
 first-append ((number, false) ∷ later) b h = first-append later b (and-r (not (eqb number 0)) (numbered later) h)
 
+-- three tests one after the other
+pub first-three : (x y z : ℕ × Bool) → numbered (x ∷ []) ≡ true → numbered (y ∷ []) ≡ true
+    → firstOf (firstRefusal (x ∷ [])) (firstOf (firstRefusal (y ∷ [])) (firstRefusal (z ∷ []))) ≡ firstRefusal (x ∷ y ∷ z ∷ [])
+first-three x y z h k = rw (← first-append (y ∷ []) (z ∷ []) k) (sym (first-append (x ∷ []) (y ∷ z ∷ []) h))
+
 -- what the first group gives is given; where it gives none, the second group's is
 module _ (a b : List (ℕ × Bool)) (h : numbered a ≡ true) (n : ℕ) (e : n ≡ firstRefusal a) where
   pub first-given : n ≢ 0 → n ≡ firstRefusal (a ++ b)

@@ -1,9 +1,8 @@
 -- `command::decoder::entry_numbers_refused` meets its contract.
 -- Assumes nothing.
-use mathlib.Core.Path.{refl, sym, ap, _∙_}
-use mathlib.Core.List.{[], _∷_}
-use Rattle.refusal.specs.Refusal.{_when_, firstRefusal, firstOf}
-use Rattle.refusal.proofs.Refusals.{first-append}
+use mathlib.Core.Path.{refl}
+use Rattle.refusal.specs.Refusal.{_when_}
+use Rattle.refusal.proofs.Refusals.{first-three}
 use Rattle.command.proofs.decoder.entry_numbers_refused.Statement.{statement}
 use Rattle.command.proofs.decoder.entry_numbers_refused.Tie as tie
 
@@ -23,8 +22,7 @@ returns c =
       three .when .ensures,
       three .before .is-console .ensures,
     )
-    (ap (firstOf (firstRefusal (3 when _ ∷ []))) (sym (first-append (4 when _ ∷ []) (5 when _ ∷ []) refl))
-    ∙ sym (first-append (3 when _ ∷ []) (4 when _ ∷ 5 when _ ∷ []) refl))
+    (first-three (3 when _) (4 when _) (5 when _) refl refl)
 
 pub entry-numbers-refused-spec : {M : Type 1} → statement M
 entry-numbers-refused-spec =

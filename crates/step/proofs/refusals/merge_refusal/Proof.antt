@@ -1,13 +1,11 @@
 -- `step::refusals::merge_refusal` meets its contract.
 -- Assumes nothing.
-use mathlib.Core.Path.{refl, sym, ap, _∙_}
-use mathlib.Core.List.{[], _∷_}
+use mathlib.Core.Path.{refl, sym, _∙_}
 use borrow.Author.Needs.{needs}
-use Rattle.refusal.specs.Refusal.{_when_, firstRefusal, firstOf}
-use Rattle.refusal.proofs.Refusals.{first-append}
+use Rattle.refusal.specs.Refusal.{_when_}
 use Rattle.room.specs.Step.{receiverGiverTests}
 use Rattle.store.specs.Layout.{roomIn}
-use Rattle.refusal.proofs.Refusals.{first-given, first-later}
+use Rattle.refusal.proofs.Refusals.{first-three, first-given, first-later}
 use Rattle.step.proofs.Groups.{both-present}
 use Rattle.step.proofs.refusals.merge_refusal.Statement.{statement}
 use Rattle.step.proofs.refusals.merge_refusal.Tie as tie
@@ -43,8 +41,7 @@ returns-2 c =
       fifteen .when .ensures,
       fifteen .before .is-behind .ensures,
     )
-    (ap (firstOf (firstRefusal (15 when _ ∷ []))) (sym (first-append (17 when _ ∷ []) (18 when _ ∷ []) refl))
-    ∙ sym (first-append (15 when _ ∷ []) (17 when _ ∷ 18 when _ ∷ []) refl)
+    (first-three (15 when _) (17 when _) (18 when _) refl refl
     ∙ first-later (receiverGiverTests (roomIn (a .s .now)) (a .receiver .0) (a .giver .0)) _ refl _ (both .receiver-giver-refusal .ensures) (passed .if1 .left))
 
 pub merge-refusal-spec : {M : Type 1} → statement M
