@@ -1,21 +1,34 @@
--- What stands in each cell of a merged board, and of a board after an entry.
+-- What stands in each cell of an empty board, of a merged one, and of a board after an entry.
 -- Assumes nothing.
 use Prim.Native.Nat.{ℕ, zero, suc, _+_, _-_, _*_, _<_}
 use mathlib.Core.Path.{_≡_, refl, sym, _∙_, ap}
 use mathlib.Core.List.{List, _++_}
-use mathlib.Core.Bool.{true, false, _&&_}
+use mathlib.Core.Bool.{Bool, true, false, cond, not, _&&_}
 use native.Mathlib.Omega.{arith}
 use native.Mathlib.Decide.{decLt}
-use borrow.Author.Tests.{eqb-false}
+use borrow.Author.Tests.{eqb-true, eqb-false}
 use lib.Dec.{eqb}
-use lib.ListN.{length, getD, set, List·getD-append}
+use lib.ListN.{length, getD, set, getD-replicate, List·getD-append}
 use lib.Seq.{getD-append-add, getD-set-other}
 use Rattle.laws.proofs.Logic.{either, and-rest}
 use Rattle.buffer.specs.Field.{wordAt, putWord}
 use Rattle.buffer.proofs.Fields.{bytes-word}
 use Rattle.buffer.proofs.Writes.{put-same, put-apart}
-use Rattle.board.specs.Board.{stripSize, stripCount, mergeStrip, mergeStrips, mergeBoard, levelAt, headingAt, marksAt, callsAt, alertsAt, flagAt, levelEntry, headingEntry, markPutEntry, markTakenEntry, callEntry, alertOnEntry, alertOffEntry, enter}
+use Rattle.board.specs.declared.Cell.{Cell}
+use Rattle.board.specs.declared.Cell.the-variants.{Level, Heading}
+use Rattle.board.specs.Board.{stripSize, stripCount, boardSize, emptyBoard, mergeStrip, mergeStrips, mergeBoard, levelAt, headingAt, marksAt, callsAt, alertsAt, flagAt, levelEntry, headingEntry, markPutEntry, markTakenEntry, callEntry, alertOnEntry, alertOffEntry, enter, mergeValue, valueIn, writingCode, followsGiver}
 use Rattle.board.proofs.Length.{mergeStrips-length}
+
+-- an empty board shows 0 everywhere
+pub empty-word : (i : ℕ) → i + 1 < boardSize → wordAt emptyBoard i ≡ 0
+empty-word i l =
+    let hi = getD-replicate {A = ℕ} boardSize i 0 0 (omega arith) in
+    let lo = getD-replicate {A = ℕ} boardSize (i + 1) 0 0 l in
+    omega arith
+
+pub value-empty : (cell : Cell) (k : ℕ) → k < stripCount → valueIn cell k emptyBoard ≡ 0
+value-empty Level k h = empty-word (levelAt k) (omega arith)
+value-empty Heading k h = empty-word (headingAt k) (omega arith)
 
 -- a byte of a merged board is a byte of the merged strip
 strips-at : (l a b : List ℕ) (n k i : ℕ) → k < n → i < stripSize → getD (mergeStrips l a b n) (stripSize * k + i) 0 ≡ getD (mergeStrip l a b k) i 0
@@ -54,6 +67,22 @@ module _ (l a b : List ℕ) (k : ℕ) (h : k < stripCount) where
   unfolding mergeStrip
   alerts-merged small = board-word 8 (omega arith) ∙ bytes-word _ small
 
+  -- "level and heading, each alone: b if a = l, else a.", where that fits 16 bits
+  pub value-merged : (cell : Cell) → mergeValue (valueIn cell k l) (valueIn cell k a) (valueIn cell k b) < 65536
+      → valueIn cell k (mergeBoard l a b) ≡ mergeValue (valueIn cell k l) (valueIn cell k a) (valueIn cell k b)
+  unfolding mergeStrip
+  value-merged Level small = ap (wordAt (mergeBoard l a b)) (omega arith) ∙ board-word 0 (omega arith) ∙ bytes-word _ small
+  value-merged Heading small = board-word 2 (omega arith) ∙ bytes-word _ small
+
+-- the value of a merge is that of the side taken
+pub side-taken : (value : ℕ → ℕ) (l p q : ℕ) → mergeValue l (value p) (value q) ≡ value (cond (followsGiver l (value p) (value q)) q p)
+side-taken value l p q = go (eqb (value p) l) (eqb (value q) l) refl refl
+  where
+    go : (s t : Bool) → eqb (value p) l ≡ s → eqb (value q) l ≡ t → cond s (value q) (value p) ≡ value (cond (s && not t) q p)
+    go false t d e = refl
+    go true false d e = refl
+    go true true d e = cc (eqb-true (value p) l d, eqb-true (value q) l e)
+
 -- the 16 bits at i share no byte with those at a place
 record Apart (i at : ℕ) : Type 0 where
   same : i ≡ at → ⊥
@@ -71,13 +100,14 @@ flag-kept s k x i a =
 
 module _ (code k x : ℕ) (s : List ℕ) where
   -- a 16-bit cell that an entry does not write stays as it was
-  cell-kept : (i : ℕ) → Apart i (levelAt k) → Apart i (headingAt k) → Apart i (marksAt k) → (eqb code callEntry ≡ true → Apart i (callsAt k))
-      → (eqb code alertOnEntry ≡ true → Apart i (alertsAt k)) → Apart i (flagAt k) → wordAt (enter code k x s) i ≡ wordAt s i
+  cell-kept : (i : ℕ) → (eqb code levelEntry ≡ true → Apart i (levelAt k)) → (eqb code headingEntry ≡ true → Apart i (headingAt k)) → Apart i (marksAt k)
+      → (eqb code callEntry ≡ true → Apart i (callsAt k)) → (eqb code alertOnEntry ≡ true → Apart i (alertsAt k)) → Apart i (flagAt k)
+      → wordAt (enter code k x s) i ≡ wordAt s i
   unfolding enter
   cell-kept i level heading marks calls alerts flag =
       let P : List ℕ → Type 0 = λ t. wordAt t i ≡ wordAt s i in
-      either P (eqb code levelEntry) (λ _. put-kept s (levelAt k) x i level)
-      (either P (eqb code headingEntry) (λ _. put-kept s (headingAt k) x i heading)
+      either P (eqb code levelEntry) (λ two. put-kept s (levelAt k) x i (level two))
+      (either P (eqb code headingEntry) (λ three. put-kept s (headingAt k) x i (heading three))
       (either P (eqb code markPutEntry) (λ _. put-kept s (marksAt k) _ i marks)
       (either P (eqb code markTakenEntry) (λ _. put-kept s (marksAt k) _ i marks)
       (either P (eqb code callEntry) (λ six. put-kept s (callsAt k) _ i (calls six))
@@ -85,18 +115,20 @@ module _ (code k x : ℕ) (s : List ℕ) where
       (λ seven. flag-kept (putWord s (alertsAt k) (wordAt s (alertsAt k) + 1)) k 1 i flag ∙ put-kept s (alertsAt k) _ i (alerts seven))
       (either P (eqb code alertOffEntry) (λ _. flag-kept s k 0 i flag) refl))))))
 
-  -- no entry but a call changes the calls, and none those of another strip; likewise the alert count
+  -- no entry but a call changes the calls, and none those of another strip; likewise the alert count, the level and the heading
   pub calls-kept : (j : ℕ) → eqb code callEntry && eqb j k ≡ false → wordAt (enter code k x s) (callsAt j) ≡ wordAt s (callsAt j)
   calls-kept j other =
-      cell-kept (callsAt j) (omega arith) (omega arith) (omega arith)
-      (λ six. let ne : j ≡ k → ⊥ = eqb-false j k (and-rest _ _ six other) in omega arith)
-      (λ seven. omega arith) (omega arith)
+      cell-kept (callsAt j) (omega arith) (omega arith) (omega arith) (λ six. omega (arith, eqb-false j k (and-rest _ _ six other))) (omega arith) (omega arith)
 
   pub alerts-kept : (j : ℕ) → eqb code alertOnEntry && eqb j k ≡ false → wordAt (enter code k x s) (alertsAt j) ≡ wordAt s (alertsAt j)
   alerts-kept j other =
-      cell-kept (alertsAt j) (omega arith) (omega arith) (omega arith) (λ six. omega arith)
-      (λ seven. let ne : j ≡ k → ⊥ = eqb-false j k (and-rest _ _ seven other) in omega arith)
-      (omega arith)
+      cell-kept (alertsAt j) (omega arith) (omega arith) (omega arith) (omega arith) (λ seven. omega (arith, eqb-false j k (and-rest _ _ seven other))) (omega arith)
+
+  pub value-kept : (cell : Cell) (j : ℕ) → eqb code (writingCode cell) && eqb j k ≡ false → valueIn cell j (enter code k x s) ≡ valueIn cell j s
+  value-kept Level j other =
+      cell-kept (levelAt j) (λ two. omega (arith, eqb-false j k (and-rest _ _ two other))) (omega arith) (omega arith) (omega arith) (omega arith) (omega arith)
+  value-kept Heading j other =
+      cell-kept (headingAt j) (omega arith) (λ three. omega (arith, eqb-false j k (and-rest _ _ three other))) (omega arith) (omega arith) (omega arith) (omega arith)
 
 module _ (k x : ℕ) (s : List ℕ) (inside : alertsAt k + 1 < length s) where
   -- "06 adds 1 to calls; 07 adds 1 to the alert count"
@@ -109,3 +141,9 @@ module _ (k x : ℕ) (s : List ℕ) (inside : alertsAt k + 1 < length s) where
   alert-counted small =
       flag-kept (putWord s (alertsAt k) (wordAt s (alertsAt k) + 1)) k 1 (alertsAt k) (omega arith)
       ∙ put-same s (alertsAt k) (wordAt s (alertsAt k) + 1) inside small
+
+  -- "02 level", "03 heading": the operand, where it fits 16 bits
+  pub value-entered : (cell : Cell) → x < 65536 → valueIn cell k (enter (writingCode cell) k x s) ≡ x
+  unfolding enter
+  value-entered Level small = put-same s (levelAt k) x (omega arith) small
+  value-entered Heading small = put-same s (headingAt k) x (omega arith) small

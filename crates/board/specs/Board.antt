@@ -1,12 +1,15 @@
--- "32 strips of 12 bytes, 384 in all." The cells of a strip, what an entry writes, and how three boards are merged.
+-- "32 strips of 12 bytes, 384 in all." The cells of a strip, what an entry writes, how three boards are merged, and the cells whose origin can
+-- be asked about.
 use Prim.Native.Nat.{ℕ, zero, suc, _+_, _-_, _*_, _%_, _^_}
-use mathlib.Core.Bool.{Bool, true, false, cond}
+use mathlib.Core.Bool.{Bool, true, false, cond, not, _&&_}
 use mathlib.Core.List.{List, [], _∷_, _++_}
 use lib.Bits.{bitAnd, bitOr}
 use lib.Dec.{eqb, ltb}
 use lib.ListN.{getD, set}
 use Rattle.buffer.specs.Field.{word, wordAt, putWord, zeros}
 use Rattle.buffer.specs.Row.{bit}
+use Rattle.board.specs.declared.Cell.{Cell}
+use Rattle.board.specs.declared.Cell.the-variants.{Level, Heading}
 
 abbrev pub stripSize : ℕ
 stripSize = 12
@@ -129,3 +132,34 @@ enter code k x s =
     (cond (eqb code callEntry) (putWord s (callsAt k) (wordAt s (callsAt k) + 1))
     (cond (eqb code alertOnEntry) (set (putWord s (alertsAt k) (wordAt s (alertsAt k) + 1)) (flagAt k) 1)
     (cond (eqb code alertOffEntry) (set s (flagAt k) 0) s))))))
+
+-- "cell (0 level, 1 heading)": of the cells of a strip, the two whose origin can be asked about. The number of each; another number is
+-- refused (5) and never read as a cell.
+abbrev pub cellCount : ℕ
+cellCount = 2
+
+abbrev pub cellNumber : Cell → ℕ
+cellNumber Level = 0
+cellNumber Heading = 1
+
+abbrev pub cellOf : ℕ → Cell
+cellOf zero = Level
+cellOf (suc n) = Heading
+
+-- the place of such a cell of strip k, and the value that a board has there
+abbrev pub cellAt : Cell → ℕ → ℕ
+cellAt Level k = levelAt k
+cellAt Heading k = headingAt k
+
+abbrev pub valueIn : Cell → ℕ → List ℕ → ℕ
+valueIn cell k s = wordAt s (cellAt cell k)
+
+-- the code of the entries that write it
+abbrev pub writingCode : Cell → ℕ
+writingCode Level = levelEntry
+writingCode Heading = headingEntry
+
+-- "if the receiver's value equals the base's and the giver's differs": the giver's side alone changed the value. Where all three are equal
+-- the receiver's side is followed, though the merged value is the giver's too.
+abbrev pub followsGiver : ℕ → ℕ → ℕ → Bool
+followsGiver l a b = eqb a l && not (eqb b l)

@@ -1,4 +1,6 @@
 // A board: 32 strips of 12 bytes, and the rules that make the board of a new version.
+pub mod values;
+
 use buffer::copy;
 use buffer::is_same;
 use buffer::part_of;
@@ -39,6 +41,12 @@ const REST: usize = 11;
 
 // The marks of a strip.
 pub const MARK_COUNT: usize = 16;
+
+// Of the cells of a strip, the two whose origin can be asked about.
+pub enum Cell {
+    Level,
+    Heading,
+}
 
 // The codes of entries.
 pub const LEVEL_ENTRY: usize = 0x02;

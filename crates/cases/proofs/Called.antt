@@ -11,6 +11,7 @@ use lib.ListN.{length, drop}
 use lib.Seq.{drop-at}
 use borrow.Author.Tests.{eqb-true, lt-ltb, not-false}
 use Rattle.buffer.specs.Field.{overwrite}
+use Rattle.board.specs.Board.{stripCount, cellCount, cellOf}
 use Rattle.laws.proofs.Logic.{either}
 use Rattle.graph.proofs.Meet.{meet-self}
 use Rattle.refusal.specs.Refusal.{firstRefusal}
@@ -22,15 +23,16 @@ use Rattle.command.specs.declared.Decoded.the-variants.{Whole, Refused}
 use Rattle.command.specs.Decode.{decode}
 use Rattle.refusal.proofs.Refusals.{none-applies}
 use Rattle.command.proofs.Ranges.{decode-range}
-use Rattle.room.specs.Room.{Room, headOf, common, openSettings, fresh}
+use Rattle.room.specs.Room.{Room, headOf, present, common, openSettings, fresh}
 use Rattle.room.specs.Sound.{soundRoom}
+use Rattle.room.specs.Origin.{origin}
 use Rattle.room.specs.Step.{stepRefusal, step}
-use Rattle.room.proofs.Sound.{sound-facts}
+use Rattle.room.proofs.Sound.{present-console, sound-facts}
 use Rattle.room.proofs.Steps.{common-meet, step-sound, fresh-sound}
 use Rattle.store.specs.Layout.{storeSize, encode}
 use Rattle.store.proofs.RoundTrip.{encode-length, room-encode, holds-encode}
 use Rattle.tape.specs.Tape.{tapeOf}
-use Rattle.unit.specs.Calls.{Outcome, replied, written, openOutcome, stepOutcome, commandOutcome, pauseOutcome, commonReply, command, replyTo, storeAfter}
+use Rattle.unit.specs.Calls.{Outcome, replied, written, openOutcome, stepOutcome, commandOutcome, pauseOutcome, commonReply, originReply, command, replyTo, storeAfter}
 use Rattle.unit.specs.Journal.{Journal, feed}
 use Rattle.unit.specs.Convergence.{afterCalls}
 use Rattle.unit.proofs.Commanded.{held-refused}
@@ -100,6 +102,14 @@ module _ (r : Room) (rest : List ℕ) (s : soundRoom r ≡ true) where
   head-called : (c : ℕ) → c < consoleCount → commonReply (encode r ++ rest) c c ≡ headReply (headOf r c)
   head-called c l = head-told c l (headOf r c) refl
 
+  -- the origin of a cell
+  origin-called : (c k cell : ℕ) → present r c ≡ true → k < stripCount → cell < cellCount
+      → originReply (encode r ++ rest) c k cell ≡ replied 0 (origin r c k (cellOf cell))
+  unfolding originReply firstRefusal
+  origin-called c k cell p is-strip is-cell =
+      let named = present-console r c (sound-facts r s .sixteen) p in
+      rw (holds-encode r rest s, room-encode r rest s, lt-ltb c consoleCount named, lt-ltb k stripCount is-strip, lt-ltb cell cellCount is-cell, p)
+
 -- a list of commands, one call after the other: the buffer afterwards, the answers, and the room
 module _ (rest : List ℕ) where
   made-called : (r : Room) → soundRoom r ≡ true → (cs : List (List ℕ)) (j : Journal)
@@ -130,6 +140,7 @@ called r rest commands s =
       stored = made-called rest r s commands;
       paused = pause-called (made r commands) rest after;
       heads = head-called (made r commands) rest after;
+      origins = origin-called (made r commands) rest after;
     }
 
 -- an opening gives such a buffer

@@ -1,16 +1,20 @@
 -- The theorem of the table: what the definitions give is what the paper says, by computation.
 use mathlib.Core.Path.{_≡_, refl}
 use mathlib.Core.List.{map}
-use Rattle.board.specs.Board.{mergeFlag, mergeStrip}
+use Rattle.board.specs.Board.{mergeFlag, mergeStrip, mergeStrips, enter}
 use Rattle.graph.specs.Below.{everyBelow, someBelow, highestBelow}
 use Rattle.graph.specs.Graph.{ancestor, isMeet, meet}
 use Rattle.refusal.specs.Refusal.{firstRefusal}
 use Rattle.command.specs.Code.{consoleCount, shapeOf, lengthOf, numberAt, operandsOf, isOperand, kindOf}
 use Rattle.command.specs.Decode.{commandRefusal, decode}
 use Rattle.room.specs.Room.{common}
+use Rattle.room.specs.Boards.{boardMade, boardOf}
+use Rattle.room.specs.Origin.{originOf, origin}
 use Rattle.room.specs.Step.{stateTests, stepRefusal, step}
+use Rattle.store.specs.Layout.{holdsStore}
 use Rattle.tape.specs.Tape.{versionRecords, headRecords, tapeOf}
 use Rattle.cases.specs.Run.{Case, merge, forward, answerIn, roomAfter, made, answers, session}
+use Rattle.cases.specs.Requests.{originCases}
 use Rattle.cases.specs.Starred.{crossed, stuck, acceptedBy, accepted, starred}
 
 -- the stuck room takes no merge and no fast-forward: its own declarations, for the checker's bound on the steps of one
@@ -26,3 +30,8 @@ stuck-forwards = refl
 pub starred-hold : map (λ (c : Case). c .got) starred ≡ map (λ (c : Case). c .due) starred
 unfolding mergeFlag mergeStrip everyBelow someBelow highestBelow ancestor isMeet meet firstRefusal shapeOf lengthOf numberAt operandsOf isOperand kindOf commandRefusal decode common stateTests stepRefusal step versionRecords headRecords tapeOf answerIn roomAfter made answers session crossed stuck starred
 starred-hold = rw (stuck-merges, stuck-forwards)
+
+-- those of the requests
+pub origins-hold : map (λ (c : Case). c .got) originCases ≡ map (λ (c : Case). c .due) originCases
+unfolding mergeFlag mergeStrip mergeStrips enter everyBelow someBelow highestBelow ancestor isMeet meet firstRefusal shapeOf lengthOf numberAt operandsOf isOperand kindOf commandRefusal decode common stateTests stepRefusal step boardMade boardOf originOf origin holdsStore answerIn roomAfter made originCases
+origins-hold = refl

@@ -1,15 +1,18 @@
 -- What the rows say of rooms is said of the calls, on a buffer that begins with the bytes of a sound room, whatever lies behind them.
 use Prim.Native.Nat.{ℕ, _≤_, _<_}
 use mathlib.Core.Path.{_≡_}
+use mathlib.Core.Bool.{true}
 use mathlib.Core.List.{List, [], _∷_, _++_, map}
 use mathlib.Core.Option.{Option, none, some}
 use lib.ListN.{length}
+use Rattle.board.specs.Board.{stripCount, cellCount, cellOf}
 use Rattle.command.specs.Code.{consoleCount}
-use Rattle.room.specs.Room.{Room, headOf}
+use Rattle.room.specs.Room.{Room, headOf, present}
+use Rattle.room.specs.Origin.{origin}
 use Rattle.store.specs.Layout.{encode}
 use Rattle.tape.specs.Tape.{tapeOf}
 use Rattle.unit.specs.declared.Reply.{Reply}
-use Rattle.unit.specs.Calls.{Call, command, replied, written, pauseOutcome, commonReply, replyTo, storeAfter}
+use Rattle.unit.specs.Calls.{Call, command, replied, written, pauseOutcome, commonReply, originReply, replyTo, storeAfter}
 use Rattle.unit.specs.Journal.{Journal}
 use Rattle.unit.specs.Convergence.{afterCalls}
 use Rattle.cases.specs.Run.{made, answers}
@@ -33,3 +36,6 @@ pub record Called (r : Room) (rest : List ℕ) (commands : List (List ℕ)) : Ty
   pub paused : (output : List ℕ) → length (tapeOf (made r commands)) ≤ length output
       → pauseOutcome (encode (made r commands) ++ rest) output ≡ written 0 (length (tapeOf (made r commands))) (tapeOf (made r commands)) output
   pub heads : (c : ℕ) → c < consoleCount → commonReply (encode (made r commands) ++ rest) c c ≡ headReply (headOf (made r commands) c)
+  -- where a cell of a present console comes from
+  pub origins : (c k cell : ℕ) → present (made r commands) c ≡ true → k < stripCount → cell < cellCount
+      → originReply (encode (made r commands) ++ rest) c k cell ≡ replied 0 (origin (made r commands) c k (cellOf cell))

@@ -1,3 +1,4 @@
 pub mod Run
 pub mod Starred
+pub mod Requests
 pub mod Called

@@ -28,6 +28,9 @@ fork new old = 0x01 ∷ new ∷ old ∷ []
 abbrev pub level : ℕ → ℕ → ℕ → List ℕ
 level c k x = 0x02 ∷ c ∷ k ∷ x / 256 ∷ x % 256 ∷ []
 
+abbrev pub heading : ℕ → ℕ → ℕ → List ℕ
+heading c k x = 0x03 ∷ c ∷ k ∷ x / 256 ∷ x % 256 ∷ []
+
 abbrev pub call : ℕ → ℕ → List ℕ
 call c k = 0x06 ∷ c ∷ k ∷ []
 

@@ -1,12 +1,12 @@
 -- "One code byte, then operands; the code alone decides the length." Codes of commands and of tape records, the widths of what follows
--- each, and which numbers may stand there.
+-- each, and which numbers may stand there or in a question.
 use Prim.Native.Nat.{ℕ, _+_}
 use mathlib.Core.Bool.{Bool, cond, _&&_}
 use mathlib.Core.List.{List}
 use lib.Dec.{eqb, leb, ltb}
 use lib.ListN.{getD}
 use Rattle.buffer.specs.Field.{wordAt}
-use Rattle.board.specs.Board.{stripCount, markCount, levelEntry, headingEntry, markPutEntry, markTakenEntry, callEntry, alertOffEntry}
+use Rattle.board.specs.Board.{stripCount, markCount, cellCount, levelEntry, headingEntry, markPutEntry, markTakenEntry, callEntry, alertOffEntry}
 use Rattle.command.specs.declared.Kind.{Kind}
 use Rattle.command.specs.declared.Kind.the-variants as kind-is
 use Rattle.command.specs.declared.Shape.{Shape}
@@ -110,6 +110,9 @@ isConsole c = ltb c consoleCount
 
 abbrev pub isStrip : ℕ → Bool
 isStrip k = ltb k stripCount
+
+abbrev pub isCell : ℕ → Bool
+isCell cell = ltb cell cellCount
 
 -- "level (0 to 600 ..)", "heading (0 to 360 ..)", "mark k .. k from 0 to 15", "0 for 06 to 08": what an entry of this code may carry
 unfoldable pub isOperand : ℕ → ℕ → Bool

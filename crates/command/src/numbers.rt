@@ -1,4 +1,4 @@
-// Which numbers may stand in a command or a record: codes, consoles, strips and operands.
+// Which numbers may stand in a command, a record or a question: codes, consoles, strips, cells and operands.
 use board::ALERT_OFF_ENTRY;
 use board::HEADING_ENTRY;
 use board::LEVEL_ENTRY;
@@ -6,8 +6,9 @@ use board::MARK_COUNT;
 use board::MARK_PUT_ENTRY;
 use board::MARK_TAKEN_ENTRY;
 use board::STRIP_COUNT;
+use board::values::CELL_COUNT;
 ghost use mathlib.Core.Path.{_≡_};
-ghost use Rattle.command.specs.Code.{isEntryCode, isConsole, isStrip, isOperand};
+ghost use Rattle.command.specs.Code.{isEntryCode, isConsole, isStrip, isCell, isOperand};
 
 // The number of consoles.
 pub const CONSOLES: usize = 16;
@@ -36,6 +37,13 @@ pub fn is_strip(k: usize) -> bool
     ensures { λ r. ⌜ r ≡ isStrip k ⌝ }
 {
     k < STRIP_COUNT
+}
+
+// Whether a number is that of a cell whose origin can be asked about.
+pub fn is_cell(cell: usize) -> bool
+    ensures { λ r. ⌜ r ≡ isCell cell ⌝ }
+{
+    cell < CELL_COUNT
 }
 
 // Whether an entry of a code may carry a number.

@@ -1,5 +1,7 @@
 // Questions to bytes that hold a sound store: what its room is set to, how many versions it holds, who is present, heads and common versions, ancestors
 // and boards. Each answer is read where it stands.
+pub mod origin;
+
 use buffer::common_members;
 use buffer::has_member;
 use buffer::word_at;

@@ -11,11 +11,11 @@ use native.Mathlib.Omega.{arith}
 use native.Mathlib.Decide.{ℕ-discrete}
 use borrow.Author.Tests.{eqb-true, eq-eqb, ne-eqb}
 use lib.Dec.{eqb}
-use lib.ListN.{length, getD-replicate}
+use lib.ListN.{length}
 use Rattle.laws.proofs.Logic.{decide, and-l, and-r, cond-true, cond-false}
 use Rattle.buffer.specs.Field.{wordAt}
-use Rattle.board.specs.Board.{stripCount, boardSize, emptyBoard, callsAt, alertsAt, mergeCount, mergeBoard, enter, alertOnEntry, callEntry}
-use Rattle.board.proofs.Cells.{calls-kept, alerts-kept, call-counted, alert-counted, calls-merged, alerts-merged}
+use Rattle.board.specs.Board.{stripCount, emptyBoard, callsAt, alertsAt, mergeCount, mergeBoard, enter, alertOnEntry, callEntry}
+use Rattle.board.proofs.Cells.{empty-word, calls-kept, alerts-kept, call-counted, alert-counted, calls-merged, alerts-merged}
 use Rattle.graph.specs.declared.Node.{Node}
 use Rattle.graph.specs.declared.Node.the-variants.{Entry, Merge}
 use Rattle.graph.specs.Graph.{Graph, entry, merge, versionCount, ancestor, nodeOf, meetNumber, baseOf, parentsLower}
@@ -137,20 +137,13 @@ module _ (w : ℕ) (place : ℕ → ℕ)
             ∙ sym (held-old (λ e. entryIs w k (nodeOf (n ∷ g) e)) n g v old ∙ tally-same w k n g v)
       ]
 
--- an empty board counts nothing
-nothing : (i : ℕ) → i + 1 < boardSize → wordAt emptyBoard i ≡ 0
-nothing i l =
-    let hi = getD-replicate {A = ℕ} boardSize i 0 0 (omega arith) in
-    let lo = getD-replicate {A = ℕ} boardSize (i + 1) 0 0 l in
-    omega arith
-
 -- "the call counter equals the number of call entries heard for that strip", of every version; and the alert count the alert entries
 pub calls-tally : (g : Graph) (v k : ℕ) → WellFormed g → length g < 65535 → v < versionCount g → k < stripCount
     → wordAt (boardOf g v) (callsAt k) ≡ tally callEntry k g v
 calls-tally g v k wf small l inside =
-    counter-tally callEntry callsAt (λ j m. nothing (callsAt j) (omega arith)) calls-kept call-counted calls-merged k inside g v wf small l
+    counter-tally callEntry callsAt (λ j m. empty-word (callsAt j) (omega arith)) calls-kept call-counted calls-merged k inside g v wf small l
 
 pub alerts-tally : (g : Graph) (v k : ℕ) → WellFormed g → length g < 65535 → v < versionCount g → k < stripCount
     → wordAt (boardOf g v) (alertsAt k) ≡ tally alertOnEntry k g v
 alerts-tally g v k wf small l inside =
-    counter-tally alertOnEntry alertsAt (λ j m. nothing (alertsAt j) (omega arith)) alerts-kept alert-counted alerts-merged k inside g v wf small l
+    counter-tally alertOnEntry alertsAt (λ j m. empty-word (alertsAt j) (omega arith)) alerts-kept alert-counted alerts-merged k inside g v wf small l

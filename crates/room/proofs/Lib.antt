@@ -6,3 +6,4 @@ pub mod NewMeets
 pub mod Accepted
 pub mod Steps
 pub mod Counters
+pub mod Origins

@@ -1,4 +1,5 @@
 pub mod Room
 pub mod Sound
 pub mod Boards
+pub mod Origin
 pub mod Step

@@ -10,15 +10,15 @@ use lib.ListN.{length}
 use borrow.Author.Tests.{ltb-true, ltb-false, le-ltb, ne-eqb, not-false}
 use Rattle.laws.proofs.Logic.{or-none-l, or-none-r, or-same}
 use Rattle.buffer.specs.Field.{overwrite}
-use Rattle.board.specs.Board.{boardSize}
+use Rattle.board.specs.Board.{stripCount, boardSize, cellCount}
 use Rattle.refusal.specs.Refusal.{_when_, firstRefusal, firstOf}
-use Rattle.command.specs.Code.{consoleCount, isConsole}
+use Rattle.command.specs.Code.{consoleCount, isConsole, isStrip, isCell}
 use Rattle.room.specs.Room.{present, openSettings}
 use Rattle.room.specs.Sound.{settingsInRange}
 use Rattle.room.specs.Step.{absent}
 use Rattle.store.specs.Layout.{storeSize, roomIn, holdsStore}
 use Rattle.unit.specs.declared.Reply.{Reply}
-use Rattle.unit.specs.Calls.{Outcome, replied, written, tooShort, bufferTests, openTests, consoleTests, pairTests}
+use Rattle.unit.specs.Calls.{Outcome, replied, written, tooShort, bufferTests, openTests, consoleStateTests, consoleTests, pairStateTests, pairTests, originTests}
 use Rattle.refusal.proofs.Refusals.{none-applies, numbered, first-append, first-none}
 
 -- a call with this reply, which left this in the lent buffer, went as it should
@@ -92,7 +92,10 @@ pair-allowed s c d e z =
       there = not-false (present (roomIn s) d) (or-none-r (absent (roomIn s) c) _ twelve);
     }
 
--- a console is asked after as two that are the same
+-- a console is asked about as two that are the same
+pub pair-state-sole : (s : List ℕ) (c : ℕ) → firstRefusal (pairStateTests s c c) ≡ firstRefusal (consoleStateTests s c)
+pair-state-sole s c = rw (or-same (absent (roomIn s) c))
+
 pub pair-sole : (s : List ℕ) (c : ℕ) → firstRefusal (pairTests s c c) ≡ firstRefusal (consoleTests s c)
 pair-sole s c = rw (or-same (not (isConsole c)), or-same (absent (roomIn s) c))
 
@@ -101,3 +104,22 @@ pub board-allowed : (s : List ℕ) (c : ℕ) (output : List ℕ) {n : ℕ} → n
 board-allowed s c output e z =
     let n = buffer-allowed (consoleTests s c) output boardSize refl (sym e ∙ z) in
     (pair-allowed s c c refl (pair-sole s c ∙ n .0), n .1)
+
+-- a cell: what holds where its origin can be asked about
+pub record Askable (s : List ℕ) (c k cell : ℕ) : Type 0 where
+  pub is-console : c < consoleCount
+  pub is-strip : k < stripCount
+  pub is-cell : cell < cellCount
+  pub held : holdsStore s ≡ true
+  pub here : present (roomIn s) c ≡ true
+
+pub origin-allowed : (s : List ℕ) (c k cell : ℕ) → firstRefusal (originTests s c k cell) ≡ 0 → Askable s c k cell
+origin-allowed s c k cell z =
+    let n = none-applies (originTests s c k cell) refl z in
+    record {
+      is-console = ltb-true c consoleCount (not-false (isConsole c) (n .0));
+      is-strip = ltb-true k stripCount (not-false (isStrip k) (n .1 .0));
+      is-cell = ltb-true cell cellCount (not-false (isCell cell) (n .1 .1 .0));
+      held = not-false (holdsStore s) (n .1 .1 .1 .0);
+      here = not-false (present (roomIn s) c) (n .1 .1 .1 .1 .0);
+    }

@@ -1,18 +1,18 @@
 -- Demand 3: consoles that heard the same entries show the same board, a common version holds what both have heard and every version common
--- to both leads to it, and the call counters and heard counts are what was heard.
+-- to both leads to it, the call counters and heard counts are what was heard, and an origin is an entry that was heard.
 -- Assumes nothing.
 use Prim.Native.Nat.{ℕ, suc, _≤_, _<_}
 use mathlib.Core.Path.{_≡_, refl, sym, _∙_, ap, subst}
 use mathlib.Core.Bool.{Bool, true, _&&_}
 use mathlib.Core.List.{List, map}
-use mathlib.Core.Option.{Option, none, some}
+use mathlib.Core.Option.{Option, none, some, Option·map}
 use native.Mathlib.Omega.{arith}
 use borrow.Author.Tests.{lt-ltb, le-ltb}
 use lib.ListN.{length, length-map}
 use Rattle.laws.proofs.Logic.{and-l, and-r, and-both}
 use Rattle.buffer.specs.Field.{wordAt}
 use Rattle.buffer.proofs.Fields.{wordAt-left}
-use Rattle.board.specs.Board.{stripCount, boardSize, callsAt, callEntry}
+use Rattle.board.specs.Board.{stripCount, boardSize, callsAt, callEntry, cellCount, cellOf}
 use Rattle.graph.specs.Below.{countBelow}
 use Rattle.graph.specs.Graph.{versionCount, ancestor, isEntry}
 use Rattle.graph.proofs.Below.{count-ext}
@@ -22,16 +22,19 @@ use Rattle.refusal.specs.Refusal.{firstRefusal}
 use Rattle.command.specs.Code.{consoleCount, isConsole}
 use Rattle.room.specs.Room.{Room, head, heardCount}
 use Rattle.room.specs.Boards.{boardOf}
+use Rattle.room.specs.Origin.{origin}
 use Rattle.room.proofs.Sound.{Sound, versions-small, present-console, present-head}
 use Rattle.room.proofs.Steps.{common-meet}
 use Rattle.room.proofs.Counters.{tally, calls-tally}
+use Rattle.room.proofs.Origins.{origin-heard, origin-wrote}
 use Rattle.room.proofs.Lengths.{boardOf-length}
 use Rattle.store.specs.Layout.{roomIn, holdsStore}
+use Rattle.store.proofs.RoundTrip.{holds-sound}
 use Rattle.store.proofs.Whole.{whole-sound}
-use Rattle.unit.specs.Calls.{replied, written, boardOutcome, heardReply, commonReply}
+use Rattle.unit.specs.Calls.{replied, written, boardOutcome, heardReply, commonReply, originReply}
 use Rattle.unit.specs.Journal.{Journal, Made, entered, merged, madeBy, isPresent, headNumber, leads, madeAs, wasEntered, holds, hasHeard, entriesHeard, callOf, callsHeard}
-use Rattle.unit.specs.Convergence.{Common, Converged, Demand3}
-use Rattle.unit.proofs.Reading.{leads-ancestor, entered-entry, call-entry}
+use Rattle.unit.specs.Convergence.{Common, Origin, Converged, Demand3}
+use Rattle.unit.proofs.Reading.{leads-ancestor, made-node, entered-entry, call-entry}
 use Rattle.unit.proofs.Matched.{journalOf, matched}
 
 -- what the journal of a room says is what the room says
@@ -111,7 +114,7 @@ module _ (store : List ℕ) (h : holdsStore store ≡ true) where
         )
 
   module _ (c : ℕ) (p : isPresent (journalIn store) c ≡ true) where
-    board-shown : (output : List ℕ) → boardSize ≤ length output
+    pub board-shown : (output : List ℕ) → boardSize ≤ length output
         → boardOutcome store c output ≡ written 0 boardSize (boardOf (roomIn store .versions) (head (roomIn store) c)) output
     unfolding boardOutcome firstRefusal
     board-shown output fits = cc (h, console c p, le-ltb (length output) boardSize fits)
@@ -119,6 +122,21 @@ module _ (store : List ℕ) (h : holdsStore store ≡ true) where
     heard-count : heardReply store c ≡ replied 0 (entriesHeard (journalIn store) c)
     unfolding heardReply firstRefusal
     heard-count = cc (h, console c p, entries-count (roomIn store) c)
+
+    origin-told : (k cell : ℕ) → k < stripCount → cell < cellCount → (v : ℕ) × Origin store (journalIn store) c k cell v
+    unfolding originReply firstRefusal
+    origin-told k cell is-strip is-cell =
+        let r = roomIn store in
+        let sound = holds-sound store h in (
+          origin r c k (cellOf cell),
+          record {
+            answered = cc (h, console c p, lt-ltb k stripCount is-strip, lt-ltb cell cellCount is-cell);
+            heard = λ l. holds-ancestor r (head r c) (origin r c k (cellOf cell)) ∙ origin-heard r c k (cellOf cell) sound p is-strip l;
+            entry = λ l.
+                let e = origin-wrote r c k (cellOf cell) sound p is-strip l in
+                (e .0, made-node (r .versions) (origin r c k (cellOf cell)) ∙ ap (Option·map madeBy) (e .1));
+          },
+        )
 
     calls-counted : (k : ℕ) → k < stripCount → (output : List ℕ) → boardSize ≤ length output
         → (boardOutcome store c output .reply ≡ replied 0 boardSize)
@@ -140,6 +158,7 @@ module _ (store : List ℕ) (h : holdsStore store ≡ true) where
     commons = common-version;
     calls = λ c k p. calls-counted c p k;
     heard = heard-count;
+    origins = λ c k cell p. origin-told c p k cell;
   }
 
 pub demand-3 : Demand3

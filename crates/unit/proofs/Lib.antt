@@ -4,4 +4,5 @@ pub mod Taken
 pub mod Reading
 pub mod Matched
 pub mod Convergence
+pub mod Traced
 pub mod RoundTrip

@@ -28,7 +28,7 @@ made-chosen : (b : Bool) (n o : Option Node) → cond b (Option·map madeBy n) (
 made-chosen true n o = refl
 made-chosen false n o = refl
 
-made-node : (g : Graph) (v : ℕ) → madeAs (map madeBy g) v ≡ Option·map madeBy (nodeOf g v)
+pub made-node : (g : Graph) (v : ℕ) → madeAs (map madeBy g) v ≡ Option·map madeBy (nodeOf g v)
 unfolding madeAs nodeOf
 made-node [] v = refl
 made-node (n ∷ g) v = cc (length-map g madeBy, made-node g v, made-chosen (eqb v (versionCount g)) (some n) (nodeOf g v))

@@ -8,16 +8,17 @@ use mathlib.Core.Option.{Option, none, some}
 use lib.Dec.{eqb, ltb}
 use lib.ListN.{length}
 use Rattle.buffer.specs.Field.{overwrite}
-use Rattle.board.specs.Board.{boardSize}
+use Rattle.board.specs.Board.{boardSize, cellOf}
 use Rattle.command.specs.declared.Command.{Command}
 use Rattle.command.specs.declared.Decoded.{Decoded}
 use Rattle.command.specs.declared.Decoded.the-variants.{Whole, Refused}
 use Rattle.refusal.specs.Refusal.{_when_, firstRefusal}
-use Rattle.command.specs.Code.{isConsole}
+use Rattle.command.specs.Code.{isConsole, isStrip, isCell}
 use Rattle.command.specs.Decode.{decode}
 use Rattle.room.specs.Room.{Room, head, common, heardCount, openSettings, fresh}
 use Rattle.room.specs.Sound.{settingsInRange}
 use Rattle.room.specs.Boards.{boardOf}
+use Rattle.room.specs.Origin.{origin}
 use Rattle.room.specs.Step.{absent, versionLeft, stateTests, step}
 use Rattle.store.specs.Layout.{storeSize, encode, roomIn, holdsStore}
 use Rattle.tape.specs.Tape.{Content, contentOf, tapeTests, roomOf, tapeOf}
@@ -82,7 +83,7 @@ resumed (some t) store = written (firstRefusal (resumeTests (some t) store)) 0 (
 unfoldable pub resumeOutcome : List ℕ → List ℕ → Outcome
 resumeOutcome tape store = resumed (contentOf tape) store
 
--- The calls that ask a store: the three questions and pause. One that answers a number: refused by the first of its tests that applies,
+-- The calls that ask a store: the questions and pause. One that answers a number: refused by the first of its tests that applies,
 -- else that number.
 abbrev pub questionReply : List (ℕ × Bool) → ℕ → Reply
 questionReply tests number = replied (firstRefusal tests) number
@@ -91,22 +92,26 @@ questionReply tests number = replied (firstRefusal tests) number
 abbrev pub outputOutcome : List (ℕ × Bool) → ℕ → List ℕ → List ℕ → Outcome
 outputOutcome tests size new output = written (firstRefusal (bufferTests tests output size)) size new output
 
--- why a store can't be asked after a console
-abbrev pub consoleTests : List ℕ → ℕ → List (ℕ × Bool)
-consoleTests store console =
-    3 when not (isConsole console)
-    ∷ 11 when holdsNoStore store
+-- why a store can't be asked about a console: the refusals from the state
+abbrev pub consoleStateTests : List ℕ → ℕ → List (ℕ × Bool)
+consoleStateTests store console =
+    11 when holdsNoStore store
     ∷ 12 when absent (roomIn store) console
     ∷ []
 
--- and after two: the refusals from the state
+-- with the one from the input before them
+abbrev pub consoleTests : List ℕ → ℕ → List (ℕ × Bool)
+consoleTests store console =
+    3 when not (isConsole console)
+    ∷ consoleStateTests store console
+
+-- the same for two consoles
 abbrev pub pairStateTests : List ℕ → ℕ → ℕ → List (ℕ × Bool)
 pairStateTests store first second =
     11 when holdsNoStore store
     ∷ 12 when (absent (roomIn store) first || absent (roomIn store) second)
     ∷ []
 
--- before them the one from the input
 abbrev pub pairTests : List ℕ → ℕ → ℕ → List (ℕ × Bool)
 pairTests store first second =
     3 when (not (isConsole first) || not (isConsole second))
@@ -124,6 +129,22 @@ commonReply store first second =
     let room : Room = roomIn store in
     questionReply (pairTests store first second) (common room first second)
 
+-- "Add a question: console, strip, cell (0 level, 1 heading)." "(Another cell: 5.)" The refusals from the input, then those from the state.
+abbrev pub originInputTests : ℕ → ℕ → ℕ → List (ℕ × Bool)
+originInputTests console strip cell =
+    3 when not (isConsole console)
+    ∷ 4 when not (isStrip strip)
+    ∷ 5 when not (isCell cell)
+    ∷ []
+
+abbrev pub originTests : List ℕ → ℕ → ℕ → ℕ → List (ℕ × Bool)
+originTests store console strip cell = originInputTests console strip cell ++ consoleStateTests store console
+
+unfoldable pub originReply : List ℕ → ℕ → ℕ → ℕ → Reply
+originReply store console strip cell =
+    let room : Room = roomIn store in
+    questionReply (originTests store console strip cell) (origin room console strip (cellOf cell))
+
 -- "a console's board copied out"
 unfoldable pub boardOutcome : List ℕ → ℕ → List ℕ → Outcome
 boardOutcome store console output =
@@ -139,10 +160,12 @@ pauseOutcome store output =
     let tape : List ℕ = tapeOf (roomIn store) in
     outputOutcome (pauseTests store) (length tape) tape output
 
--- What a store is asked, with the output lent for it: "the three questions (board, heard count, common version)", and its tape.
+-- What a store is asked, with the output lent for it: "the three questions (board, heard count, common version)", where a cell comes from,
+-- and its tape.
 pub data Question : Type 0 where
   heard : ℕ → Question
   commonVersion : ℕ → ℕ → Question
+  cellOrigin : ℕ → ℕ → ℕ → Question
   board : ℕ → List ℕ → Question
   pause : List ℕ → Question
 
@@ -150,6 +173,7 @@ pub data Question : Type 0 where
 unfoldable pub answerTo : List ℕ → Question → Outcome
 answerTo store (heard console) = record { reply = heardReply store console; buffer = [] }
 answerTo store (commonVersion first second) = record { reply = commonReply store first second; buffer = [] }
+answerTo store (cellOrigin console strip cell) = record { reply = originReply store console strip cell; buffer = [] }
 answerTo store (board console output) = boardOutcome store console output
 answerTo store (pause output) = pauseOutcome store output
 

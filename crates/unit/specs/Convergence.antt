@@ -5,12 +5,13 @@ use Prim.Native.Nat.{ℕ, _≤_, _<_}
 use mathlib.Core.Path.{_≡_}
 use mathlib.Core.Bool.{Bool, true, false, _&&_}
 use mathlib.Core.List.{List, [], _∷_}
+use mathlib.Core.Option.{some}
 use lib.ListN.{length}
 use Rattle.buffer.specs.Field.{wordAt}
-use Rattle.board.specs.Board.{stripCount, boardSize, callsAt}
+use Rattle.board.specs.Board.{stripCount, boardSize, callsAt, cellCount, cellOf, writingCode}
 use Rattle.store.specs.Layout.{roomIn, holdsStore}
-use Rattle.unit.specs.Calls.{Call, opening, command, resume, question, replied, replyTo, storeAfter, boardOutcome, heardReply, commonReply}
-use Rattle.unit.specs.Journal.{Journal, isPresent, headNumber, feed, leads, holds, hasHeard, commonTo, entriesHeard, callsHeard}
+use Rattle.unit.specs.Calls.{Call, opening, command, resume, question, replied, replyTo, storeAfter, boardOutcome, heardReply, commonReply, originReply}
+use Rattle.unit.specs.Journal.{Journal, entered, isPresent, headNumber, feed, leads, madeAs, holds, hasHeard, commonTo, entriesHeard, callsHeard}
 
 -- the store and the journal after a list of calls
 unfoldable pub afterCalls : List ℕ → Journal → List Call → List ℕ × Journal
@@ -32,6 +33,12 @@ pub record Common (store : List ℕ) (j : Journal) (c d m : ℕ) : Type 0 where
   pub common : commonTo j c d m ≡ true
   pub last : (v : ℕ) → commonTo j c d v ≡ true → leads (j .versions) v m ≡ true
 
+-- the origin of a cell of a console's board
+pub record Origin (store : List ℕ) (j : Journal) (c k cell v : ℕ) : Type 0 where
+  pub answered : originReply store c k cell ≡ replied 0 v
+  pub heard : 0 < v → hasHeard j c v ≡ true
+  pub entry : 0 < v → (p : ℕ) × (madeAs (j .versions) v ≡ some (entered p (writingCode (cellOf cell)) k))
+
 pub record Converged (store : List ℕ) (j : Journal) : Type 0 where
   pub sound : holdsStore store ≡ true
   -- "After the list the store's present consoles and their heads are the book's."
@@ -45,6 +52,9 @@ pub record Converged (store : List ℕ) (j : Journal) : Type 0 where
       → (boardOutcome store c output .reply ≡ replied 0 boardSize) × (wordAt (boardOutcome store c output .buffer) (callsAt k) ≡ callsHeard j c k)
   -- heard counts are the number of entries heard
   pub heard : (c : ℕ) → isPresent j c ≡ true → heardReply store c ≡ replied 0 (entriesHeard j c)
+  -- where a level or heading comes from is answered; above 0 it is an entry that the console has heard, on that strip, with the code that
+  -- writes the cell. That it wrote the value shown is `OriginsTraced`: the journal has no operands.
+  pub origins : (c k cell : ℕ) → isPresent j c ≡ true → k < stripCount → cell < cellCount → (v : ℕ) × Origin store j c k cell v
 
 -- the claim: any bytes in the lent buffer, any journal, an opening or a resume that answered 0, and any list of calls after it
 abbrev pub Demand3 : Type 0

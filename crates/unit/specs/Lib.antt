@@ -1,3 +1,4 @@
 pub mod Calls
+pub mod Traced
 pub mod Journal
 pub mod Convergence

@@ -1,16 +1,21 @@
-// The calls that ask a store: a console's board and heard count, and the common version of two consoles.
+// The calls that ask a store: a console's board and heard count, the common version of two consoles, and where a level or heading comes from.
 use crate::Reply;
 use crate::answers::counted;
 use crate::answers::reply_of;
 use crate::answers::size;
+use board::values::cell_of;
 use buffer::copy;
+use command::numbers::is_cell;
 use command::numbers::is_console;
+use command::numbers::is_strip;
 use graph::Console;
+use graph::Strip;
 use query::board_of;
 use query::common_of;
 use query::head_of;
 use query::heard_count;
 use query::is_present;
+use query::origin::origin_of;
 use refusal::first_of;
 use refusal::when;
 use store::judge::holds;
@@ -20,7 +25,7 @@ ghost use Prim.Native.Nat.{_<_};
 ghost use Rattle.board.specs.Board.{boardSize};
 ghost use Rattle.refusal.specs.Refusal.{firstRefusal};
 ghost use Rattle.command.specs.Code.{consoleCount};
-ghost use Rattle.unit.specs.Calls.{bufferTests, consoleTests, pairStateTests, pairTests, heardReply, commonReply, boardOutcome};
+ghost use Rattle.unit.specs.Calls.{bufferTests, consoleTests, pairStateTests, pairTests, originInputTests, originTests, heardReply, commonReply, originReply, boardOutcome};
 
 // Why these bytes can't be asked after two consoles, or 0.
 fn pair_state_refusal(store: &[u8], c: Console, d: Console) -> u32
@@ -92,4 +97,43 @@ pub extern "C" fn room_common(store: &[u8], first: u32, second: u32) -> Reply
     }
     let v = common_of(store, Console(size(first)), Console(size(second)));
     counted(v.0)
+}
+
+// Why the origin of a cell can't be asked about by these numbers, or 0.
+fn origin_input_refusal(console: u32, strip: u32, cell: u32) -> u32
+    ensures { λ r. ⌜ r ≡ firstRefusal (originInputTests console strip cell) ⌝ }
+{
+    let console_out_of_range = when(3, !is_console(size(console)));
+    let strip_out_of_range = when(4, !is_strip(size(strip)));
+    let cell_out_of_range = when(5, !is_cell(size(cell)));
+    first_of(
+        console_out_of_range,
+        first_of(strip_out_of_range, cell_out_of_range),
+    )
+}
+
+// Why a store can't be asked about it, or 0.
+fn origin_refusal(store: &[u8], console: u32, strip: u32, cell: u32) -> u32
+    ensures { λ r. ⌜ r ≡ firstRefusal (originTests (now (store .entry)) console strip cell) ⌝ }
+{
+    let refusal = origin_input_refusal(console, strip, cell);
+    if refusal != 0 {
+        return refusal;
+    }
+    let c = size(console);
+    pair_state_refusal(store, Console(c), Console(c))
+}
+
+// The entry behind a level or heading of a console's board, or version 0 where none is met.
+#[no_mangle]
+pub extern "C" fn room_origin(store: &[u8], console: u32, strip: u32, cell: u32) -> Reply
+    ensures { λ r. ⌜ r ≡ originReply (now (store .entry)) console strip cell ⌝ }
+{
+    let refusal = origin_refusal(store, console, strip, cell);
+    if refusal != 0 {
+        return reply_of(refusal);
+    }
+    let v = head_of(store, Console(size(console)));
+    let origin = origin_of(store, v, Strip(size(strip)), cell_of(size(cell)));
+    counted(origin.0)
 }
