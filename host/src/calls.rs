@@ -1,9 +1,9 @@
-// The seven calls on lent bytes, as the paper says what each answers and writes, and the session program.
+// The calls on lent bytes, as the paper and the requests say what each answers and writes, and the session program.
 
 use crate::layout;
 use crate::model::{
-    capacity_is_in_range, command_length, common_version, console_board, decode, heard_count,
-    refusal, refuse_if, room_of_tape, step, tape_of, Room, CONSOLES,
+    capacity_is_in_range, cell_origin, command_length, common_version, console_board, decode,
+    heard_count, refusal, refuse_if, room_of_tape, step, tape_of, Cell, Room, CONSOLES, STRIPS,
 };
 
 /// The answer is 0 or the refusal; the count is the question's number or the bytes written, else 0.
@@ -64,6 +64,10 @@ pub fn common(store: &[u8], first: u32, second: u32) -> Reply {
     Reply::of(common_number(store, first, second))
 }
 
+pub fn origin(store: &[u8], console: u32, strip: u32, cell: u32) -> Reply {
+    Reply::of(origin_number(store, console, strip, cell))
+}
+
 // ---------------------------------------------------------------- what they are made of
 
 /// The room that the lent bytes hold, or refusal 11.
@@ -107,6 +111,18 @@ fn asked_console(console: u32) -> Result<usize, u32> {
     Ok(console)
 }
 
+/// The strip that a question names, or refusal 4.
+fn asked_strip(strip: u32) -> Result<usize, u32> {
+    let strip = strip as usize;
+    refuse_if(strip >= STRIPS, refusal::STRIP_TOO_HIGH)?;
+    Ok(strip)
+}
+
+/// The cell that a question names, or refusal 5.
+fn asked_cell(cell: u32) -> Result<Cell, u32> {
+    Cell::of_number(cell).ok_or(refusal::OPERAND_TOO_HIGH)
+}
+
 fn shown_board(store: &[u8], console: u32) -> Result<Vec<u8>, u32> {
     let console = asked_console(console)?;
     let room = room_in(store)?;
@@ -123,6 +139,13 @@ fn common_number(store: &[u8], first: u32, second: u32) -> Result<usize, u32> {
     let first = asked_console(first)?;
     let second = asked_console(second)?;
     common_version(&room_in(store)?, first, second).ok_or(refusal::CONSOLE_ABSENT)
+}
+
+fn origin_number(store: &[u8], console: u32, strip: u32, cell: u32) -> Result<usize, u32> {
+    let console = asked_console(console)?;
+    let strip = asked_strip(strip)?;
+    let cell = asked_cell(cell)?;
+    cell_origin(&room_in(store)?, console, strip, cell).ok_or(refusal::CONSOLE_ABSENT)
 }
 
 // ---------------------------------------------------------------- the session program

@@ -1,9 +1,11 @@
-// The comparison of an implementation of the seven calls with the model, call by call: every reply, and every byte of every
+// The comparison of an implementation of the calls with the model, call by call: every reply, and every byte of every
 // lent buffer and of guard bytes around it. The cases come from one seed, so that a difference can be met again.
 
 use crate::calls::{self, Reply};
 use crate::layout::{self, store_bytes, BOARD_BYTES};
-use crate::model::{code, decode, record, refusal, room_of_tape, step, tape_of, Room, CONSOLES};
+use crate::model::{
+    code, decode, record, refusal, room_of_tape, step, tape_of, Room, CONSOLES, STRIPS,
+};
 use crate::rng::Rng;
 use crate::{fast, gen, unit};
 use std::fmt;
@@ -12,7 +14,7 @@ use std::ops::AddAssign;
 
 // ---------------------------------------------------------------- implementations
 
-/// One implementation of the seven calls.
+/// One implementation of the calls.
 #[derive(Clone, Copy)]
 pub struct Calls {
     pub name: &'static str,
@@ -23,6 +25,7 @@ pub struct Calls {
     pub board: fn(&[u8], u32, &mut [u8]) -> Reply,
     pub heard: fn(&[u8], u32) -> Reply,
     pub common: fn(&[u8], u32, u32) -> Reply,
+    pub origin: fn(&[u8], u32, u32, u32) -> Reply,
 }
 
 pub const MODEL: Calls = Calls {
@@ -34,6 +37,7 @@ pub const MODEL: Calls = Calls {
     board: calls::board,
     heard: calls::heard,
     common: calls::common,
+    origin: calls::origin,
 };
 
 pub const FAST: Calls = Calls {
@@ -45,6 +49,7 @@ pub const FAST: Calls = Calls {
     board: fast::board,
     heard: fast::heard,
     common: fast::common,
+    origin: fast::origin,
 };
 
 pub const UNIT: Calls = Calls {
@@ -56,6 +61,7 @@ pub const UNIT: Calls = Calls {
     board: unit::board,
     heard: unit::heard,
     common: unit::common,
+    origin: unit::origin,
 };
 
 // ---------------------------------------------------------------- lent buffers
@@ -181,10 +187,11 @@ pub enum Call {
     Board { console: u32 },
     Heard { console: u32 },
     Common { first: u32, second: u32 },
+    Origin { console: u32, strip: u32, cell: u32 },
 }
 
 /// The calls, each with the answers that include/room.h lists for it.
-const LISTED: [(&str, &[usize]); 7] = [
+const LISTED: [(&str, &[usize]); 8] = [
     ("open", &[0, 8, 19]),
     (
         "command",
@@ -195,6 +202,7 @@ const LISTED: [(&str, &[usize]); 7] = [
     ("board", &[0, 3, 11, 12, 19]),
     ("heard", &[0, 3, 11, 12]),
     ("common", &[0, 3, 11, 12]),
+    ("origin", &[0, 3, 4, 5, 11, 12]),
 ];
 
 impl Call {
@@ -207,6 +215,7 @@ impl Call {
             Call::Board { .. } => 4,
             Call::Heard { .. } => 5,
             Call::Common { .. } => 6,
+            Call::Origin { .. } => 7,
         }
     }
 
@@ -220,6 +229,11 @@ impl Call {
             Call::Board { console } => (calls.board)(store, console, output),
             Call::Heard { console } => (calls.heard)(store, console),
             Call::Common { first, second } => (calls.common)(store, first, second),
+            Call::Origin {
+                console,
+                strip,
+                cell,
+            } => (calls.origin)(store, console, strip, cell),
         }
     }
 }
@@ -229,13 +243,28 @@ pub type Outcome<T> = Result<T, String>;
 
 const HIGHEST_REFUSAL: usize = refusal::BUFFER_TOO_SHORT as usize;
 
-/// How often each call gave each answer.
+/// The cells of a question for an origin: level and heading.
+const CELLS: [u32; 2] = [0, 1];
+
+/// The two kinds of an accepted origin: count 0, and a count above 0.
+const ORIGINS: [&str; 2] = ["origin of no entry", "origin of an entry"];
+
+/// How often each call gave each answer, and how often an accepted origin was of each kind.
 #[derive(Clone, Default)]
 pub struct Tally {
     answers: [[u64; HIGHEST_REFUSAL + 1]; LISTED.len()],
+    origins: [u64; ORIGINS.len()],
 }
 
 impl Tally {
+    /// Counts a reply that both sides gave.
+    fn note(&mut self, call: Call, reply: Reply) {
+        self.answers[call.place()][reply.answer as usize] += 1;
+        if matches!(call, Call::Origin { .. }) && reply.answer == 0 {
+            self.origins[usize::from(reply.count > 0)] += 1;
+        }
+    }
+
     pub fn calls(&self) -> u64 {
         self.answers.as_flattened().iter().sum()
     }
@@ -257,19 +286,30 @@ impl Tally {
         self.pairs().filter(|&(_, _, met)| met > 0).count()
     }
 
-    /// The listed pairs that were never met.
+    /// The kinds of accepted origins, and how often each was met.
+    fn origins(&self) -> impl Iterator<Item = (&'static str, u64)> {
+        ORIGINS.into_iter().zip(self.origins)
+    }
+
+    /// The listed pairs and the kinds of origins that were never met.
     fn missing(&self) -> Vec<String> {
-        self.pairs()
-            .filter(|&(_, _, met)| met == 0)
-            .map(|(name, answer, _)| format!("{name} {answer}"))
+        let pairs = self
+            .pairs()
+            .map(|(name, answer, met)| (format!("{name} {answer}"), met));
+        let origins = self.origins().map(|(kind, met)| (kind.to_string(), met));
+        pairs
+            .chain(origins)
+            .filter(|&(_, met)| met == 0)
+            .map(|(never_met, _)| never_met)
             .collect()
     }
 }
 
 impl AddAssign<&Tally> for Tally {
     fn add_assign(&mut self, other: &Tally) {
-        let others = other.answers.as_flattened();
-        let sums = self.answers.as_flattened_mut().iter_mut();
+        let others = other.answers.as_flattened().iter().chain(&other.origins);
+        let answers = self.answers.as_flattened_mut().iter_mut();
+        let sums = answers.chain(&mut self.origins);
         sums.zip(others).for_each(|(sum, other)| *sum += other);
     }
 }
@@ -280,7 +320,9 @@ impl fmt::Display for Tally {
         (0..=HIGHEST_REFUSAL).try_for_each(|answer| {
             let met = self.answers.map(|answers| answers[answer]);
             write_row(out, answer, met, self.of_answer(answer))
-        })
+        })?;
+        self.origins()
+            .try_for_each(|(kind, met)| writeln!(out, "{kind}: {met}"))
     }
 }
 
@@ -331,7 +373,7 @@ impl Comparison {
         if let Some(difference) = difference {
             return Err(self.story(call, pair, &difference));
         }
-        self.tally.answers[call.place()][model.answer as usize] += 1;
+        self.tally.note(call, model);
         Ok(model)
     }
 
@@ -375,7 +417,7 @@ impl Comparison {
 
     /// One call of any kind but opening and resume.
     fn any_call(&mut self, rng: &mut Rng, pair: &mut Pair) -> Outcome<Reply> {
-        match rng.below(8) {
+        match rng.below(9) {
             0 => {
                 let needed = 3 + 7 * rng.below(20);
                 let length = output_length(rng, needed);
@@ -393,6 +435,7 @@ impl Comparison {
                 let (first, second) = (some_console(rng), some_console(rng));
                 self.call(Call::Common { first, second }, pair)
             }
+            4 => self.call(some_origin(rng), pair),
             _ => self.command(pair, &gen::any_command(rng)),
         }
     }
@@ -408,7 +451,26 @@ impl Comparison {
         self.call(call, pair)
     }
 
-    /// Each of the five calls that read a store, on bytes that may hold none.
+    /// The origins with each of these consoles, strips and cells.
+    fn origins(
+        &mut self,
+        pair: &mut Pair,
+        consoles: &[u32],
+        strips: &[u32],
+        cells: &[u32],
+    ) -> Outcome<()> {
+        for ((console, strip), cell) in pairs(&pairs(consoles, strips), cells) {
+            let origin = Call::Origin {
+                console,
+                strip,
+                cell,
+            };
+            self.call(origin, pair)?;
+        }
+        Ok(())
+    }
+
+    /// Each call that reads a store, on bytes that may hold none.
     fn all_calls(&mut self, rng: &mut Rng, pair: &mut Pair) -> Outcome<()> {
         let console = rng.below(3) as u32;
         self.command(pair, &gen::entry_command(rng, console as usize))?;
@@ -417,7 +479,8 @@ impl Comparison {
         self.call(Call::Heard { console }, pair)?;
         let (first, second) = (0, console);
         self.call(Call::Common { first, second }, pair)?;
-        Ok(())
+        let strip = gen::some_strip(rng).into();
+        self.origins(pair, &[console], &[strip], &CELLS)
     }
 }
 
@@ -446,13 +509,31 @@ fn output_length(rng: &mut Rng, needed: usize) -> usize {
     }
 }
 
+/// The number, or now and then one from the bound on: next to it, or such that its low 8 or 16 bits are in range again.
+fn or_too_high(rng: &mut Rng, number: usize, bound: usize) -> u32 {
+    let bound = bound as u32;
+    let next = [bound, bound + 1, 2 * bound - 1];
+    let far = [255, 256, 257, 65_536, 65_537, 1 << 31, u32::MAX];
+    if rng.chance(92) {
+        number as u32
+    } else {
+        rng.pick(&[&next[..], &far].concat()).unwrap_or(bound)
+    }
+}
+
 /// A console number, mostly one below 16.
 fn some_console(rng: &mut Rng) -> u32 {
-    let too_high = [16, 17, 31, 255, 256, 257, 65_536, 65_537, 1 << 31, u32::MAX];
-    if rng.chance(92) {
-        rng.below(CONSOLES) as u32
-    } else {
-        rng.pick(&too_high).unwrap_or(16)
+    let console = rng.below(CONSOLES);
+    or_too_high(rng, console, CONSOLES)
+}
+
+/// A question for an origin, mostly with all its numbers in range.
+fn some_origin(rng: &mut Rng) -> Call {
+    let (strip, cell) = (gen::some_strip(rng).into(), rng.below(CELLS.len()));
+    Call::Origin {
+        console: some_console(rng),
+        strip: or_too_high(rng, strip, STRIPS),
+        cell: or_too_high(rng, cell, CELLS.len()),
     }
 }
 
@@ -507,7 +588,16 @@ impl Session<'_> {
         self.comparison.call(Call::Board { console: first }, pair)?;
         self.comparison.call(Call::Heard { console: first }, pair)?;
         self.comparison.call(Call::Common { first, second }, pair)?;
-        Ok(())
+        self.comparison.call(some_origin(&mut self.rng), pair)?;
+        self.ask_origins()
+    }
+
+    /// The origins of a strip's cells with a present console.
+    fn ask_origins(&mut self) -> Outcome<()> {
+        let console = self.rng.pick(&self.room.present()).unwrap_or(0) as u32;
+        let strip = gen::some_strip(&mut self.rng).into();
+        let pair = &mut self.pair;
+        self.comparison.origins(pair, &[console], &[strip], &CELLS)
     }
 
     /// Pauses into an output of some length; the tape, where it was long enough.
@@ -618,6 +708,8 @@ fn compare_tapes(comparison: &mut Comparison, rng: &mut Rng, count: usize) -> Ou
         let length = output_length(rng, store_bytes(capacity));
         let mut pair = Pair::of_store(&bytes_of_length(rng, length));
         if comparison.resume(&mut pair, &tape)?.answer == 0 {
+            let strip = gen::some_strip(rng).into();
+            comparison.origins(&mut pair, &[0, 1], &[strip], &CELLS)?;
             comparison.any_call(rng, &mut pair)?;
             comparison.output_call(rng, Call::Pause, &mut pair, tape.len())?;
         }
@@ -816,14 +908,16 @@ fn compare_garbage(comparison: &mut Comparison, rng: &mut Rng, count: usize) -> 
     Ok(())
 }
 
-/// Numbers at and beyond the ends of the ranges of capacities and consoles, and of 8, 16 and 32 bits.
-const EDGE_NUMBERS: [u32; 18] = [
+/// Numbers at and beyond the ends of the ranges of capacities, consoles, strips and cells, and of 8, 16 and 32 bits.
+const EDGE_NUMBERS: [u32; 20] = [
     0,
     1,
     2,
     15,
     16,
     17,
+    31,
+    32,
     255,
     256,
     257,
@@ -841,8 +935,12 @@ const EDGE_NUMBERS: [u32; 18] = [
 fn compare_numbers(comparison: &mut Comparison, rng: &mut Rng) -> Outcome<()> {
     compare_capacities(comparison, rng)?;
     let running = layout::encode(&gen::random_room(rng, 8, 20));
-    compare_consoles(comparison, rng, &running)?;
-    compare_consoles(comparison, rng, &[0; 5000])
+    for store in [&running[..], &[0; 5000]] {
+        compare_consoles(comparison, rng, store)?;
+        let pair = &mut Pair::of_store(store);
+        comparison.origins(pair, &EDGE_NUMBERS, &EDGE_NUMBERS, &EDGE_NUMBERS)?;
+    }
+    Ok(())
 }
 
 fn compare_capacities(comparison: &mut Comparison, rng: &mut Rng) -> Outcome<()> {
@@ -867,6 +965,15 @@ fn compare_consoles(comparison: &mut Comparison, rng: &mut Rng, store: &[u8]) ->
             let asked = comparison.call(Call::Common { first, second }, pair);
             asked.map(|_| ())
         })?;
+    }
+    Ok(())
+}
+
+/// The origins at the end of the longest ways back: on strip 1 the first entries, on strip 2 none.
+fn compare_long_ways(comparison: &mut Comparison) -> Outcome<()> {
+    for room in [gen::chain_of_entries(1024), gen::chain_of_merges(1024)] {
+        let pair = &mut Pair::of_store(&layout::encode(&room));
+        comparison.origins(pair, &[0, 1], &[1, 2], &CELLS)?;
     }
     Ok(())
 }
@@ -958,8 +1065,8 @@ pub struct Effort {
     pub steps_at_1024: usize,
 }
 
-/// Compares the implementation with the model on all cases of the seed; each call gives each answer listed for it, or the run has
-/// failed.
+/// Compares the implementation with the model on all cases of the seed; each call gives each answer listed for it, and origins are of
+/// both kinds, or the run has failed.
 pub fn compare(tested: Calls, seed: u64, effort: Effort) -> Outcome<Tally> {
     let mut tally = Tally::default();
     for round in 0..effort.rounds {
@@ -976,7 +1083,7 @@ pub fn compare(tested: Calls, seed: u64, effort: Effort) -> Outcome<Tally> {
     match tally.missing()[..] {
         [] => Ok(tally),
         ref missing => Err(format!(
-            "seed {seed}: pairs of call and answer never met: {missing:?}"
+            "seed {seed}: answers and origins never met: {missing:?}"
         )),
     }
 }
@@ -1033,6 +1140,7 @@ fn fixed_cases(comparison: &mut Comparison, rng: &mut Rng) -> Outcome<()> {
     compare_numbers(comparison, rng)?;
     compare_edges(comparison, rng)?;
     compare_long_tapes(comparison, rng)?;
+    compare_long_ways(comparison)?;
     compare_grown_store(comparison, rng, 1023)?;
     compare_grown_store(comparison, rng, 1024)
 }

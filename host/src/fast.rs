@@ -1,4 +1,4 @@
-// A fast second implementation of the seven calls, on the bytes of docs/LAYOUT.md: what the benchmark measures the unit against.
+// A fast second implementation of the calls, on the bytes of docs/LAYOUT.md: what the benchmark measures the unit against.
 // It judges the whole lent store in every call that reads one, in one pass over the versions: ancestry rows are compared as
 // words, an entry's board as slices, a merge's many cells at a time. It uses no heap and no unsafe code and keeps nothing between
 // calls. With the model it shares the reply, the names of the refusals and the way to give one (`refuse_if`), nothing else.
@@ -60,6 +60,15 @@ pub fn heard(store: &[u8], console: u32) -> Reply {
 
 pub fn common(store: &[u8], first: u32, second: u32) -> Reply {
     Reply::of(find_common(store, first as usize, second as usize))
+}
+
+pub fn origin(store: &[u8], console: u32, strip: u32, cell: u32) -> Reply {
+    Reply::of(find_origin(
+        store,
+        console as usize,
+        strip as usize,
+        cell as usize,
+    ))
 }
 
 // ---------------------------------------------------------------- fields
@@ -513,6 +522,37 @@ fn find_common(store: &[u8], first: usize, second: usize) -> Result<usize, u32> 
     let (header, _) = sound_parts(store)?;
     let field = common_field(header, first, second);
     field.checked_sub(1).ok_or(refusal::CONSOLE_ABSENT)
+}
+
+fn find_origin(store: &[u8], console: usize, strip: usize, cell: usize) -> Result<usize, u32> {
+    refuse_high_console(console)?;
+    refuse_if(strip >= STRIPS.into(), refusal::STRIP_TOO_HIGH)?;
+    refuse_if(cell > 1, refusal::OPERAND_TOO_HIGH)?;
+    let (header, blocks) = sound_parts(store)?;
+    let head = head_of(header, console)?;
+    Ok(origin_behind(blocks, head, strip, cell))
+}
+
+/// Goes back along versions that show what the head shows, to an entry that wrote the cell or to version 0. A merge shows the value of
+/// its receiver or its giver, so the way goes to the giver exactly where the receiver shows something else: where the receiver
+/// shows the same, either it had changed the cell or all three values are the same. No base is looked at.
+fn origin_behind(blocks: &[Block], head: usize, strip: usize, cell: usize) -> usize {
+    let place = BOARD_AT + STRIP_BYTES * strip + 2 * cell;
+    let value = |version: usize| [blocks[version][place], blocks[version][place + 1]];
+    let shown = value(head);
+    let writing_node = [0x02 + cell as u8, strip as u8];
+    let mut version = head;
+    while version != 0 && blocks[version][..2] != writing_node {
+        let block = &blocks[version];
+        let parent = number(block, PARENT_AT);
+        let is_given = block[0] == MERGE_CODE && value(parent) != shown;
+        version = if is_given {
+            number(block, GIVER_AT)
+        } else {
+            parent
+        };
+    }
+    version
 }
 
 // ---------------------------------------------------------------- commands

@@ -6,11 +6,12 @@ use crate::model::{
     HIGHEST_HEADING, HIGHEST_LEVEL, MARKS, STRIPS,
 };
 use crate::rng::Rng;
+use std::iter::{once, repeat};
 
 // ---------------------------------------------------------------- single commands
 
 /// A strip, often one of the first few, so that consoles meet on the same cells.
-fn some_strip(rng: &mut Rng) -> u8 {
+pub fn some_strip(rng: &mut Rng) -> u8 {
     let strips = if rng.chance(70) { 3 } else { STRIPS };
     rng.below(strips) as u8
 }
@@ -31,8 +32,18 @@ fn some_value(rng: &mut Rng, highest: u16) -> u16 {
     }
 }
 
+/// A level or heading with one of few values on one of two strips, so that both sides of a merge write the same cell, with the
+/// same value or another, and a value that was there before comes back.
+fn contested_setting(rng: &mut Rng) -> (u8, u8, u16) {
+    let setting_code = rng.between(code::LEVEL.into(), code::HEADING.into()) as u8;
+    (setting_code, rng.below(2) as u8, rng.below(3) as u16)
+}
+
 /// A strip change in range: any of the seven entry codes, a strip and an operand.
 fn some_change(rng: &mut Rng) -> (u8, u8, u16) {
+    if rng.chance(30) {
+        return contested_setting(rng);
+    }
     let entry_code = rng.between(code::LEVEL.into(), code::ALERT_OFF.into()) as u8;
     let operand = match entry_code {
         code::LEVEL => some_value(rng, HIGHEST_LEVEL),
@@ -277,6 +288,34 @@ fn joined(
             after(room, &[joining_code, first, second])
                 .or_else(|| after(room, &[joining_code, second, first]))
         })
+}
+
+/// A full room of console 0 alone: a level on strip 1, then calls. The way back from the head passes every version.
+pub fn chain_of_entries(capacity: usize) -> Room {
+    let level: &[u8] = &[code::LEVEL, 0, 1, 0, 100];
+    let call: &[u8] = &[code::CALL_COUNTED, 0, 0];
+    filled_by(capacity, once(level).chain(repeat(call)))
+}
+
+/// A full room of two consoles: on strip 1 console 0 enters a level and console 1 a heading (versions 1 and 2); then console 0 merges
+/// console 1 and console 1 counts a call, by turns. The way back from the head of console 0 passes every merge.
+pub fn chain_of_merges(capacity: usize) -> Room {
+    let start: [&[u8]; 3] = [
+        &[code::FORK, 1, 0],
+        &[code::LEVEL, 0, 1, 0, 100],
+        &[code::HEADING, 1, 1, 0, 90],
+    ];
+    let turns: [&[u8]; 2] = [&[code::MERGE, 0, 1], &[code::CALL_COUNTED, 1, 0]];
+    filled_by(capacity, start.into_iter().chain(turns.into_iter().cycle()))
+}
+
+/// A newly opened room after these commands, up to the first that is refused.
+fn filled_by<'a>(capacity: usize, mut commands: impl Iterator<Item = &'a [u8]>) -> Room {
+    let mut room = Room::opened(capacity);
+    while let Some(next) = commands.next().and_then(|command| after(&room, command)) {
+        room = next;
+    }
+    room
 }
 
 // ---------------------------------------------------------------- graphs as tapes

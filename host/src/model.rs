@@ -1,4 +1,5 @@
-// The model: one training room as plain data, and the paper's rules on it, each as close to its words as Rust allows.
+// The model: one training room as plain data, and the rules of the paper and the requests on it, each as close to their words as Rust
+// allows.
 
 use std::cell::{OnceCell, RefCell};
 use std::collections::HashMap;
@@ -197,6 +198,11 @@ impl<'a> Ancestry<'a> {
         found
     }
 
+    /// The base of a merge of a sound room.
+    fn base(&self, receiver: usize, giver: usize) -> usize {
+        self.lowest_common(receiver, giver).unwrap_or(0)
+    }
+
     /// The common ancestor to which every other one leads.
     fn search_lowest_common(&self, one: usize, other: usize) -> Option<usize> {
         let common = self.common_ancestors(one, other);
@@ -340,12 +346,98 @@ pub fn boards(room: &Room, base_of: &dyn Fn(usize, usize) -> usize) -> Vec<Board
     boards
 }
 
+/// The same of a sound room, each merge with its base.
+fn sound_boards(room: &Room, ancestry: &Ancestry) -> Vec<Board> {
+    boards(room, &|receiver, giver| ancestry.base(receiver, giver))
+}
+
 /// The board of a present console of a sound room.
 pub fn console_board(room: &Room, console: usize) -> Option<Board> {
+    let boards = sound_boards(room, &Ancestry::new(room));
+    boards.get(room.head(console)?).copied()
+}
+
+// ---------------------------------------------------------------- the origin of a cell
+
+/// A cell of a strip whose origin can be asked for.
+#[derive(Clone, Copy, Debug, PartialEq, Eq)]
+pub enum Cell {
+    Level,
+    Heading,
+}
+
+impl Cell {
+    /// The cell that a question means by its number: 0 level, 1 heading.
+    pub fn of_number(number: u32) -> Option<Cell> {
+        match number {
+            0 => Some(Cell::Level),
+            1 => Some(Cell::Heading),
+            _ => None,
+        }
+    }
+
+    pub fn value(self, strip: &Strip) -> u16 {
+        match self {
+            Cell::Level => strip.level,
+            Cell::Heading => strip.heading,
+        }
+    }
+
+    /// Whether an entry writes this cell of the strip, also where nothing visible changes.
+    pub fn is_written_by(self, entry: &Entry, strip: usize) -> bool {
+        let writing_code = match self {
+            Cell::Level => code::LEVEL,
+            Cell::Heading => code::HEADING,
+        };
+        entry.code == writing_code && usize::from(entry.strip) == strip
+    }
+}
+
+/// The entry behind a cell of a present console's board in a sound room; version 0 where no such entry is met.
+pub fn cell_origin(room: &Room, console: usize, strip: usize, cell: Cell) -> Option<usize> {
     let ancestry = Ancestry::new(room);
-    let base_of =
-        |receiver: usize, giver: usize| ancestry.lowest_common(receiver, giver).unwrap_or(0);
-    boards(room, &base_of).get(room.head(console)?).copied()
+    let search = OriginSearch {
+        room,
+        boards: sound_boards(room, &ancestry),
+        ancestry,
+        strip,
+        cell,
+    };
+    Some(search.origin_from(room.head(console)?))
+}
+
+/// What is looked at on the way from a head to the origin of one cell.
+struct OriginSearch<'a> {
+    room: &'a Room,
+    boards: Vec<Board>,
+    ancestry: Ancestry<'a>,
+    strip: usize,
+    cell: Cell,
+}
+
+impl OriginSearch<'_> {
+    /// An entry that writes the cell is the origin; any other version leads to a parent.
+    fn origin_from(&self, version: usize) -> usize {
+        match self.room.versions[version] {
+            Version::Start => version,
+            Version::Entry(entry) if self.cell.is_written_by(&entry, self.strip) => version,
+            Version::Entry(entry) => self.origin_from(entry.parent),
+            Version::Merge { receiver, giver } => {
+                self.origin_from(self.followed_side(receiver, giver))
+            }
+        }
+    }
+
+    /// The giver's version if the receiver's value equals the base's and the giver's differs, else the receiver's.
+    fn followed_side(&self, receiver: usize, giver: usize) -> usize {
+        let value = |version: usize| self.cell.value(&self.boards[version][self.strip]);
+        let base = self.ancestry.base(receiver, giver);
+        if value(receiver) == value(base) && value(giver) != value(base) {
+            giver
+        } else {
+            receiver
+        }
+    }
 }
 
 // ---------------------------------------------------------------- sound rooms

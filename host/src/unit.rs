@@ -1,4 +1,4 @@
-// The safe wrapper of the room unit: its seven calls as safe functions. A slice crosses the boundary as a pointer and a length, and the
+// The safe wrapper of the room unit: its calls as safe functions. A slice crosses the boundary as a pointer and a length, and the
 // unit's contracts have no conditions, so any bytes and any numbers may be handed over.
 
 use crate::calls::Reply;
@@ -34,6 +34,13 @@ extern "C" {
     ) -> Reply;
     pub fn room_heard(store: *const u8, store_length: usize, console: u32) -> Reply;
     pub fn room_common(store: *const u8, store_length: usize, first: u32, second: u32) -> Reply;
+    pub fn room_origin(
+        store: *const u8,
+        store_length: usize,
+        console: u32,
+        strip: u32,
+        cell: u32,
+    ) -> Reply;
 }
 
 // Each call below is sound for every argument: the unit reads and writes within the lengths given and keeps no pointer.
@@ -79,4 +86,8 @@ pub fn heard(store: &[u8], console: u32) -> Reply {
 
 pub fn common(store: &[u8], first: u32, second: u32) -> Reply {
     unsafe { room_common(store.as_ptr(), store.len(), first, second) }
+}
+
+pub fn origin(store: &[u8], console: u32, strip: u32, cell: u32) -> Reply {
+    unsafe { room_origin(store.as_ptr(), store.len(), console, strip, cell) }
 }

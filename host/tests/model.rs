@@ -3,7 +3,8 @@
 use room_host::gen;
 use room_host::layout::{self, encode};
 use room_host::model::{
-    decode, parents, room_of_tape, sound, step, tape_of, Command, Entry, Room, Version, CONSOLES,
+    boards, cell_origin, decode, parents, room_of_tape, sound, step, tape_of, Ancestry, Board,
+    Cell, Command, Entry, Room, Version, CONSOLES,
 };
 use room_host::rng::Rng;
 use std::collections::BTreeSet;
@@ -188,6 +189,121 @@ fn sound_agrees_with_a_second_telling() {
     assert!(seen[0] > 500 && seen[1] > 500, "{seen:?}");
 }
 
+// ---------------------------------------------------------------- origins
+
+/// A cell of a sound room's versions, and what its origins are told by in a second way.
+struct CellOfRoom<'a> {
+    room: &'a Room,
+    ancestry: Ancestry<'a>,
+    boards: Vec<Board>,
+    strip: usize,
+    cell: Cell,
+}
+
+impl CellOfRoom<'_> {
+    fn of(room: &Room, strip: usize, cell: Cell) -> CellOfRoom<'_> {
+        let ancestry = Ancestry::new(room);
+        let base_of = |receiver, giver| ancestry.lowest_common(receiver, giver).unwrap_or(0);
+        let boards = boards(room, &base_of);
+        CellOfRoom {
+            room,
+            ancestry,
+            boards,
+            strip,
+            cell,
+        }
+    }
+
+    fn value(&self, version: usize) -> u16 {
+        self.cell.value(&self.boards[version][self.strip])
+    }
+
+    /// For each version, from 0 upward, the way to its origin. A merge shows the value of one of its sides, and its way goes by
+    /// the receiver unless the receiver shows something else.
+    fn ways(&self) -> Vec<Vec<usize>> {
+        let mut ways: Vec<Vec<usize>> = Vec::new();
+        for (number, version) in self.room.versions.iter().enumerate() {
+            let next = match *version {
+                Version::Start => None,
+                Version::Entry(entry) if self.cell.is_written_by(&entry, self.strip) => None,
+                Version::Entry(entry) => Some(entry.parent),
+                Version::Merge { receiver, .. } if self.value(receiver) == self.value(number) => {
+                    Some(receiver)
+                }
+                Version::Merge { giver, .. } => Some(giver),
+            };
+            let behind = next.map_or(&[][..], |next| &ways[next]);
+            let way = [&[number], behind].concat();
+            ways.push(way);
+        }
+        ways
+    }
+
+    /// The found entry is one that the head descends from and has written the value shown; where there is none, the value is 0.
+    fn check_origin(&self, head: usize, origin: usize) {
+        assert!(self.ancestry.is_ancestor(origin, head));
+        let written = match self.room.versions[origin] {
+            Version::Entry(entry) => {
+                assert!(self.cell.is_written_by(&entry, self.strip));
+                entry.operand
+            }
+            Version::Start => 0,
+            Version::Merge { .. } => panic!("a merge is no origin"),
+        };
+        assert_eq!(self.value(head), written);
+    }
+
+    /// Of a merge, whether the receiver's value differs from the base's, and whether the giver's does.
+    fn changed_sides(&self, version: usize) -> Option<[bool; 2]> {
+        let Version::Merge { receiver, giver } = self.room.versions[version] else {
+            return None;
+        };
+        let base = self.ancestry.lowest_common(receiver, giver)?;
+        Some([receiver, giver].map(|side| self.value(side) != self.value(base)))
+    }
+
+    /// Checks the origin with each present console.
+    fn check(&self, seen: &mut SeenOrigins) {
+        let ways = self.ways();
+        for console in self.room.present() {
+            let head = self.room.head(console).expect("the console is present");
+            let way = &ways[head];
+            let origin = cell_origin(self.room, console, self.strip, self.cell).expect("the same");
+            assert_eq!(Some(&origin), way.last());
+            self.check_origin(head, origin);
+            seen.origins[usize::from(origin > 0)] += 1;
+            let merges = way
+                .iter()
+                .filter_map(|&version| self.changed_sides(version));
+            merges.for_each(|[receiver, giver]| {
+                seen.merges[usize::from(receiver)][usize::from(giver)] += 1;
+            });
+        }
+    }
+}
+
+/// How many origins were version 0 and how many above it, and how many merges the ways passed, by whether the receiver's side had
+/// changed the cell and whether the giver's had.
+#[derive(Debug, Default)]
+struct SeenOrigins {
+    origins: [usize; 2],
+    merges: [[usize; 2]; 2],
+}
+
+#[test]
+fn origins_have_written_what_is_shown() {
+    let mut seen = SeenOrigins::default();
+    for room in gen::random_rooms(16, 150) {
+        for strip in [0, 1, 2, 7] {
+            CellOfRoom::of(&room, strip, Cell::Level).check(&mut seen);
+            CellOfRoom::of(&room, strip, Cell::Heading).check(&mut seen);
+        }
+    }
+    assert!(seen.origins.iter().all(|&met| met > 1000), "{seen:?}");
+    let mut merges = seen.merges.as_flattened().iter();
+    assert!(merges.all(|&met| met > 200), "{seen:?}");
+}
+
 // ---------------------------------------------------------------- the generators
 
 #[test]
@@ -228,6 +344,25 @@ fn full_rooms_of_many_seeds_and_capacities() {
         let merges = capacity - 1 - entry_count(&room);
         assert_eq!(merges, (capacity / 2).saturating_sub(1));
     }
+}
+
+/// The versions on the way from console 0's head to the origin of a cell that no entry writes.
+fn longest_way(room: &Room) -> usize {
+    let head = room.head(0).expect("console 0 is present");
+    CellOfRoom::of(room, 31, Cell::Heading).ways()[head].len()
+}
+
+#[test]
+fn chains_are_full_rooms_with_long_ways() {
+    let entries = gen::chain_of_entries(1024);
+    assert!(sound(&entries));
+    assert_eq!(entry_count(&entries), 1023);
+    assert_eq!(longest_way(&entries), 1024);
+    let merges = gen::chain_of_merges(1024);
+    assert!(sound(&merges));
+    assert_eq!(merges.versions.len(), 1024);
+    assert_eq!(entry_count(&merges), 512);
+    assert_eq!(longest_way(&merges), 511 + 2, "all merges, then 1 and 0");
 }
 
 fn entry_count(room: &Room) -> usize {

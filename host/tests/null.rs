@@ -3,7 +3,8 @@
 
 use room_host::calls::Reply;
 use room_host::unit::{
-    self, room_board, room_command, room_common, room_heard, room_open, room_pause, room_resume,
+    self, room_board, room_command, room_common, room_heard, room_open, room_origin, room_pause,
+    room_resume,
 };
 use std::ptr::{null, null_mut};
 
@@ -132,5 +133,20 @@ fn questions_to_a_null_store() {
         assert_eq!(unsafe { room_heard(null(), 0, console) }, refused(due));
         assert_eq!(unsafe { room_common(null(), 0, console, 0) }, refused(due));
         assert_eq!(unsafe { room_common(null(), 0, 0, console) }, refused(due));
+    }
+}
+
+#[test]
+fn origins_in_a_null_store() {
+    let questions = [
+        ([0, 0, 0], 11),
+        ([15, 31, 1], 11),
+        ([15, 31, 2], 5),
+        ([15, 32, 2], 4),
+        ([16, 32, 2], 3),
+    ];
+    for ([console, strip, cell], due) in questions {
+        let reply = unsafe { room_origin(null(), 0, console, strip, cell) };
+        assert_eq!(reply, refused(due));
     }
 }

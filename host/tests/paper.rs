@@ -1,5 +1,5 @@
-// The paper's own cases, every refusal beside an accepted neighbour, and the book of demand 3, each run three times: on the model, on
-// the unit and on the fast implementation. The files in paper/ make their calls by `tested`, which each module here names anew.
+// The paper's own cases, those of the requests, every refusal beside an accepted neighbour, and the book of demand 3, each run three
+// times: on the model, on the unit and on the fast implementation. The files in paper/ make their calls by `tested`, which each module here names anew.
 
 // One file three times is what is meant.
 #![allow(clippy::duplicate_mod)]
@@ -10,6 +10,7 @@ mod model {
     mod book;
     mod bytes;
     mod cases;
+    mod origins;
     mod refusals;
     mod store;
 }
@@ -20,6 +21,7 @@ mod unit {
     mod book;
     mod bytes;
     mod cases;
+    mod origins;
     mod refusals;
     mod store;
 }
@@ -30,6 +32,7 @@ mod fast {
     mod book;
     mod bytes;
     mod cases;
+    mod origins;
     mod refusals;
     mod store;
 }

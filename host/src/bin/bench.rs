@@ -29,7 +29,7 @@ const MEMCMP: &str = "memcmp_of_the_store";
 const SOUNDNESS: &str = "soundness";
 
 /// What each of these may be at most, against what: the limits of docs/PERFORMANCE.md.
-const LIMITS: [(&str, &str, f64); 8] = [
+const LIMITS: [(&str, &str, f64); 10] = [
     ("soundness_entries_1024", MEMCMP, 4.5),
     ("soundness_merges_1024", MEMCMP, 13.0),
     ("entry", SOUNDNESS, 1.3),
@@ -38,6 +38,8 @@ const LIMITS: [(&str, &str, f64); 8] = [
     ("pause_merges_1023", SOUNDNESS, 1.3),
     ("resume_entries_1023", SOUNDNESS, 3.0),
     ("resume_merges_1023", SOUNDNESS, 3.0),
+    ("origin_entries_1024", SOUNDNESS, 1.2),
+    ("origin_merges_1024", SOUNDNESS, 1.2),
 ];
 
 /// A ratio fails at more than so many times its limit.
@@ -248,6 +250,26 @@ fn bench_tapes_of(verdict: &mut Verdict, name: &str, call: Call, kind: &str) {
     print_growth(&what, "version", TAPE_VERSIONS, TAPE_VERSIONS, times);
 }
 
+/// The origin at the end of the longest way of a full room: no entry writes the heading of strip 31, so that the way goes on to
+/// version 0. In a chain of entries it passes all 1,024 versions, in a chain of merges all 511 merges and then versions 1 and 0,
+/// and at each merge a value of base, receiver and giver is compared.
+fn bench_origins(verdict: &mut Verdict) {
+    let rooms = [gen::chain_of_entries(1024), gen::chain_of_merges(1024)];
+    for (kind, room) in KINDS.into_iter().zip(rooms) {
+        let work = Work {
+            what: format!("origin_{kind}_1024"),
+            call: Call::Origin {
+                console: 0,
+                strip: 31,
+                cell: 1,
+            },
+            room,
+            input: Vec::new(),
+        };
+        bench(verdict, &work);
+    }
+}
+
 /// The calls on a store of capacity 1,024 that holds 1,000 versions.
 fn bench_calls(verdict: &mut Verdict) {
     let (room, commands) = busy_room();
@@ -265,6 +287,12 @@ fn bench_calls(verdict: &mut Verdict) {
     bench_call("heard", Call::Heard { console: 0 }, Vec::new());
     let (first, second) = (0, 1);
     bench_call("common", Call::Common { first, second }, Vec::new());
+    let origin = Call::Origin {
+        console: 0,
+        strip: 0,
+        cell: 0,
+    };
+    bench_call("origin", origin, Vec::new());
     for (what, input) in commands {
         bench_call(what, Call::Command, input);
     }
@@ -320,6 +348,7 @@ fn main() -> ExitCode {
     println!("seed {SEED}");
     bench_soundness(&mut verdict);
     bench_calls(&mut verdict);
+    bench_origins(&mut verdict);
     bench_tapes(&mut verdict);
     verdict.print_last_line()
 }

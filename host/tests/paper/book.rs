@@ -150,7 +150,7 @@ impl Kept {
         is_accepted
     }
 
-    /// Compares all that demand 3 says; how many pairs of consoles have heard the same entries.
+    /// Compares all that demand 3 says, and the origins as far as the book knows them; how many pairs of consoles have heard the same entries.
     fn check(&self) -> usize {
         let (store, book) = (&self.store, &self.book);
         assert_eq!(usize::from(store.version_count()), book.versions.len());
@@ -160,6 +160,7 @@ impl Kept {
         }
         let present = book.present();
         present.iter().for_each(|&one| self.check_heard(one));
+        present.iter().for_each(|&one| self.check_origins(one));
         let pairs = present
             .iter()
             .flat_map(|&one| present.iter().map(move |&other| (one, other)));
@@ -178,6 +179,23 @@ impl Kept {
             let called = heard.iter().filter(is_call).count();
             let shown = strip_of(&board, usize::from(strip)).calls;
             assert_eq!(usize::from(shown), called);
+        }
+    }
+
+    /// Where an origin is above 0, it is an entry that the console has heard and that writes this cell; else the cell shows 0. The
+    /// first strips are those that most entries are on.
+    fn check_origins(&self, (console, head): (u32, usize)) {
+        let heard = self.book.held_by(head);
+        let board = self.store.board(console);
+        for strip in 0..8 {
+            let shown = strip_of(&board, usize::from(strip));
+            for (cell, code, value) in [(0, 0x02, shown.level), (1, 0x03, shown.heading)] {
+                let reply = self.store.origin(console, strip.into(), cell);
+                assert_eq!(reply.answer, 0);
+                let origin = (reply.count as usize, (code, strip));
+                let is_none = reply.count == 0 && value == 0;
+                assert!(is_none || heard.contains(&origin));
+            }
         }
     }
 

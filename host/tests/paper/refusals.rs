@@ -71,6 +71,10 @@ fn refusal_3_console() {
     assert_eq!(store.common(u32::MAX, 0), refused(3));
     assert_eq!(store.common(0, 15), accepted(0));
     assert_eq!(tested::board(&store.bytes, 16, &mut []), refused(3));
+    for too_high in [16, 256, 65_536 + 15, u32::MAX] {
+        assert_eq!(store.origin(too_high, 0, 0), refused(3));
+    }
+    assert_eq!(store.origin(15, 0, 0), accepted(0));
 }
 
 #[test]
@@ -82,6 +86,10 @@ fn refusal_4_strip() {
         assert_eq!(store.say(&command(32)), 4);
         assert_eq!(store.say(&command(31)), 0);
     }
+    for too_high in [32, 256, 256 + 31, 65_536 + 31, u32::MAX] {
+        assert_eq!(store.origin(0, too_high, 0), refused(4));
+    }
+    assert_eq!(store.origin(0, 31, 0), accepted(1));
 }
 
 #[test]
@@ -97,6 +105,11 @@ fn refusal_5_operand() {
         assert_eq!(store.say(too_high), 5);
         assert_eq!(store.say(highest), 0);
     }
+    for too_high in [2, 3, 256, 256 + 1, 65_536, 65_536 + 1, u32::MAX] {
+        assert_eq!(store.origin(0, 0, too_high), refused(5));
+    }
+    assert_eq!(store.origin(0, 0, 0), accepted(1));
+    assert_eq!(store.origin(0, 0, 1), accepted(2));
 }
 
 #[test]
@@ -248,14 +261,17 @@ fn refusal_11_no_sound_store() {
     let mut store = Store::open(2);
     let short = &store.bytes[..store_bytes(2) - 1];
     assert_eq!(tested::heard(short, 0), refused(11));
+    assert_eq!(tested::origin(short, 0, 0, 0), refused(11));
     let exact = &store.bytes[..store_bytes(2)];
     assert_eq!(tested::heard(exact, 0), accepted(0));
+    assert_eq!(tested::origin(exact, 0, 0, 0), accepted(0));
     for length in [0, 1, 2, 3, 4, 5, 255, 4095, 4096, 4097] {
         assert_eq!(tested::common(&store.bytes[..length], 0, 0), refused(11));
     }
     let zeros = vec![0; store_bytes(1024)];
     assert_eq!(tested::pause(&zeros, &mut [0; 99]), refused(11));
     assert_eq!(tested::board(&zeros, 0, &mut [0; 384]), refused(11));
+    assert_eq!(tested::origin(&zeros, 0, 0, 0), refused(11));
     store.bytes[4] = 1;
     assert_eq!(store.say(&[0x06, 0, 0]), 11);
     store.bytes[4] = 0;
@@ -283,8 +299,12 @@ fn refusal_12_absent_console() {
     assert_eq!(store.common(0, 1), refused(12));
     assert_eq!(store.common(1, 1), refused(12));
     assert_eq!(tested::board(&store.bytes, 1, &mut []), refused(12));
+    assert_eq!(store.origin(1, 31, 1), refused(12));
+    assert_eq!(store.origin(1, 31, 2), refused(5));
+    assert_eq!(store.origin(1, 32, 2), refused(4));
     assert_eq!(store.say(&[0x01, 1, 0]), 0);
     assert_eq!(store.heard(1), accepted(1));
+    assert_eq!(store.origin(1, 31, 1), accepted(0));
 }
 
 #[test]
@@ -400,6 +420,10 @@ fn the_lowest_refusal_is_given() {
     assert_eq!(tested::common(&garbage, 0, 1), refused(11));
     assert_eq!(tested::board(&garbage, 16, &mut []), refused(3));
     assert_eq!(tested::board(&garbage, 0, &mut []), refused(11));
+    assert_eq!(tested::origin(&garbage, 16, 32, 2), refused(3));
+    assert_eq!(tested::origin(&garbage, 15, 32, 2), refused(4));
+    assert_eq!(tested::origin(&garbage, 15, 31, 2), refused(5));
+    assert_eq!(tested::origin(&garbage, 15, 31, 1), refused(11));
     assert_eq!(tested::pause(&garbage, &mut []), refused(11));
     assert_eq!(tested::open(0, &mut []), refused(8));
     assert_eq!(tested::open(1, &mut []), refused(19));

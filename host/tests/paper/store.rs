@@ -65,6 +65,10 @@ impl Store {
         tested::common(&self.bytes, first, second)
     }
 
+    pub fn origin(&self, console: u32, strip: u32, cell: u32) -> Reply {
+        tested::origin(&self.bytes, console, strip, cell)
+    }
+
     /// The heads of the present consoles, consoles rising: a console's common version with itself.
     pub fn heads(&self) -> Vec<u32> {
         let replies = (0..16).map(|console| self.common(console, console));
