@@ -6,7 +6,7 @@
  *   With a length of 0 the pointer may be NULL.
  * - The two buffers of one call do not overlap.
  * - No other thread touches a lent buffer before the call has returned. The unit keeps no pointer and no state of its own.
- * - room_resume needs ROOM_RESUME_STACK bytes of stack, any other call ROOM_STACK bytes.
+ * - room_resume needs ROOM_RESUME_STACK bytes of stack, room_origin ROOM_ORIGIN_STACK bytes, any other call ROOM_STACK bytes.
  * Nothing else: any bytes may stand in a lent buffer, and any number may be passed.
  *
  * A call answers 0, or the number of the refusal that applies. A refused call counts 0 and changes no lent byte.
@@ -31,9 +31,11 @@ extern "C" {
 /* The longest tape of a room of this capacity: its start, its versions, 16 heads and its end. */
 #define ROOM_TAPE_BYTES(capacity) ((size_t)7 * (size_t)(capacity) + (size_t)61)
 
-/* Stack in bytes that a caller must have: resume judges a tape with 1,024 rows of 128 bytes of its own before it writes. */
+/* Stack in bytes that a caller must have: resume judges a tape with 1,024 rows of 128 bytes of its own before it writes, and origin goes down
+   the versions by recursion, in a full room up to 1,023 calls deep. */
 #define ROOM_STACK 16384
 #define ROOM_RESUME_STACK 151552
+#define ROOM_ORIGIN_STACK 65536
 
 /* Cells of a strip, by their first byte; 16 bits with the high byte first, but for the flag, which is a byte. */
 #define ROOM_LEVEL_AT 0
@@ -42,6 +44,10 @@ extern "C" {
 #define ROOM_CALLS_AT 6
 #define ROOM_ALERTS_AT 8
 #define ROOM_FLAG_AT 10
+
+/* Cells that room_origin is asked about. */
+#define ROOM_LEVEL_CELL 0
+#define ROOM_HEADING_CELL 1
 
 /* Codes of commands, with the bytes that follow. */
 #define ROOM_FORK 0x01         /* new console, old console */
@@ -62,7 +68,7 @@ enum room_refusal {
     ROOM_WRONG_LENGTH = 2,        /* length not the code's */
     ROOM_CONSOLE_TOO_HIGH = 3,    /* console above 15 */
     ROOM_STRIP_TOO_HIGH = 4,      /* strip above 31 */
-    ROOM_OPERAND_TOO_HIGH = 5,    /* level above 600, heading above 360, mark above 15 */
+    ROOM_OPERAND_TOO_HIGH = 5,    /* level above 600, heading above 360, mark above 15, cell above 1 */
     ROOM_SAME_CONSOLE = 6,        /* the same console twice in 01, 09, 0A */
     ROOM_BROKEN_TAPE = 7,         /* no sequence of whole records with at least one head */
     ROOM_BAD_CAPACITY = 8,        /* capacity outside 1 to 1,024 */
@@ -105,6 +111,10 @@ struct room_reply room_heard(const uint8_t *store, size_t store_length, uint32_t
 
 /* Its count is the common version of two consoles; of a console with itself, its head. Refusals 3, 11, 12. */
 struct room_reply room_common(const uint8_t *store, size_t store_length, uint32_t first, uint32_t second);
+
+/* Its count is the version of the entry behind a cell of a console's board; 0 where none was met, and then the cell shows 0.
+   Refusals 3 to 5, 11, 12. */
+struct room_reply room_origin(const uint8_t *store, size_t store_length, uint32_t console, uint32_t strip, uint32_t cell);
 
 #ifdef __cplusplus
 }

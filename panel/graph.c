@@ -1,4 +1,4 @@
-/* The version graph of a room as a Graphviz file, read off its pause tape. */
+/* The version graph of a room, read off its pause tape: as a Graphviz file, and an entry of it in words. */
 #include "panel.h"
 
 #include "room.h"
@@ -36,6 +36,32 @@ static size_t record_bytes(uint8_t code)
     }
 }
 
+/* A reading place on a tape: the bytes from there on, and the last version before it. */
+struct place {
+    const uint8_t *next;
+    size_t left;
+    unsigned version;
+};
+
+/* Whether a whole record stands at this place, other than the tape's end. */
+static int has_record(const struct place *place)
+{
+    return place->left > 0 && place->next[0] >= START && place->next[0] <= HEAD && record_bytes(place->next[0]) <= place->left;
+}
+
+/* Moves past one whole record and returns it; NULL where there is none. After a version's record the place has its number. */
+static const uint8_t *take_record(struct place *place)
+{
+    if (!has_record(place))
+        return NULL;
+    const uint8_t *record = place->next;
+    place->next += record_bytes(record[0]);
+    place->left -= record_bytes(record[0]);
+    if (record[0] == ENTRY || record[0] == MERGE)
+        place->version++;
+    return record;
+}
+
 static void write_entry(FILE *file, unsigned version, const uint8_t *record)
 {
     fprintf(file, "  v%u [label=\"%u\\n%s strip %u\"];\n", version, version, entry_name(record[3]), record[4]);
@@ -56,23 +82,39 @@ static void write_head(FILE *file, const uint8_t *record)
     fprintf(file, "  c%u -> v%u [arrowhead=none, style=dotted];\n", record[1], field(record, 2));
 }
 
-/* Whether a whole record stands at this place, other than the tape's end. */
-static int has_record(const uint8_t *tape, size_t length, size_t at)
+static void write_record(FILE *file, unsigned version, const uint8_t *record)
 {
-    return at < length && tape[at] >= START && tape[at] <= HEAD && record_bytes(tape[at]) <= length - at;
+    if (record[0] == ENTRY)
+        write_entry(file, version, record);
+    else if (record[0] == MERGE)
+        write_merge(file, version, record);
+    else if (record[0] == HEAD)
+        write_head(file, record);
 }
 
 void write_graph(FILE *file, const uint8_t *tape, size_t length)
 {
-    unsigned version = 0;
+    struct place place = {tape, length, 0};
+    const uint8_t *record;
     fprintf(file, "digraph room {\n  rankdir=LR;\n  v0 [label=\"0\"];\n");
-    for (size_t at = 0; has_record(tape, length, at); at += record_bytes(tape[at])) {
-        if (tape[at] == ENTRY)
-            write_entry(file, ++version, tape + at);
-        else if (tape[at] == MERGE)
-            write_merge(file, ++version, tape + at);
-        else if (tape[at] == HEAD)
-            write_head(file, tape + at);
-    }
+    while ((record = take_record(&place)) != NULL)
+        write_record(file, place.version, record);
     fprintf(file, "}\n");
+}
+
+/* A level or a heading of 0 stands for none given. */
+static void print_entry(unsigned version, const uint8_t *record)
+{
+    unsigned operand = field(record, 5);
+    const char *meaning = operand == 0 ? " (none given)" : "";
+    printf("version %u: %s %u%s on strip %u\n", version, entry_name(record[3]), operand, meaning, record[4]);
+}
+
+void show_entry(const uint8_t *tape, size_t length, unsigned version)
+{
+    struct place place = {tape, length, 0};
+    const uint8_t *record;
+    while ((record = take_record(&place)) != NULL)
+        if (record[0] == ENTRY && place.version == version)
+            print_entry(version, record);
 }

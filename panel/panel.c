@@ -25,6 +25,7 @@ static const char HELP[] =
     "heads                        where every console stands\n"
     "heard CONSOLE                how many entries it has heard\n"
     "common FIRST SECOND          the last version that both have\n"
+    "origin CONSOLE STRIP CELL    the entry behind that cell, level or heading\n"
     "pause FILE                   and resume\n"
     "graph FILE                   the version graph for Graphviz\n"
     "quit\n";
@@ -50,12 +51,13 @@ static const struct named_command COMMANDS[] = {
     {"forward", ROOM_FAST_FORWARD, 2, 0},
 };
 
-/* A line that was typed: a word, then up to three numbers or a file's name. */
+/* A line that was typed: a word, then a file's name, or up to three numbers and the name of a cell. */
 struct line {
     char word[16];
     uint32_t number[NUMBERS];
     int numbers;
     char file[LINE_BYTES];
+    char cell[LINE_BYTES];
 };
 
 /* Says a refusal in words; whether there was none. */
@@ -164,6 +166,17 @@ static void graph_to(const char *name)
     }
 }
 
+static void show_origin(const struct line *line, uint32_t cell)
+{
+    struct room_reply reply = room_origin(store, sizeof store, line->number[0], line->number[1], cell);
+    if (!say(reply))
+        return;
+    if (reply.count == 0)
+        printf("no entry: strip %u shows no %s\n", (unsigned)line->number[1], line->cell);
+    else
+        show_entry(tape, paused(), reply.count);
+}
+
 /* ---- lines ---- */
 
 /* Takes the number at the front of the text; 0 where there is none. One that 32 bits do not hold becomes their highest, for
@@ -180,6 +193,13 @@ static int take_number(const char **text, uint32_t *number)
     return 1;
 }
 
+/* Copies the name at the front of the text; an empty one where there is none. */
+static void copy_name(const char *text, char name[LINE_BYTES])
+{
+    if (sscanf(text, "%255s", name) != 1)
+        name[0] = '\0';
+}
+
 /* Takes a typed line apart; 0 where it is empty or a comment. */
 static int take_apart(const char *text, struct line *line)
 {
@@ -188,10 +208,10 @@ static int take_apart(const char *text, struct line *line)
     if (sscanf(text, "%15s%n", line->word, &word_end) != 1 || line->word[0] == '#')
         return 0;
     text += word_end;
-    if (sscanf(text, "%255s", line->file) != 1)
-        line->file[0] = '\0';
+    copy_name(text, line->file);
     while (line->numbers < NUMBERS && take_number(&text, &line->number[line->numbers]))
         line->numbers++;
+    copy_name(text, line->cell);
     return 1;
 }
 
@@ -203,6 +223,11 @@ static int is_word(const struct line *line, const char *word, int numbers)
 static int is_file_word(const struct line *line, const char *word)
 {
     return strcmp(line->word, word) == 0 && line->file[0] != '\0';
+}
+
+static int is_cell_word(const struct line *line, const char *word, int numbers, const char *cell)
+{
+    return is_word(line, word, numbers) && strcmp(line->cell, cell) == 0;
 }
 
 static int is_command(const struct line *line)
@@ -230,6 +255,10 @@ static void follow(const struct line *line)
         say_number(room_heard(store, sizeof store, line->number[0]));
     else if (is_word(line, "common", 2))
         say_number(room_common(store, sizeof store, line->number[0], line->number[1]));
+    else if (is_cell_word(line, "origin", 2, "level"))
+        show_origin(line, ROOM_LEVEL_CELL);
+    else if (is_cell_word(line, "origin", 2, "heading"))
+        show_origin(line, ROOM_HEADING_CELL);
     else if (is_file_word(line, "pause"))
         pause_to(line->file);
     else if (is_file_word(line, "resume"))

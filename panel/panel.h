@@ -1,4 +1,4 @@
-/* The sample panel's parts: what it shows, and the version graph that it writes. */
+/* The sample panel's parts: what it shows, and what it reads off a pause tape. */
 #ifndef PANEL_H
 #define PANEL_H
 
@@ -14,5 +14,8 @@ void show_board(const uint8_t *board);
 
 /* Writes the version graph of a pause tape as a Graphviz file. */
 void write_graph(FILE *file, const uint8_t *tape, size_t length);
+
+/* Prints in words which level or heading an entry of a pause tape gave; nothing where that version is no entry. */
+void show_entry(const uint8_t *tape, size_t length, unsigned version);
 
 #endif

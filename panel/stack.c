@@ -1,5 +1,7 @@
 /* How much stack each of the unit's calls uses, against what room.h says: each runs in a thread on a painted stack, and what it left is
-   counted. Each is the first call of a process of its own, so that what the loader does to find the unit's C functions counts too. */
+   counted. Each is the first call of a process of its own, so that what the loader does to find the unit's C functions counts too.
+   Each is made in two rooms, which the measured entry and merge fill: one almost all of entries, one with as many merges as it can have,
+   so that the walk to an origin is a long one over either. */
 #define _DEFAULT_SOURCE /* for pthread_attr_setstack and MAP_ANONYMOUS */
 #include <pthread.h>
 #include <stdint.h>
@@ -13,6 +15,10 @@
 
 enum { STACK_BYTES = 1 << 20, PAINT = 0xA5 };
 
+/* Versions to prepare: all but version 0, an entry before the first merge, and the measured entry and merge. A merge takes two, as
+   console 1 needs an entry to give. */
+enum { TO_PREPARE = ROOM_MAX_CAPACITY - 4, PER_MERGE = 2, MOST_MERGES = TO_PREPARE / PER_MERGE };
+
 /* What the processes share: the room as the call before left it, and its tape. */
 struct shared {
     uint8_t store[ROOM_STORE_BYTES(ROOM_MAX_CAPACITY)];
@@ -22,10 +28,16 @@ struct shared {
 
 static struct shared *shared;
 
-static void fail(const char *what)
+static _Noreturn void fail(const char *what)
 {
     printf("%s\n", what);
     exit(1);
+}
+
+static void must_be_accepted(struct room_reply reply)
+{
+    if (reply.answer != ROOM_ACCEPTED)
+        fail("a call was refused");
 }
 
 /* ---- the calls, each of them accepted where main makes it ---- */
@@ -44,6 +56,11 @@ static struct room_reply open_room(void)
 static struct room_reply fork_2_off_1(void)
 {
     return command(ROOM_FORK, 2, 1);
+}
+
+static struct room_reply enter_on_0(void)
+{
+    return command(ROOM_CALL, 0, 5);
 }
 
 static struct room_reply enter_on_1(void)
@@ -84,6 +101,12 @@ static struct room_reply ask_common_of_0_and_1(void)
     return room_common(shared->store, sizeof shared->store, 0, 1);
 }
 
+/* No entry writes this cell, so that the walk goes on to version 0. */
+static struct room_reply ask_origin_for_0(void)
+{
+    return room_origin(shared->store, sizeof shared->store, 0, 5, ROOM_LEVEL_CELL);
+}
+
 static struct room_reply resume_room(void)
 {
     return room_resume(shared->tape, shared->tape_length, shared->store, sizeof shared->store);
@@ -99,8 +122,7 @@ struct measured {
 
 static void *make(void *measured)
 {
-    if (((const struct measured *)measured)->call().answer != ROOM_ACCEPTED)
-        fail("a measured call was refused");
+    must_be_accepted(((const struct measured *)measured)->call());
     return NULL;
 }
 
@@ -134,31 +156,45 @@ static size_t used_by(struct measured *measured)
     return STACK_BYTES - untouched;
 }
 
-static void check(struct measured *measured)
+static void check(void *call)
 {
+    struct measured *measured = call;
     size_t used = used_by(measured);
     printf("%s used %zu bytes of stack, room.h says at most %zu\n", measured->name, used, measured->most);
     if (used > measured->most)
         fail("too much");
 }
 
-/* A room with two entries and their merge, so that every measured call has one of each to judge. */
-static void prepare(struct measured *unused)
+/* ---- the rooms ---- */
+
+struct room {
+    const char *name;
+    int merges;
+};
+
+/* The room's merges, one upon the other, and entries of console 0 on top of them. */
+static void prepare(void *wanted)
 {
-    (void)unused;
-    if (open_room().answer != ROOM_ACCEPTED || command(ROOM_FORK, 1, 0).answer != ROOM_ACCEPTED
-        || command(ROOM_CALL, 0, 5).answer != ROOM_ACCEPTED || command(ROOM_CALL, 1, 5).answer != ROOM_ACCEPTED
-        || command(ROOM_MERGE, 0, 1).answer != ROOM_ACCEPTED)
-        fail("a command was refused");
+    const struct room *room = wanted;
+    must_be_accepted(open_room());
+    must_be_accepted(command(ROOM_FORK, 1, 0));
+    must_be_accepted(enter_on_0());
+    for (int i = 0; i < room->merges; i++) {
+        must_be_accepted(enter_on_1());
+        must_be_accepted(merge_1_into_0());
+    }
+    for (int i = PER_MERGE * room->merges; i < TO_PREPARE; i++)
+        must_be_accepted(enter_on_0());
+    printf("in a room of %s:\n", room->name);
 }
 
 /* Runs a part in a process of its own; where that fails, so does this one. */
-static void run_apart(void (*part)(struct measured *), struct measured *measured)
+static void run_apart(void (*part)(void *), void *what)
 {
     int status = 0;
     pid_t child = fork();
     if (child == 0) {
-        part(measured);
+        part(what);
         exit(0);
     }
     if (child < 0 || waitpid(child, &status, 0) != child || status != 0)
@@ -176,14 +212,18 @@ int main(void)
         {"board", show_board_of_0, ROOM_STACK},
         {"heard", ask_heard_by_0, ROOM_STACK},
         {"common", ask_common_of_0_and_1, ROOM_STACK},
+        {"origin", ask_origin_for_0, ROOM_ORIGIN_STACK},
         {"resume", resume_room, ROOM_RESUME_STACK},
         {"open", open_room, ROOM_STACK},
     };
+    struct room rooms[] = {{"entries", 1}, {"merges", MOST_MERGES}};
     shared = mmap(NULL, sizeof *shared, PROT_READ | PROT_WRITE, MAP_SHARED | MAP_ANONYMOUS, -1, 0);
     if (shared == MAP_FAILED)
         fail("no memory to share");
-    run_apart(prepare, NULL);
-    for (size_t i = 0; i < sizeof measured / sizeof measured[0]; i++)
-        run_apart(check, &measured[i]);
+    for (size_t r = 0; r < sizeof rooms / sizeof rooms[0]; r++) {
+        run_apart(prepare, &rooms[r]);
+        for (size_t i = 0; i < sizeof measured / sizeof measured[0]; i++)
+            run_apart(check, &measured[i]);
+    }
     return 0;
 }
