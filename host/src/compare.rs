@@ -969,8 +969,8 @@ fn compare_consoles(comparison: &mut Comparison, rng: &mut Rng, store: &[u8]) ->
     Ok(())
 }
 
-/// The origins at the end of the longest ways back: on strip 1 the first entries, on strip 2 none.
-fn compare_long_ways(comparison: &mut Comparison) -> Outcome<()> {
+/// The origins at the end of the longest walks: on strip 1 the first entries, on strip 2 none.
+fn compare_long_walks(comparison: &mut Comparison) -> Outcome<()> {
     for room in [gen::chain_of_entries(1024), gen::chain_of_merges(1024)] {
         let pair = &mut Pair::of_store(&layout::encode(&room));
         comparison.origins(pair, &[0, 1], &[1, 2], &CELLS)?;
@@ -1140,7 +1140,7 @@ fn fixed_cases(comparison: &mut Comparison, rng: &mut Rng) -> Outcome<()> {
     compare_numbers(comparison, rng)?;
     compare_edges(comparison, rng)?;
     compare_long_tapes(comparison, rng)?;
-    compare_long_ways(comparison)?;
+    compare_long_walks(comparison)?;
     compare_grown_store(comparison, rng, 1023)?;
     compare_grown_store(comparison, rng, 1024)
 }

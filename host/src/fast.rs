@@ -534,7 +534,7 @@ fn find_origin(store: &[u8], console: usize, strip: usize, cell: usize) -> Resul
 }
 
 /// Goes back along versions that show what the head shows, to an entry that wrote the cell or to version 0. A merge shows the value of
-/// its receiver or its giver, so the way goes to the giver exactly where the receiver shows something else: where the receiver
+/// its receiver or its giver, so the walk goes to the giver exactly where the receiver shows something else: where the receiver
 /// shows the same, either it had changed the cell or all three values are the same. No base is looked at.
 fn origin_behind(blocks: &[Block], head: usize, strip: usize, cell: usize) -> usize {
     let place = BOARD_AT + STRIP_BYTES * strip + 2 * cell;

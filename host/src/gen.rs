@@ -290,7 +290,7 @@ fn joined(
         })
 }
 
-/// A full room of console 0 alone: a level on strip 1, then calls. The way back from the head passes every version.
+/// A full room of console 0 alone: a level on strip 1, then calls. The walk back from the head passes every version.
 pub fn chain_of_entries(capacity: usize) -> Room {
     let level: &[u8] = &[code::LEVEL, 0, 1, 0, 100];
     let call: &[u8] = &[code::CALL_COUNTED, 0, 0];
@@ -298,7 +298,7 @@ pub fn chain_of_entries(capacity: usize) -> Room {
 }
 
 /// A full room of two consoles: on strip 1 console 0 enters a level and console 1 a heading (versions 1 and 2); then console 0 merges
-/// console 1 and console 1 counts a call, by turns. The way back from the head of console 0 passes every merge.
+/// console 1 and console 1 counts a call, by turns. The walk back from the head of console 0 passes every merge.
 pub fn chain_of_merges(capacity: usize) -> Room {
     let start: [&[u8]; 3] = [
         &[code::FORK, 1, 0],

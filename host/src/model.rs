@@ -406,7 +406,7 @@ pub fn cell_origin(room: &Room, console: usize, strip: usize, cell: Cell) -> Opt
     Some(search.origin_from(room.head(console)?))
 }
 
-/// What is looked at on the way from a head to the origin of one cell.
+/// What is looked at on the walk from a head to the origin of one cell.
 struct OriginSearch<'a> {
     room: &'a Room,
     boards: Vec<Board>,

@@ -218,10 +218,10 @@ impl CellOfRoom<'_> {
         self.cell.value(&self.boards[version][self.strip])
     }
 
-    /// For each version, from 0 upward, the way to its origin. A merge shows the value of one of its sides, and its way goes by
+    /// For each version, from 0 upward, the walk to its origin. A merge shows the value of one of its sides, and its walk goes by
     /// the receiver unless the receiver shows something else.
-    fn ways(&self) -> Vec<Vec<usize>> {
-        let mut ways: Vec<Vec<usize>> = Vec::new();
+    fn walks(&self) -> Vec<Vec<usize>> {
+        let mut walks: Vec<Vec<usize>> = Vec::new();
         for (number, version) in self.room.versions.iter().enumerate() {
             let next = match *version {
                 Version::Start => None,
@@ -232,11 +232,11 @@ impl CellOfRoom<'_> {
                 }
                 Version::Merge { giver, .. } => Some(giver),
             };
-            let behind = next.map_or(&[][..], |next| &ways[next]);
-            let way = [&[number], behind].concat();
-            ways.push(way);
+            let behind = next.map_or(&[][..], |next| &walks[next]);
+            let walk = [&[number], behind].concat();
+            walks.push(walk);
         }
-        ways
+        walks
     }
 
     /// The found entry is one that the head descends from and has written the value shown; where there is none, the value is 0.
@@ -264,15 +264,15 @@ impl CellOfRoom<'_> {
 
     /// Checks the origin with each present console.
     fn check(&self, seen: &mut SeenOrigins) {
-        let ways = self.ways();
+        let walks = self.walks();
         for console in self.room.present() {
             let head = self.room.head(console).expect("the console is present");
-            let way = &ways[head];
+            let walk = &walks[head];
             let origin = cell_origin(self.room, console, self.strip, self.cell).expect("the same");
-            assert_eq!(Some(&origin), way.last());
+            assert_eq!(Some(&origin), walk.last());
             self.check_origin(head, origin);
             seen.origins[usize::from(origin > 0)] += 1;
-            let merges = way
+            let merges = walk
                 .iter()
                 .filter_map(|&version| self.changed_sides(version));
             merges.for_each(|[receiver, giver]| {
@@ -282,7 +282,7 @@ impl CellOfRoom<'_> {
     }
 }
 
-/// How many origins were version 0 and how many above it, and how many merges the ways passed, by whether the receiver's side had
+/// How many origins were version 0 and how many above it, and how many merges the walks passed, by whether the receiver's side had
 /// changed the cell and whether the giver's had.
 #[derive(Debug, Default)]
 struct SeenOrigins {
@@ -346,23 +346,23 @@ fn full_rooms_of_many_seeds_and_capacities() {
     }
 }
 
-/// The versions on the way from console 0's head to the origin of a cell that no entry writes.
-fn longest_way(room: &Room) -> usize {
+/// The versions on the walk from console 0's head to the origin of a cell that no entry writes.
+fn longest_walk(room: &Room) -> usize {
     let head = room.head(0).expect("console 0 is present");
-    CellOfRoom::of(room, 31, Cell::Heading).ways()[head].len()
+    CellOfRoom::of(room, 31, Cell::Heading).walks()[head].len()
 }
 
 #[test]
-fn chains_are_full_rooms_with_long_ways() {
+fn chains_are_full_rooms_with_long_walks() {
     let entries = gen::chain_of_entries(1024);
     assert!(sound(&entries));
     assert_eq!(entry_count(&entries), 1023);
-    assert_eq!(longest_way(&entries), 1024);
+    assert_eq!(longest_walk(&entries), 1024);
     let merges = gen::chain_of_merges(1024);
     assert!(sound(&merges));
     assert_eq!(merges.versions.len(), 1024);
     assert_eq!(entry_count(&merges), 512);
-    assert_eq!(longest_way(&merges), 511 + 2, "all merges, then 1 and 0");
+    assert_eq!(longest_walk(&merges), 511 + 2, "all merges, then 1 and 0");
 }
 
 fn entry_count(room: &Room) -> usize {

@@ -16,7 +16,7 @@ use Rattle.buffer.proofs.Fields.{bytes-word}
 use Rattle.buffer.proofs.Writes.{put-same, put-apart}
 use Rattle.board.specs.declared.Cell.{Cell}
 use Rattle.board.specs.declared.Cell.the-variants.{Level, Heading}
-use Rattle.board.specs.Board.{stripSize, stripCount, boardSize, emptyBoard, mergeStrip, mergeStrips, mergeBoard, levelAt, headingAt, marksAt, callsAt, alertsAt, flagAt, levelEntry, headingEntry, markPutEntry, markTakenEntry, callEntry, alertOnEntry, alertOffEntry, enter, mergeValue, valueIn, writingCode, followsGiver}
+use Rattle.board.specs.Board.{stripSize, stripCount, boardSize, emptyBoard, mergeStrip, mergeStrips, mergeBoard, levelAt, headingAt, marksAt, callsAt, alertsAt, flagAt, levelEntry, headingEntry, markPutEntry, markTakenEntry, callEntry, alertOnEntry, alertOffEntry, enter, mergeValue, cellAt, valueIn, writingCode, followsGiver}
 use Rattle.board.proofs.Length.{mergeStrips-length}
 
 -- an empty board shows 0 everywhere
@@ -26,9 +26,13 @@ empty-word i l =
     let lo = getD-replicate {A = ℕ} boardSize (i + 1) 0 0 l in
     omega arith
 
+-- a level and a heading lie in the board
+pub cell-inside : (cell : Cell) (k : ℕ) → k < stripCount → cellAt cell k + 1 < boardSize
+cell-inside Level k h = omega arith
+cell-inside Heading k h = omega arith
+
 pub value-empty : (cell : Cell) (k : ℕ) → k < stripCount → valueIn cell k emptyBoard ≡ 0
-value-empty Level k h = empty-word (levelAt k) (omega arith)
-value-empty Heading k h = empty-word (headingAt k) (omega arith)
+value-empty cell k h = empty-word (cellAt cell k) (cell-inside cell k h)
 
 -- a byte of a merged board is a byte of the merged strip
 strips-at : (l a b : List ℕ) (n k i : ℕ) → k < n → i < stripSize → getD (mergeStrips l a b n) (stripSize * k + i) 0 ≡ getD (mergeStrip l a b k) i 0

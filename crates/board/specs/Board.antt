@@ -133,8 +133,8 @@ enter code k x s =
     (cond (eqb code alertOnEntry) (set (putWord s (alertsAt k) (wordAt s (alertsAt k) + 1)) (flagAt k) 1)
     (cond (eqb code alertOffEntry) (set s (flagAt k) 0) s))))))
 
--- "cell (0 level, 1 heading)": of the cells of a strip, the two whose origin can be asked about. The number of each; another number is
--- refused (5) and never read as a cell.
+-- "cell (0 level, 1 heading)": of the cells of a strip, the two whose origin can be asked about, and their numbers. What another number is taken
+-- for does not matter, as it is refused (5).
 abbrev pub cellCount : ℕ
 cellCount = 2
 
@@ -159,7 +159,7 @@ abbrev pub writingCode : Cell → ℕ
 writingCode Level = levelEntry
 writingCode Heading = headingEntry
 
--- "if the receiver's value equals the base's and the giver's differs": the giver's side alone changed the value. Where all three are equal
--- the receiver's side is followed, though the merged value is the giver's too.
+-- "if the receiver's value equals the base's and the giver's differs": of the two sides the giver's alone differs from the base. Where all
+-- three are equal the receiver's side is followed, though the merged value is the giver's too.
 abbrev pub followsGiver : ℕ → ℕ → ℕ → Bool
 followsGiver l a b = eqb a l && not (eqb b l)

@@ -57,7 +57,7 @@ pub fn writing_code(cell: Cell) -> usize
     }
 }
 
-// Whether the giver's side alone changed a value: the base's, the receiver's and the giver's.
+// Of the values of base, receiver and giver, whether the giver's alone differs from the base's.
 pub fn follows_giver(l: usize, a: usize, b: usize) -> bool
     ensures { λ r. ⌜ r ≡ followsGiver l a b ⌝ }
 {

@@ -35,6 +35,7 @@ use Rattle.tape.specs.Tape.{tapeOf}
 use Rattle.unit.specs.Calls.{Outcome, replied, written, openOutcome, stepOutcome, commandOutcome, pauseOutcome, commonReply, originReply, command, replyTo, storeAfter}
 use Rattle.unit.specs.Journal.{Journal, feed}
 use Rattle.unit.specs.Convergence.{afterCalls}
+use Rattle.unit.proofs.Answered.{origin-answered}
 use Rattle.unit.proofs.Commanded.{held-refused}
 use Rattle.unit.proofs.RoundTrip.{pause-done}
 use Rattle.cases.specs.Run.{answerIn, roomAfter, made, answers}
@@ -105,10 +106,16 @@ module _ (r : Room) (rest : List ℕ) (s : soundRoom r ≡ true) where
   -- the origin of a cell
   origin-called : (c k cell : ℕ) → present r c ≡ true → k < stripCount → cell < cellCount
       → originReply (encode r ++ rest) c k cell ≡ replied 0 (origin r c k (cellOf cell))
-  unfolding originReply firstRefusal
   origin-called c k cell p is-strip is-cell =
-      let named = present-console r c (sound-facts r s .sixteen) p in
-      rw (holds-encode r rest s, room-encode r rest s, lt-ltb c consoleCount named, lt-ltb k stripCount is-strip, lt-ltb cell cellCount is-cell, p)
+      rw (room-encode r rest s) at
+      (origin-answered (encode r ++ rest) c k cell
+      record {
+        is-console = present-console r c (sound-facts r s .sixteen) p;
+        is-strip = is-strip;
+        is-cell = is-cell;
+        held = holds-encode r rest s;
+        here = rw (room-encode r rest s) p;
+      })
 
 -- a list of commands, one call after the other: the buffer afterwards, the answers, and the room
 module _ (rest : List ℕ) where

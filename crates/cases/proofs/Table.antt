@@ -1,4 +1,4 @@
--- The theorem of the table: what the definitions give is what the paper says, by computation.
+-- The theorems of the tables: what the definitions give is what the paper and the requests say, by computation.
 use mathlib.Core.Path.{_≡_, refl}
 use mathlib.Core.List.{map}
 use Rattle.board.specs.Board.{mergeFlag, mergeStrip, mergeStrips, enter}
@@ -12,6 +12,7 @@ use Rattle.room.specs.Boards.{boardMade, boardOf}
 use Rattle.room.specs.Origin.{originOf, origin}
 use Rattle.room.specs.Step.{stateTests, stepRefusal, step}
 use Rattle.store.specs.Layout.{holdsStore}
+use Rattle.unit.specs.Calls.{originReply}
 use Rattle.tape.specs.Tape.{versionRecords, headRecords, tapeOf}
 use Rattle.cases.specs.Run.{Case, merge, forward, answerIn, roomAfter, made, answers, session}
 use Rattle.cases.specs.Requests.{originCases}
@@ -33,5 +34,5 @@ starred-hold = rw (stuck-merges, stuck-forwards)
 
 -- those of the requests
 pub origins-hold : map (λ (c : Case). c .got) originCases ≡ map (λ (c : Case). c .due) originCases
-unfolding mergeFlag mergeStrip mergeStrips enter everyBelow someBelow highestBelow ancestor isMeet meet firstRefusal shapeOf lengthOf numberAt operandsOf isOperand kindOf commandRefusal decode common stateTests stepRefusal step boardMade boardOf originOf origin holdsStore answerIn roomAfter made originCases
+unfolding mergeFlag mergeStrip mergeStrips enter everyBelow someBelow highestBelow ancestor isMeet meet firstRefusal shapeOf lengthOf numberAt operandsOf isOperand kindOf commandRefusal decode common stateTests stepRefusal step boardMade boardOf originOf origin holdsStore originReply answerIn roomAfter made originCases
 origins-hold = refl

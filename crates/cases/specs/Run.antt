@@ -12,7 +12,7 @@ use Rattle.graph.specs.Graph.{versionCount}
 use Rattle.room.specs.Room.{Room, headOf}
 use Rattle.room.specs.Step.{stepRefusal, step}
 
--- A row: what the definitions give, and what the paper says.
+-- A row: what the definitions give, and what the paper or a request says.
 pub record Case : Type 0 where
   pub got : List ℕ
   pub due : List ℕ

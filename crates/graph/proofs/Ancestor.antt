@@ -138,7 +138,7 @@ nodeOf-named (m ∷ g) v n h =
     ]
 
 -- a test of every version holds at each, given the versions before it
-pub every-at : (f : Graph → Node → Bool) (g : Graph) (v : ℕ) (n : Node) → everyVersion f g ≡ true → nodeOf g v ≡ some n
+every-at : (f : Graph → Node → Bool) (g : Graph) (v : ℕ) (n : Node) → everyVersion f g ≡ true → nodeOf g v ≡ some n
     → (h : Graph) × (versionCount h ≡ v) × (f h n ≡ true)
 every-at f [] v n w e = absurd (omega (arith, nodeOf-named [] v n e))
 every-at f (m ∷ g) v n w e =
@@ -147,9 +147,12 @@ every-at f (m ∷ g) v n w e =
       | no d ↦ every-at f g v n (every-old f m g w) (cc (nodeOf-other m g v d))
     ]
 
--- so each parent is a lower number
+-- so each parent is a lower number, and a version
 pub parent-below : (g : Graph) (n : Node) (p v : ℕ) → everyVersion parentsLower g ≡ true → nodeOf g v ≡ some n → Parent n p → p < v
 parent-below g n p v w e r = let before = every-at parentsLower g v n w e in omega (arith, parent-lower (before .0) (before .2) r)
+
+pub parent-named : (g : Graph) (n : Node) (p v : ℕ) → everyVersion parentsLower g ≡ true → nodeOf g v ≡ some n → Parent n p → p < versionCount g
+parent-named g n p v w e r = omega (arith, parent-below g n p v w e r, nodeOf-named g v n e)
 
 -- a parent is an ancestor
 pub parent-ancestor : (g : Graph) (n : Node) (p v : ℕ) → everyVersion parentsLower g ≡ true → nodeOf g v ≡ some n → Parent n p → ancestor g p v ≡ true

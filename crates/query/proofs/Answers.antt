@@ -1,8 +1,9 @@
--- What the parts of bytes that hold a sound store say of its room: counts, heads, common versions, ancestors and boards.
+-- What the parts of bytes that hold a sound store say of its room: counts, nodes, heads, common versions, ancestors and boards.
 -- Assumes nothing.
 use mathlib.Core.Path.{_≡_, refl, sym, _∙_, ap}
 use mathlib.Core.Bool.{true, not}
 use mathlib.Core.List.{List}
+use mathlib.Core.Option.{some}
 use Prim.Native.Nat.{ℕ, pred, _≤_, _<_}
 use native.Mathlib.Omega.{arith}
 use lib.Dec.{eqb}
@@ -10,18 +11,19 @@ use lib.ListN.{length}
 use Rattle.buffer.specs.Field.{wordAt}
 use Rattle.buffer.specs.Row.{member}
 use Rattle.buffer.proofs.Rows.{member-row}
-use Rattle.graph.specs.Graph.{versionCount, ancestor}
+use Rattle.graph.specs.Graph.{versionCount, nodeOf, ancestor}
 use Rattle.graph.proofs.Ancestor.{ancestor-below}
 use Rattle.command.specs.Code.{consoleCount}
 use Rattle.room.specs.Room.{present, head, common}
 use Rattle.room.specs.Boards.{boardOf}
 use Rattle.room.proofs.Sound.{capacity-range}
 use Rattle.room.proofs.Steps.{common-meet}
-use Rattle.store.specs.Layout.{rowSize, blockAt, capacityAt, countAt, settingsIn, roomIn, holdsStore}
+use Rattle.store.specs.Layout.{rowSize, blockAt, capacityAt, countAt, settingsIn, nodeIn, roomIn, holdsStore}
 use Rattle.store.specs.Check.{rowPart, boardPart, commonIn}
 use Rattle.store.proofs.Commons.{head-is, present-is}
 use Rattle.store.proofs.Reading.{count-read}
 use Rattle.store.proofs.Checks.{own-heads}
+use Rattle.store.proofs.Versions.{versions-length, versions-node}
 use Rattle.store.proofs.Whole.{whole-sound, whole-front, whole-long, whole-small, whole-held, whole-fields, whole-low}
 use Rattle.room.specs.Sound.{maxCapacity}
 
@@ -41,6 +43,10 @@ module _ (s : List ℕ) (t : holdsStore s ≡ true) where
   -- the blocks of its versions lie in the bytes
   pub versions-inside : blockAt (versionCount (roomIn s .versions)) ≤ length s
   versions-inside = omega (arith, whole-sound s t .fits, whole-long s t)
+
+  pub node-answer : (v : ℕ) → 0 < v → v < versionCount (roomIn s .versions) → nodeOf (roomIn s .versions) v ≡ some (nodeIn s v)
+  unfolding roomIn
+  node-answer v p l = versions-node s (pred (wordAt s countAt)) v p (omega (arith, versions-length s (pred (wordAt s countAt))))
 
   -- consoles
   pub head-answer : (c : ℕ) → c < consoleCount

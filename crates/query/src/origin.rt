@@ -45,7 +45,7 @@ fn value_of(s: &[u8], v: Version, strip: Strip, cell: Cell) -> usize
     value_in(board_of(s, v), strip, cell)
 }
 
-// Whether a version, a merge of these two, shows the giver's value.
+// Whether a version, a merge of these two, leads to the giver's: of the two sides' values the giver's alone differs from the base's.
 fn leads_to_giver(
     s: &[u8],
     v: Version,

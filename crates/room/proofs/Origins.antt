@@ -2,7 +2,7 @@
 -- Assumes nothing.
 use Prim.Native.Nat.{ℕ, _<_}
 use mathlib.Core.Path.{_≡_, refl, sym, _∙_, ap}
-use mathlib.Core.Bool.{Bool, true, false, cond}
+use mathlib.Core.Bool.{true, false, cond}
 use mathlib.Core.List.{[], _∷_}
 use mathlib.Core.Logic.{inl, inr}
 use mathlib.Core.Option.{some}
@@ -87,11 +87,11 @@ module _ (cell : Cell) (k : ℕ) where
       ]
 
   -- what the walk from v finds where v shows x: o is 0 and x is 0, or o is an entry behind v that wrote x
-  pub record Found (g : Graph) (v o x : ℕ) : Type 0 where
-    pub small : x < 65536
-    pub none : o ≡ 0 → x ≡ 0
-    pub behind : 0 < o → ancestor g o v ≡ true
-    pub wrote : 0 < o → (p : ℕ) × (nodeOf g o ≡ some (entry p (writingCode cell) k x))
+  record Found (g : Graph) (v o x : ℕ) : Type 0 where
+    small : x < 65536
+    none : o ≡ 0 → x ≡ 0
+    behind : 0 < o → ancestor g o v ≡ true
+    wrote : 0 < o → (p : ℕ) × (nodeOf g o ≡ some (entry p (writingCode cell) k x))
 
   -- it is found from a later version too, if that has the ancestors of v
   found-on : (n : Node) (g : Graph) (v w o x : ℕ) → o < versionCount g → (ancestor g o v ≡ true → ancestor (n ∷ g) o w ≡ true) → Found g v o x → Found (n ∷ g) w o x
@@ -167,7 +167,7 @@ module _ (cell : Cell) (k : ℕ) where
 
 -- on the board of a present console
 module _ (r : Room) (c k : ℕ) (cell : Cell) where
-  pub origin-found : Sound r → present r c ≡ true → k < stripCount → Found cell k (r .versions) (head r c) (origin r c k cell) (valueShown r c k cell)
+  origin-found : Sound r → present r c ≡ true → k < stripCount → Found cell k (r .versions) (head r c) (origin r c k cell) (valueShown r c k cell)
   unfolding origin
   origin-found s p inside = found cell k inside (r .versions) (head r c) (s .lower) (s .ranged) (s .named c (head r c) (present-head r c p))
 

@@ -10,7 +10,7 @@ use Rattle.command.specs.Code.{consoleCount}
 use Rattle.room.specs.declared.Settings.{Settings}
 
 -- What the room is set to, its versions and its heads; rows, boards, bases and commons are functions of the versions and heads. The versions
--- are the code's own nodes; a head, and a version or console that is asked after, is a plain number here, as it is counted, compared and
+-- are the code's own nodes; a head, and a version or console that is asked about, is a plain number here, as it is counted, compared and
 -- looked up.
 pub record Room : Type 0 where
   pub settings : Settings

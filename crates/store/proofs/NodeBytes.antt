@@ -73,6 +73,11 @@ module _ (s : List ℕ) (v : ℕ) where
         (stands-join (word nodeBaseIn) (zeros (nodeSize - 10)) (word-stands (nodeBaseAt v) b) (zero-stands (nodeBaseAt v + 2) (nodeSize - 10) k)
         (omega arith)) (omega arith)) (omega arith)) (omega arith)) refl)
 
+    -- the base of a merge stands in its node
+    pub merge-base-read : (p q : ℕ) → Stands s (blockAt v) (nodeBytes g (some (merge p q))) → versionCount g ≤ maxCapacity → nodeBaseIn ≡ baseOf g p q
+    unfolding nodeBytes
+    merge-base-read p q h small = stands-field h 8 (baseOf g p q) (omega arith) refl refl (omega (arith, meetNumber-below g p q))
+
     module _ (h : Stands s (blockAt v) (nodeBytes g (some mergeIn))) where
       abbrev fields : List ℕ
       fields = word nodeParentIn ++ word nodeGiverIn ++ word (baseOf g nodeParentIn nodeGiverIn)
@@ -86,8 +91,3 @@ module _ (s : List ℕ) (v : ℕ) where
       pub merge-rest : allZero (part s (nodeBaseAt v + 2) (nodeSize - 10)) ≡ true
       unfolding nodeBytes
       merge-rest = stands-zero (nodeBaseAt v + 2) (nodeSize - 10) (stands-right (mergeNodeCode ∷ zeros 3 ++ fields) (zeros (nodeSize - 10)) h (omega arith))
-
-      pub merge-base-read : versionCount g ≤ maxCapacity → nodeBaseIn ≡ baseOf g nodeParentIn nodeGiverIn
-      unfolding nodeBytes
-      merge-base-read small =
-          stands-field h 8 (baseOf g nodeParentIn nodeGiverIn) (omega arith) refl refl (omega (arith, meetNumber-below g nodeParentIn nodeGiverIn))

@@ -14,7 +14,7 @@ use Rattle.buffer.proofs.Sets.{row-ext}
 use Rattle.graph.specs.declared.Node.{Node}
 use Rattle.graph.specs.declared.Node.the-variants.{Entry, Merge}
 use Rattle.graph.specs.Graph.{Graph, versionCount, someParent, ancestor, nodeOf, isEntryNode, isEntry, baseOf, everyVersion, parentsLower}
-use Rattle.graph.proofs.Ancestor.{ancestor-new, ancestor-old, ancestor-below, nodeOf-new, nodeOf-old, parent-ancestor, isEntry-new, isEntry-old, isEntry-named}
+use Rattle.graph.proofs.Ancestor.{ancestor-new, ancestor-old, nodeOf-new, nodeOf-old, parent-named, isEntry-new, isEntry-old, isEntry-named}
 use Rattle.graph.proofs.Parent.{Parent, parent-lower, receiver, giver}
 use Rattle.graph.proofs.Meet.{meet-old}
 use Rattle.room.specs.Boards.{boardMade, boardOf}
@@ -47,9 +47,6 @@ unfolding nodeBytes
 node-kept n (Entry p code strip operand) g h = refl
 node-kept n (Merge p q) g h = rw (meet-old n g (p .0) (q .0) (h (p .0) receiver) (h (q .0) giver))
 
-node-lower : (g : Graph) (v : ℕ) (m : Node) → everyVersion parentsLower g ≡ true → nodeOf g v ≡ some m → (p : ℕ) → Parent m p → p < versionCount g
-node-lower g v m h e p r = ancestor-below g p v (parent-ancestor g m p v h e r)
-
 node-old : (n : Node) (g : Graph) (v : ℕ) → everyVersion parentsLower g ≡ true → v < versionCount g
     → nodeBytes (n ∷ g) (nodeOf (n ∷ g) v) ≡ nodeBytes g (nodeOf g v)
 unfolding nodeBytes
@@ -57,7 +54,7 @@ node-old n g v h l = ap (nodeBytes (n ∷ g)) (nodeOf-old n g v l) ∙ go (nodeO
   where
     go : (o : Option Node) → nodeOf g v ≡ o → nodeBytes (n ∷ g) o ≡ nodeBytes g o
     go none e = refl
-    go (some m) e = node-kept n m g (node-lower g v m h e)
+    go (some m) e = node-kept n m g (λ p r. parent-named g m p v h e r)
 
 pub shown-old : (n : Node) (g : Graph) (v : ℕ) → everyVersion parentsLower g ≡ true → v < versionCount g → shown (n ∷ g) v ≡ shown g v
 shown-old n g v h l = λ i. record {

@@ -5,7 +5,9 @@ use mathlib.Core.Path.{_≡_, refl, sym, _∙_, ap, subst}
 use mathlib.Core.Bool.{Bool, true, false, cond, not, _&&_}
 use mathlib.Core.List.{List, []}
 use Prim.Native.Nat.{ℕ, zero, suc, _≤_, _<_}
+use mathlib.Core.Option.{some}
 use native.Mathlib.Omega.{arith}
+use native.Mathlib.Decide.{ℕ-discrete}
 use lib.Dec.{eqb, ltb}
 use lib.ListN.{length}
 use borrow.Author.Tests.{eqb-true, ne-eqb, ltb-true, lt-ltb}
@@ -17,7 +19,7 @@ use Rattle.buffer.proofs.Parts.{Bytes, same-of, zero-stands, stands-zero, zero-
 use Rattle.board.specs.Board.{boardSize, enter, mergeBoard}
 use Rattle.graph.specs.Graph.{Graph, versionCount, nodeOf, everyVersion}
 use Rattle.graph.proofs.Parent.{parent-lower, receiver, giver}
-use Rattle.graph.proofs.Ancestor.{ancestor-below}
+use Rattle.graph.proofs.Ancestor.{ancestor-below, nodeOf-new, nodeOf-old}
 use Rattle.graph.proofs.Meet.{Meet, meet-found, meet-number}
 use Rattle.graph.proofs.Growth.{merge-base}
 use Rattle.room.specs.Sound.{maxCapacity}
@@ -125,7 +127,7 @@ module _ (s : List ℕ) (g : Graph) (small : versionCount g < maxCapacity) (h : 
       let second = parent-lower g (k .lower) giver in
       let grown = held-next h k in
       let base = merge-base (record { lower = grown .lower; based = grown .based }) in
-      let e : l ≡ base .0 = merge-base-read s v g (k .told .node) (omega arith) ∙ meet-number (base .1) in
+      let e : l ≡ base .0 = merge-base-read s v g p q (k .told .node) (omega arith) ∙ meet-number (base .1) in
       let m : Meet g p q l = rw e (base .1) in
       and-i _ _ (k .lower)
       (and-i _ _ (lt-ltb l v (ancestor-below g l p (m .first)))
@@ -197,6 +199,15 @@ pub versions-length : (s : List ℕ) (n : ℕ) → length (versionsIn s n) ≡ n
 unfolding versionsIn
 versions-length s zero = refl
 versions-length s (suc n) = ap suc (versions-length s n)
+
+pub versions-node : (s : List ℕ) (n v : ℕ) → 0 < v → v ≤ n → nodeOf (versionsIn s n) v ≡ some (nodeIn s v)
+unfolding versionsIn
+versions-node s zero v p l = absurd (omega arith)
+versions-node s (suc n) v p l =
+    elim (ℕ-discrete v (suc n)) [
+      | yes e ↦ rw e (rw (versions-length s n) at (nodeOf-new (nodeIn s (suc n)) (versionsIn s n)))
+      | no d ↦ nodeOf-old (nodeIn s (suc n)) (versionsIn s n) v (omega (arith, versions-length s n)) ∙ versions-node s n v p (omega arith)
+    ]
 
 pub versions-held : (s : List ℕ) (n : ℕ) → Bytes s → blockAt 1 ≤ length s → n < maxCapacity → versionsRight s n ≡ true → Held s (versionsIn s n)
 unfolding versionsRight versionsIn

@@ -7,18 +7,19 @@ use Prim.Native.Nat.{ℕ, _≤_, _<_}
 use native.Mathlib.Omega.{arith}
 use lib.Dec.{eqb}
 use lib.ListN.{length}
-use borrow.Author.Tests.{ltb-true, ltb-false, le-ltb, ne-eqb, not-false}
+use borrow.Author.Tests.{ltb-true, lt-ltb, ltb-false, le-ltb, ne-eqb, not-false}
 use Rattle.laws.proofs.Logic.{or-none-l, or-none-r, or-same}
 use Rattle.buffer.specs.Field.{overwrite}
-use Rattle.board.specs.Board.{stripCount, boardSize, cellCount}
+use Rattle.board.specs.Board.{stripCount, boardSize, cellCount, cellOf}
 use Rattle.refusal.specs.Refusal.{_when_, firstRefusal, firstOf}
 use Rattle.command.specs.Code.{consoleCount, isConsole, isStrip, isCell}
 use Rattle.room.specs.Room.{present, openSettings}
 use Rattle.room.specs.Sound.{settingsInRange}
+use Rattle.room.specs.Origin.{origin}
 use Rattle.room.specs.Step.{absent}
 use Rattle.store.specs.Layout.{storeSize, roomIn, holdsStore}
 use Rattle.unit.specs.declared.Reply.{Reply}
-use Rattle.unit.specs.Calls.{Outcome, replied, written, tooShort, bufferTests, openTests, consoleStateTests, consoleTests, pairStateTests, pairTests, originTests}
+use Rattle.unit.specs.Calls.{Outcome, replied, written, tooShort, bufferTests, openTests, consoleStateTests, consoleTests, pairStateTests, pairTests, originTests, originReply}
 use Rattle.refusal.proofs.Refusals.{none-applies, numbered, first-append, first-none}
 
 -- a call with this reply, which left this in the lent buffer, went as it should
@@ -123,3 +124,8 @@ origin-allowed s c k cell z =
       held = not-false (holdsStore s) (n .1 .1 .1 .0);
       here = not-false (present (roomIn s) c) (n .1 .1 .1 .1 .0);
     }
+
+pub origin-answered : (s : List ℕ) (c k cell : ℕ) → Askable s c k cell → originReply s c k cell ≡ replied 0 (origin (roomIn s) c k (cellOf cell))
+unfolding originReply firstRefusal
+origin-answered s c k cell a =
+    rw (lt-ltb c consoleCount (a .is-console), lt-ltb k stripCount (a .is-strip), lt-ltb cell cellCount (a .is-cell), a .held, a .here)

@@ -31,11 +31,12 @@ use Rattle.room.proofs.Lengths.{boardOf-length}
 use Rattle.store.specs.Layout.{roomIn, holdsStore}
 use Rattle.store.proofs.RoundTrip.{holds-sound}
 use Rattle.store.proofs.Whole.{whole-sound}
-use Rattle.unit.specs.Calls.{replied, written, boardOutcome, heardReply, commonReply, originReply}
+use Rattle.unit.specs.Calls.{replied, written, boardOutcome, heardReply, commonReply}
 use Rattle.unit.specs.Journal.{Journal, Made, entered, merged, madeBy, isPresent, headNumber, leads, madeAs, wasEntered, holds, hasHeard, entriesHeard, callOf, callsHeard}
 use Rattle.unit.specs.Convergence.{Common, Origin, Converged, Demand3}
 use Rattle.unit.proofs.Reading.{leads-ancestor, made-node, entered-entry, call-entry}
 use Rattle.unit.proofs.Matched.{journalOf, matched}
+use Rattle.unit.proofs.Answered.{Askable, origin-answered}
 
 -- what the journal of a room says is what the room says
 holds-ancestor : (r : Room) (v e : ℕ) → holds (journalOf r) v e ≡ (isEntry (r .versions) e && ancestor (r .versions) e v)
@@ -124,13 +125,13 @@ module _ (store : List ℕ) (h : holdsStore store ≡ true) where
     heard-count = cc (h, console c p, entries-count (roomIn store) c)
 
     origin-told : (k cell : ℕ) → k < stripCount → cell < cellCount → (v : ℕ) × Origin store (journalIn store) c k cell v
-    unfolding originReply firstRefusal
     origin-told k cell is-strip is-cell =
         let r = roomIn store in
-        let sound = holds-sound store h in (
+        let sound = holds-sound store h in
+        let asked : Askable store c k cell = record { is-console = present-console r c (s .sixteen) p; is-strip = is-strip; is-cell = is-cell; held = h; here = p } in (
           origin r c k (cellOf cell),
           record {
-            answered = cc (h, console c p, lt-ltb k stripCount is-strip, lt-ltb cell cellCount is-cell);
+            answered = origin-answered store c k cell asked;
             heard = λ l. holds-ancestor r (head r c) (origin r c k (cellOf cell)) ∙ origin-heard r c k (cellOf cell) sound p is-strip l;
             entry = λ l.
                 let e = origin-wrote r c k (cellOf cell) sound p is-strip l in

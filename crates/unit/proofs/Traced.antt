@@ -1,15 +1,14 @@
 -- Where the question for the origin of a cell is accepted, the version that it counts is 0 and the copied board shows 0, or it is an entry that
 -- the console has heard and that wrote the value shown.
 -- Assumes nothing.
-use Prim.Native.Nat.{ℕ, _+_, _≤_, _<_}
+use Prim.Native.Nat.{ℕ, _≤_}
 use mathlib.Core.Path.{_≡_, sym, ap}
 use mathlib.Core.List.{List}
 use native.Mathlib.Omega.{arith}
 use lib.ListN.{length}
 use Rattle.buffer.proofs.Fields.{wordAt-left}
-use Rattle.board.specs.declared.Cell.{Cell}
-use Rattle.board.specs.declared.Cell.the-variants.{Level, Heading}
-use Rattle.board.specs.Board.{stripCount, boardSize, cellOf, cellAt}
+use Rattle.board.specs.Board.{boardSize, cellOf, cellAt}
+use Rattle.board.proofs.Cells.{cell-inside}
 use Rattle.room.specs.Room.{head}
 use Rattle.room.specs.Boards.{boardOf}
 use Rattle.room.specs.Origin.{origin, valueShown}
@@ -29,11 +28,6 @@ unfolding originReply
 accepted store c k cell v told =
     let none = ap (λ (r : Reply). r .answer) told in
     (origin-allowed store c k cell none, sym (rw none at (ap (λ (r : Reply). r .count) told)))
-
--- the cells lie in the board
-cell-inside : (cell : Cell) (k : ℕ) → k < stripCount → cellAt cell k + 1 < boardSize
-cell-inside Level k l = omega arith
-cell-inside Heading k l = omega arith
 
 -- the copied board shows the value of the head's board
 shown-is : (store : List ℕ) (c k cell : ℕ) → Askable store c k cell → (output : List ℕ) → boardSize ≤ length output

@@ -27,7 +27,7 @@ ghost use Rattle.refusal.specs.Refusal.{firstRefusal};
 ghost use Rattle.command.specs.Code.{consoleCount};
 ghost use Rattle.unit.specs.Calls.{bufferTests, consoleTests, pairStateTests, pairTests, originInputTests, originTests, heardReply, commonReply, originReply, boardOutcome};
 
-// Why these bytes can't be asked after two consoles, or 0.
+// Why these bytes can't be asked about two consoles, or 0.
 fn pair_state_refusal(store: &[u8], c: Console, d: Console) -> u32
     requires { ⌜ (c .0 < consoleCount) × (d .0 < consoleCount) ⌝ }
     ensures { λ r. ⌜ r ≡ firstRefusal (pairStateTests (now (store .entry)) (c .0) (d .0)) ⌝ }
@@ -38,7 +38,7 @@ fn pair_state_refusal(store: &[u8], c: Console, d: Console) -> u32
     when(12, !is_present(store, c) | !is_present(store, d))
 }
 
-// Why two consoles of a store can't be asked after, or 0.
+// Why two consoles of a store can't be asked about, or 0.
 fn pair_refusal(store: &[u8], first: u32, second: u32) -> u32
     ensures { λ r. ⌜ r ≡ firstRefusal (pairTests (now (store .entry)) first second) ⌝ }
 {

@@ -15,7 +15,9 @@ use std::process::ExitCode;
 use std::time::Instant;
 
 const SEED: u64 = 20_261_115;
-const ROUNDS: usize = 40;
+const ROUNDS: usize = 200;
+/// Places of the stack at which turns are taken.
+const DEPTHS: usize = 4;
 /// Runs of one piece of work in a turn; the first brings its buffers back into the cache.
 const RUNS: usize = 3;
 const CAPACITIES: [usize; 3] = [64, 256, 1024];
@@ -29,7 +31,7 @@ const MEMCMP: &str = "memcmp_of_the_store";
 const SOUNDNESS: &str = "soundness";
 
 /// What each of these may be at most, against what: the limits of docs/PERFORMANCE.md.
-const LIMITS: [(&str, &str, f64); 10] = [
+const LIMITS: [(&str, &str, f64); 12] = [
     ("soundness_entries_1024", MEMCMP, 4.5),
     ("soundness_merges_1024", MEMCMP, 13.0),
     ("entry", SOUNDNESS, 1.3),
@@ -40,6 +42,8 @@ const LIMITS: [(&str, &str, f64); 10] = [
     ("resume_merges_1023", SOUNDNESS, 3.0),
     ("origin_entries_1024", SOUNDNESS, 1.2),
     ("origin_merges_1024", SOUNDNESS, 1.2),
+    ("origin_chain_of_entries_1024", SOUNDNESS, 1.3),
+    ("origin_chain_of_merges_1024", SOUNDNESS, 1.2),
 ];
 
 /// A ratio fails at more than so many times its limit.
@@ -138,14 +142,16 @@ fn times_of(work: &Work) -> Times {
     let mut store = fresh.clone();
     let mut output = vec![0; tape_of(&work.room).len().max(BOARD_BYTES)];
     let mut shortest = [f64::MAX; 4];
-    for _ in 0..ROUNDS {
-        let turn = [
-            shortest_of(|| seconds(|| assert!(black_box(&store) == black_box(&fresh)))),
-            shortest_of(|| seconds(|| judge(&store))),
-            shortest_of(|| call_seconds(work, &UNIT, &mut store, &mut output, &fresh)),
-            shortest_of(|| call_seconds(work, &FAST, &mut store, &mut output, &fresh)),
-        ];
-        shortest = array::from_fn(|place| turn[place].min(shortest[place]));
+    for round in 0..ROUNDS {
+        at_depth(round % DEPTHS, &mut || {
+            let turn = [
+                shortest_of(|| seconds(|| assert!(black_box(&store) == black_box(&fresh)))),
+                shortest_of(|| seconds(|| judge(&store))),
+                shortest_of(|| call_seconds(work, &UNIT, &mut store, &mut output, &fresh)),
+                shortest_of(|| call_seconds(work, &FAST, &mut store, &mut output, &fresh)),
+            ];
+            shortest = array::from_fn(|place| turn[place].min(shortest[place]));
+        });
     }
     let [memcmp, soundness, unit, fast] = shortest;
     Times {
@@ -154,6 +160,19 @@ fn times_of(work: &Work) -> Times {
         unit,
         fast,
     }
+}
+
+/// Does a turn with the stack so many times 16 bytes further down. The soundness test has boards on the stack, and takes up to a tenth
+/// longer at some places than at others; so each work is measured at several.
+#[inline(never)]
+fn at_depth(depth: usize, turn: &mut dyn FnMut()) {
+    let held = black_box([depth; 2]);
+    if held[0] == 0 {
+        turn();
+    } else {
+        at_depth(depth - 1, turn);
+    }
+    black_box(held);
 }
 
 /// The shortest time of the runs of one turn.
@@ -250,24 +269,34 @@ fn bench_tapes_of(verdict: &mut Verdict, name: &str, call: Call, kind: &str) {
     print_growth(&what, "version", TAPE_VERSIONS, TAPE_VERSIONS, times);
 }
 
-/// The origin at the end of the longest way of a full room: no entry writes the heading of strip 31, so that the way goes on to
-/// version 0. In a chain of entries it passes all 1,024 versions, in a chain of merges all 511 merges and then versions 1 and 0,
-/// and at each merge a value of base, receiver and giver is compared.
+/// Origins in the full rooms of the soundness test, and in the rooms with the longest walks: in a chain of entries a walk passes all
+/// 1,024 versions, in a chain of merges all 511 merges and then versions 1 and 0. In the chains no entry writes the cell, and at each
+/// merge a value of base, receiver and giver is compared.
 fn bench_origins(verdict: &mut Verdict) {
-    let rooms = [gen::chain_of_entries(1024), gen::chain_of_merges(1024)];
-    for (kind, room) in KINDS.into_iter().zip(rooms) {
-        let work = Work {
-            what: format!("origin_{kind}_1024"),
-            call: Call::Origin {
-                console: 0,
-                strip: 31,
-                cell: 1,
-            },
-            room,
-            input: Vec::new(),
-        };
-        bench(verdict, &work);
+    let chains = [gen::chain_of_entries(1024), gen::chain_of_merges(1024)];
+    for (kind, chain) in KINDS.into_iter().zip(chains) {
+        bench_origin(
+            verdict,
+            format!("origin_{kind}_1024"),
+            full_room(kind, 1024),
+        );
+        bench_origin(verdict, format!("origin_chain_of_{kind}_1024"), chain);
     }
+}
+
+fn bench_origin(verdict: &mut Verdict, what: String, room: Room) {
+    let call = Call::Origin {
+        console: 0,
+        strip: 31,
+        cell: 1,
+    };
+    let work = Work {
+        what,
+        call,
+        room,
+        input: Vec::new(),
+    };
+    bench(verdict, &work);
 }
 
 /// The calls on a store of capacity 1,024 that holds 1,000 versions.

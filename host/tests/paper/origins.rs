@@ -266,7 +266,7 @@ fn a_giver_that_came_back_to_the_bases_value() {
 }
 
 #[test]
-fn a_way_through_several_merges() {
+fn a_walk_through_several_merges() {
     for mut case in both_cells() {
         case.fork(1, 0);
         case.fork(2, 0);
@@ -303,7 +303,7 @@ fn the_cells_of_a_strip_go_their_own_ways() {
     assert_eq!(store.origin(1, STRIP.into(), 1), accepted(2));
 }
 
-// ---------------------------------------------------------------- tapes and long ways
+// ---------------------------------------------------------------- tapes and long walks
 
 #[test]
 fn pause_and_resume_keep_the_origins() {
@@ -324,9 +324,9 @@ fn pause_and_resume_keep_the_origins() {
     }
 }
 
-/// On strip 1 versions 1 and 2 are the only entries that write, and on strip 2 there is none: so every way is as long as can be.
+/// The entries that write are version 1 and, with merges, version 2, both on strip 1: the walks of console 0 are as long as can be.
 #[test]
-fn the_longest_ways() {
+fn the_longest_walks() {
     let entries = Store::of_room(&gen::chain_of_entries(1024));
     assert_eq!(entries.origin(0, 1, 0), accepted(1));
     assert_eq!(entries.origin(0, 1, 1), accepted(0));
