@@ -1,6 +1,6 @@
 -- The proof of the cycle of calls {origin_of}. The measure is the version's number: each version leads to a parent.
 -- Assumes nothing.
-use mathlib.Core.Path.{sym, _∙_}
+use mathlib.Core.Path.{_≡_, sym, _∙_}
 use Prim.Native.Nat.{ℕ, _<_}
 use native.Mathlib.Omega.{arith}
 use Rattle.laws.proofs.Logic.{cond-true, cond-false}
@@ -44,7 +44,8 @@ module _ (t : ℕ) where
   returns : origin-of-lts.Need-returns called (origin-of-at t) origin-of.Post
   returns c =
       let a = c .before .before .before .args in
-      rw (c .if1 .taken) (sym (origin-first (a .cell) (a .strip .0) (roomIn (a .s .now) .versions)))
+      let none : a .v .0 ≡ 0 = omega arith in
+      rw none (sym (origin-first (a .cell) (a .strip .0) (roomIn (a .s .now) .versions)))
 
   read-node-requires : origin-of-lts.Need-read-node-requires called (origin-of-at t) origin-of.Post
   read-node-requires c κs =
