@@ -32,10 +32,10 @@ extern "C" {
 #define ROOM_TAPE_BYTES(capacity) ((size_t)7 * (size_t)(capacity) + (size_t)61)
 
 /* Stack in bytes that a caller must have: resume judges a tape with 1,024 rows of 128 bytes of its own before it writes, and origin goes down
-   the versions by recursion, in a full room up to 1,023 calls deep. */
+   the versions by recursion, in a full room up to 513 calls deep. */
 #define ROOM_STACK 16384
 #define ROOM_RESUME_STACK 151552
-#define ROOM_ORIGIN_STACK 65536
+#define ROOM_ORIGIN_STACK 36864
 
 /* Cells of a strip, by their first byte; 16 bits with the high byte first, but for the flag, which is a byte. */
 #define ROOM_LEVEL_AT 0

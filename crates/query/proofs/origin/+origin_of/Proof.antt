@@ -14,6 +14,7 @@ use Rattle.query.proofs.origin.origin_of.Reads as origin-of
 use Rattle.query.proofs.origin.origin_of.Kinds as origin-of-kinds
 use Rattle.query.proofs.origin.+origin_of.Lts-origin_of as origin-of-lts
 use Rattle.query.proofs.origin.leads_to.Reads as leads-to-reads
+use Rattle.query.proofs.origin.past_entry.Reads as past-entry-reads
 use Rattle.query.proofs.origin.writes_cell.Reads as writes-cell-reads
 use Rattle.store.proofs.nodes.read_node.Reads as read-node-reads
 use Rattle.query.proofs.origin.+origin_of.{statement}
@@ -37,6 +38,8 @@ module _ (t : ℕ) where
     writes-cell-reads.Learnt,
     leads-to-reads.Asked,
     leads-to-reads.Learnt,
+    past-entry-reads.Asked,
+    past-entry-reads.Learnt,
     origin-of-below t,
     origin-of.Post,
   )
@@ -71,25 +74,37 @@ module _ (t : ℕ) where
       let node = c .before .before .read-node in
       (p .0, (node-there (a .s .now) (p .0) (a .v .0) (node .result) (node .ensures) (omega arith) (p .1 .0), p .1 .1))
 
-  origin-of-requires : origin-of-lts.Need-origin-of-requires called (origin-of-at t) origin-of.Post
-  origin-of-requires c κs =
+  past-entry-requires : origin-of-lts.Need-past-entry-requires called (origin-of-at t) origin-of.Post
+  past-entry-requires c κs =
       let start = c .before .before .before .before .before .before .before in
       let a = start .args in
       let p = start .pre .1 in
       let node = c .before .before .before .read-node in
       let less = walk-falls (a .s .now) (p .0) (a .v .0) (node .result) (node .ensures) (omega arith) (p .1 .0) (a .cell) (a .strip .0) in
-      (omega (arith, less, c .leads-to .ensures, start .pre .0), (p .0, (omega (arith, less, c .leads-to .ensures, p .1 .0), p .1 .1)))
+      (p .0, omega (arith, less, c .leads-to .ensures, p .1 .0))
 
-  returns-3 : origin-of-lts.Need-returns-3 called (origin-of-at t) origin-of.Post
-  returns-3 c =
+  origin-of-requires : origin-of-lts.Need-origin-of-requires called (origin-of-at t) origin-of.Post
+  origin-of-requires c κs =
       let start = c .before .before .before .before .before .before .before .before in
       let a = start .args in
       let p = start .pre .1 in
       let node = c .before .before .before .before .read-node in
-      rw (c .before .leads-to .ensures) at (c .origin-of .ensures)
+      let less = walk-falls (a .s .now) (p .0) (a .v .0) (node .result) (node .ensures) (omega arith) (p .1 .0) (a .cell) (a .strip .0) in
+      let past = c .past-entry .ensures .1 in
+      let next = c .before .leads-to .ensures in
+      (omega (arith, less, past, next, start .pre .0), (p .0, (omega (arith, less, past, next, p .1 .0), p .1 .1)))
+
+  returns-3 : origin-of-lts.Need-returns-3 called (origin-of-at t) origin-of.Post
+  returns-3 c =
+      let start = c .before .before .before .before .before .before .before .before .before in
+      let a = start .args in
+      let p = start .pre .1 in
+      let node = c .before .before .before .before .before .read-node in
+      c .origin-of .ensures
+      ∙ rw (c .before .before .leads-to .ensures) at (c .before .past-entry .ensures .0)
       ∙ sym (walk-step (a .s .now) (p .0) (a .v .0) (node .result) (node .ensures) (omega arith) (p .1 .0) (a .cell) (a .strip .0)
-      ∙ cond-false _ _ _ (sym (c .before .before .before .writes-cell .ensures) ∙ c .before .before .if2 .left))
+      ∙ cond-false _ _ _ (sym (c .before .before .before .before .writes-cell .ensures) ∙ c .before .before .before .if2 .left))
 
 pub +origin-of-spec : {M : Type 1} → statement M
 +origin-of-spec =
-    close μ-origin-of (λ t. origin-of-lts.spec (called t) (origin-of-at t) origin-of.Post (returns t) (read-node-requires t) (λ c κs. tt) (returns-2 t) (leads-to-requires t) (origin-of-requires t) (returns-3 t))
+    close μ-origin-of (λ t. origin-of-lts.spec (called t) (origin-of-at t) origin-of.Post (returns t) (read-node-requires t) (λ c κs. tt) (returns-2 t) (leads-to-requires t) (past-entry-requires t) (origin-of-requires t) (returns-3 t))
