@@ -28,7 +28,7 @@ use Rattle.store.proofs.Blocks.{commonTable-length, table-field}
 use Rattle.store.proofs.Commons.{field-is, field-of, field-sym}
 use Rattle.store.proofs.Joined.{join-commons}
 use Rattle.update.specs.Commons.{putCommon}
-use Rattle.update.proofs.JoinedTable.{common-length, put-kept, put-row, put-column}
+use Rattle.update.proofs.CommonsTable.{common-length, put-kept, put-row, put-column}
 use Rattle.resume.specs.Rows.{RowsOf, meetField}
 use Rattle.resume.specs.Heads.{pairField, pairMeets, withPairs, consoleMeets, withConsoles, tableMeets}
 use Rattle.resume.proofs.Meets.{meet-shown}

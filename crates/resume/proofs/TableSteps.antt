@@ -12,7 +12,7 @@ use Rattle.command.specs.Code.{consoleCount}
 use Rattle.store.specs.Layout.{headerSize, commonAt}
 use Rattle.store.specs.Check.{commonIn}
 use Rattle.update.specs.Commons.{putCommon}
-use Rattle.update.proofs.JoinedTable.{Clear, common-length, put-kept}
+use Rattle.update.proofs.CommonsTable.{Clear, common-length, put-kept}
 use Rattle.resume.specs.Rows.{meetField}
 use Rattle.resume.specs.Heads.{pairField, pairMeets, withPairs, consoleMeets, withConsoles, tableMeets}
 

@@ -32,9 +32,9 @@ use Rattle.store.proofs.Changed.{changed-store}
 use Rattle.store.proofs.Reading.{common-read}
 use Rattle.store.proofs.Whole.{whole-sound, whole-front, whole-long, whole-header}
 use Rattle.update.specs.Append.{withEntry, withMerge}
-use Rattle.update.specs.Commons.{joinedCommons, putHead}
+use Rattle.update.specs.Commons.{putOthers, joinedField, putHead}
 use Rattle.update.proofs.AppendedBlocks.{Standing, Grew, entry-grew, merge-grew}
-use Rattle.update.proofs.JoinedTable.{table-length, table-outside, table-stands}
+use Rattle.update.proofs.CommonsTable.{table-length, table-outside, table-stands}
 
 pub entry-in-range : (code strip operand : ℕ) → isEntryCode code ≡ true → strip < stripCount → isOperand code operand ≡ true
     → isEntryCode code && isStrip strip && isOperand code operand ≡ true
@@ -197,14 +197,16 @@ module _ (s : List ℕ) (t : holdsStore s ≡ true) (left : versionCount (roomIn
       header-left = omega (arith, counted-long joined m joined-grew, whole-header s t)
 
       pub merged-store : (a b e u : List ℕ) (n h k l : ℕ) → n ≡ versionCount (roomIn s .versions) → h ≡ head (roomIn s) c → k ≡ head (roomIn s) d
-          → l ≡ common (roomIn s) c d → a ≡ withMerge s n h k l → b ≡ putWord a countAt (n + 1) → e ≡ joinedCommons b c d consoleCount
+          → l ≡ common (roomIn s) c d → a ≡ withMerge s n h k l → b ≡ putWord a countAt (n + 1) → e ≡ putOthers b c (joinedField b c d) consoleCount
           → u ≡ putHead e c (suc n) → u ≡ overwrite (encode (grown (roomIn s) c (merge (head (roomIn s) c) (head (roomIn s) d)))) s
       merged-store a b e u n h k l en eh ek el ea eb ee eu =
           let sound = whole-sound s t in
           let new = suc (versionCount g) in
+          let field = joinedField joined-counted c d in
+          let read = counted-read joined m joined-grew in
           rw (eu, ee, eb, ea, add-one, en, eh, ek, el)
-          (grown-store joined m joined-grew (putHead (joinedCommons joined-counted c d consoleCount) c new) c (merge-grown r sound c d p q ahead back split left)
-          (table-length joined-counted c d new) (table-outside joined-counted c d new cl)
-          (table-stands joined-counted c d cl dl new header-left (commonField r) (commonField (grown r c m)) (counted-commons joined m joined-grew)
-          (counted-read joined m joined-grew) (grown-self r sound c p m) (merge-row r sound c d p q split)
-          (merge-column r sound c d p q split) (grown-other r sound c p m)))
+          (grown-store joined m joined-grew (putHead (putOthers joined-counted c field consoleCount) c new) c (merge-grown r sound c d p q ahead back split left)
+          (table-length joined-counted c field new) (table-outside joined-counted c field new cl)
+          (table-stands joined-counted c field new cl header-left (commonField r) (commonField (grown r c m)) (counted-commons joined m joined-grew) (grown-self r sound c p m)
+          (λ k kl kc. rw (read c k cl kl, read d k dl kl) (merge-row r sound c d p q split k kc))
+          (λ k kl kc. rw (read c k cl kl, read d k dl kl) (merge-column r sound c d p q split k kc)) (grown-other r sound c p m)))

@@ -1,5 +1,5 @@
 pub mod Opened
-pub mod JoinedTable
+pub mod CommonsTable
 pub mod MovedStore
 pub mod Appended
 pub mod AppendedBlocks

@@ -1,5 +1,5 @@
--- What the code does to the table of common versions when a console moves. That this gives the encoding of the room after the move is a
--- theorem, so a reader need not believe this file.
+-- What the code writes into the table of common versions for one console. That this gives the encoding of the room in which the console
+-- has moved is a theorem, so a reader need not believe this file.
 use Prim.Native.Nat.{ℕ, zero, suc, max}
 use mathlib.Core.Bool.{cond}
 use mathlib.Core.List.{List}
@@ -12,14 +12,18 @@ use Rattle.store.specs.Check.{commonIn}
 abbrev pub putCommon : List ℕ → ℕ → ℕ → ℕ → List ℕ
 putCommon s c k x = putWord (putWord s (commonAt c k) x) (commonAt k c) x
 
--- console c took over what d has in common with k, where that is later: the higher of the two fields
-unfoldable pub joinedCommon : List ℕ → ℕ → ℕ → ℕ → List ℕ
-joinedCommon s c d k = cond (eqb k c) s (putCommon s c k (max (commonIn s c k) (commonIn s d k)))
+-- the field of console c with another console k written at both of its places; its field with itself is its head, and stays
+unfoldable pub putOther : List ℕ → ℕ → ℕ → ℕ → List ℕ
+putOther s c k x = cond (eqb k c) s (putCommon s c k x)
 
--- the table after console c took over the common versions of d with the first n consoles
-unfoldable pub joinedCommons : List ℕ → ℕ → ℕ → ℕ → List ℕ
-joinedCommons s c d zero = s
-joinedCommons s c d (suc n) = joinedCommon (joinedCommons s c d n) c d n
+-- the fields of console c with each other one of the first n consoles, as a function says
+unfoldable pub putOthers : List ℕ → ℕ → (ℕ → ℕ) → ℕ → List ℕ
+putOthers s c field zero = s
+putOthers s c field (suc n) = putOther (putOthers s c field n) c n (field n)
+
+-- the later of what c and d have in common with k: the higher of the two fields
+abbrev pub joinedField : List ℕ → ℕ → ℕ → ℕ → ℕ
+joinedField s c d k = max (commonIn s c k) (commonIn s d k)
 
 -- the head of console c
 abbrev pub putHead : List ℕ → ℕ → ℕ → List ℕ

@@ -1,4 +1,4 @@
-// The table of common versions changed in place when a console moves.
+// The table of common versions changed in place for one console.
 use buffer::put_word;
 use command::numbers::CONSOLES;
 use graph::Console;
@@ -15,7 +15,7 @@ ghost use Rattle.command.specs.Code.{consoleCount};
 ghost use Rattle.room.specs.Room.{headOf, present, head};
 ghost use Rattle.room.specs.Step.{moved};
 ghost use Rattle.store.specs.Layout.{headerSize, commonAt, encode, roomIn, holdsStore};
-ghost use Rattle.update.specs.Commons.{putCommon, joinedCommon, joinedCommons};
+ghost use Rattle.update.specs.Commons.{putCommon, putOther, putOthers, joinedField};
 
 // The higher of two fields.
 fn higher(x: Field, y: Field) -> Field
@@ -37,26 +37,47 @@ pub fn put_common(s: &mut [u8], c: Console, k: Console, field: Field)
     put_word(s, common_at(k, c), field.0);
 }
 
-// Gives console c what d has in common with k, where that is later than what c has.
-fn join_common(s: &mut [u8], c: Console, d: Console, k: Console)
+// Writes the field of console c with another one; its field with itself stands for its head, and stays.
+fn put_other(s: &mut [u8], c: Console, k: Console, field: Field)
     requires { ⌜ headerSize ≤ length (now s) ⌝ }
-    requires { ⌜ (c .0 < consoleCount) × (d .0 < consoleCount) × (k .0 < consoleCount) ⌝ }
-    ensures { λ _. ⌜ now (s .exit) ≡ joinedCommon (now (s .entry)) (c .0) (d .0) (k .0) ⌝ }
+    requires { ⌜ (c .0 < consoleCount) × (k .0 < consoleCount) ⌝ }
+    ensures { λ _. ⌜ now (s .exit) ≡ putOther (now (s .entry)) (c .0) (k .0) (field .0) ⌝ }
 {
     if k.0 == c.0 {
         return;
     }
-    put_common(s, c, k, higher(common_in(s, c, k), common_in(s, d, k)));
+    put_common(s, c, k, field);
+}
+
+// The later of what c and d have in common with k.
+fn joined_field(s: &[u8], c: Console, d: Console, k: Console) -> Field
+    requires { ⌜ headerSize ≤ length (now s) ⌝ }
+    requires { ⌜ (c .0 < consoleCount) × (d .0 < consoleCount) × (k .0 < consoleCount) ⌝ }
+    ensures { λ r. ⌜ r .0 ≡ joinedField (now (s .entry)) (c .0) (d .0) (k .0) ⌝ }
+{
+    higher(common_in(s, c, k), common_in(s, d, k))
 }
 
 // Gives console c, at each other console, the later of its own common version and that of d.
 pub fn join_commons(s: &mut [u8], c: Console, d: Console)
     requires { ⌜ headerSize ≤ length (now s) ⌝ }
     requires { ⌜ (c .0 < consoleCount) × (d .0 < consoleCount) ⌝ }
-    ensures { λ _. ⌜ now (s .exit) ≡ joinedCommons (now (s .entry)) (c .0) (d .0) consoleCount ⌝ }
+    ensures { λ _. ⌜ now (s .exit) ≡ putOthers (now (s .entry)) (c .0) (joinedField (now (s .entry)) (c .0) (d .0)) consoleCount ⌝ }
 {
     for k in 0..CONSOLES {
-        join_common(s, c, d, Console(k));
+        let field = joined_field(s, c, d, Console(k));
+        put_other(s, c, Console(k), field);
+    }
+}
+
+// Clears what console c has in common with each other one.
+pub fn clear_commons(s: &mut [u8], c: Console)
+    requires { ⌜ headerSize ≤ length (now s) ⌝ }
+    requires { ⌜ c .0 < consoleCount ⌝ }
+    ensures { λ _. ⌜ now (s .exit) ≡ putOthers (now (s .entry)) (c .0) (λ k. 0) consoleCount ⌝ }
+{
+    for k in 0..CONSOLES {
+        put_other(s, c, Console(k), Field(0));
     }
 }
 
