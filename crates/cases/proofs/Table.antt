@@ -12,10 +12,10 @@ use Rattle.room.specs.Boards.{boardMade, boardOf}
 use Rattle.room.specs.Origin.{originOf, origin}
 use Rattle.room.specs.Step.{stateTests, stepRefusal, step}
 use Rattle.store.specs.Layout.{holdsStore}
-use Rattle.unit.specs.Calls.{originReply}
+use Rattle.unit.specs.Calls.{originReply, stepOutcome, commandOutcome}
 use Rattle.tape.specs.Tape.{versionRecords, headRecords, tapeOf}
 use Rattle.cases.specs.Run.{Case, merge, forward, answerIn, roomAfter, made, answers, session}
-use Rattle.cases.specs.Requests.{originCases}
+use Rattle.cases.specs.Requests.{originCases, leaveCases}
 use Rattle.cases.specs.Starred.{crossed, stuck, acceptedBy, accepted, starred}
 
 -- the stuck room takes no merge and no fast-forward: its own declarations, for the checker's bound on the steps of one
@@ -36,3 +36,7 @@ starred-hold = rw (stuck-merges, stuck-forwards)
 pub origins-hold : map (λ (c : Case). c .got) originCases ≡ map (λ (c : Case). c .due) originCases
 unfolding mergeFlag mergeStrip mergeStrips enter everyBelow someBelow highestBelow ancestor isMeet meet firstRefusal shapeOf lengthOf numberAt operandsOf isOperand kindOf commandRefusal decode common stateTests stepRefusal step boardMade boardOf originOf origin holdsStore originReply answerIn roomAfter made originCases
 origins-hold = refl
+
+pub leaves-hold : map (λ (c : Case). c .got) leaveCases ≡ map (λ (c : Case). c .due) leaveCases
+unfolding everyBelow someBelow highestBelow ancestor isMeet meet firstRefusal shapeOf lengthOf numberAt operandsOf isOperand kindOf commandRefusal decode common stateTests stepRefusal step holdsStore stepOutcome commandOutcome versionRecords headRecords tapeOf answerIn roomAfter made answers session leaveCases
+leaves-hold = refl

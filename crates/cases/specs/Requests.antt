@@ -2,12 +2,14 @@
 -- request says.
 use Prim.Native.Nat.{ℕ}
 use mathlib.Core.List.{List, [], _∷_, _++_}
+use lib.ListN.{replicate}
 use Rattle.board.specs.Board.{cellOf}
 use Rattle.room.specs.Room.{Room, fresh}
 use Rattle.room.specs.Origin.{origin, valueShown}
 use Rattle.unit.specs.declared.Reply.{Reply}
-use Rattle.unit.specs.Calls.{originReply}
-use Rattle.cases.specs.Run.{Case, _gives_, fork, level, heading, call, merge, made}
+use Rattle.tape.specs.Tape.{tapeOf}
+use Rattle.unit.specs.Calls.{commandOutcome, originReply}
+use Rattle.cases.specs.Run.{Case, _gives_, fork, level, heading, call, merge, forward, leave, made, answers, nowhere, on, headsShown, session}
 
 -- One: the origin of a cell, and the value shown there
 abbrev pub traced : Room → ℕ → ℕ → ℕ → List ℕ
@@ -45,4 +47,30 @@ originCases =
     ∷ (traced (fresh 64) 0 5 0 gives 0 ∷ 0 ∷ [])
     -- "(Another cell: 5.)", by the call itself on bytes that hold no store, where cell 1 gives 11
     ∷ (replyShown (originReply [] 0 5 2) ++ replyShown (originReply [] 0 5 1) gives 5 ∷ 0 ∷ 11 ∷ 0 ∷ [])
+    ∷ []
+
+-- Two: lines of the session (an answer, and where the console is then), with the number of versions at the end; answers; tapes
+unfoldable pub leaveCases : List Case
+leaveCases =
+    -- console 1 leaves from version 0, behind version 1, and its number is forked again
+    (session (fresh 64) (fork 1 0 ∷ call 0 5 ∷ leave 1 ∷ leave 1 ∷ fork 1 0 ∷ [])
+    gives 0 ∷ on 0 ∷ 0 ∷ on 1 ∷ 0 ∷ nowhere ∷ 12 ∷ nowhere ∷ 0 ∷ on 1 ∷ 2 ∷ [])
+    -- its own entry is behind no other head; nor is it once another version has a higher number
+    ∷ (session (fresh 64) (fork 1 0 ∷ call 1 5 ∷ leave 1 ∷ call 0 5 ∷ leave 1 ∷ [])
+    gives 0 ∷ on 0 ∷ 0 ∷ on 1 ∷ 21 ∷ on 1 ∷ 0 ∷ on 2 ∷ 21 ∷ on 1 ∷ 3 ∷ [])
+    -- it is once console 0 has merged it
+    ∷ (answers (fresh 64) (fork 1 0 ∷ call 1 5 ∷ call 0 5 ∷ merge 0 1 ∷ leave 1 ∷ []) gives 0 ∷ 0 ∷ 0 ∷ 0 ∷ 0 ∷ [])
+    ∷ (headsShown (after (fork 1 0 ∷ call 1 5 ∷ call 0 5 ∷ merge 0 1 ∷ leave 1 ∷ [])) gives on 3 ∷ replicate 15 nowhere)
+    -- two on one head: one leaves, and the other has no one else's head ahead of it then
+    ∷ (session (fresh 64) (fork 1 0 ∷ call 1 5 ∷ fork 2 1 ∷ leave 1 ∷ leave 2 ∷ [])
+    gives 0 ∷ on 0 ∷ 0 ∷ on 1 ∷ 0 ∷ on 1 ∷ 0 ∷ nowhere ∷ 21 ∷ on 1 ∷ 2 ∷ [])
+    -- a full room can be left
+    ∷ (answers (fresh 2) (fork 1 0 ∷ call 0 5 ∷ call 1 5 ∷ leave 1 ∷ []) gives 0 ∷ 0 ∷ 18 ∷ 0 ∷ [])
+    -- console 0 alone; lengths; a console above 15; the code after 0B
+    ∷ (answers (fresh 64) (leave 0 ∷ (0x0B ∷ 0x00 ∷ 0x00 ∷ []) ∷ (0x0B ∷ []) ∷ leave 0x10 ∷ (0x0C ∷ []) ∷ []) gives 20 ∷ 2 ∷ 2 ∷ 3 ∷ 1 ∷ [])
+    -- by the call itself, on bytes that hold no store: console 0 gives 20, console 1 gives 11
+    ∷ (replyShown (commandOutcome [] (leave 0) .reply) ++ replyShown (commandOutcome [] (leave 1) .reply) gives 20 ∷ 0 ∷ 11 ∷ 0 ∷ [])
+    -- a tape has no record for the one that left: 20 00 40, 21 00 00 02 05 00 64, 23 00 00 01, 24
+    ∷ (tapeOf (after (fork 1 0 ∷ level 1 5 100 ∷ forward 0 1 ∷ leave 1 ∷ []))
+    gives (0x20 ∷ 0x00 ∷ 0x40 ∷ []) ++ (0x21 ∷ 0x00 ∷ 0x00 ∷ 0x02 ∷ 0x05 ∷ 0x00 ∷ 0x64 ∷ []) ++ (0x23 ∷ 0x00 ∷ 0x00 ∷ 0x01 ∷ []) ++ (0x24 ∷ []))
     ∷ []

@@ -21,7 +21,7 @@ infix 60 _gives_
 abbrev pub _gives_ : List ℕ → List ℕ → Case
 computed gives told = record { got = computed; due = told }
 
--- The commands that the rows name, in the paper's own bytes and not by the definitions' names for the codes.
+-- The commands that the rows name, in the bytes of the paper and the requests and not by the definitions' names for the codes.
 abbrev pub fork : ℕ → ℕ → List ℕ
 fork new old = 0x01 ∷ new ∷ old ∷ []
 
@@ -39,6 +39,9 @@ merge receiver giver = 0x09 ∷ receiver ∷ giver ∷ []
 
 abbrev pub forward : ℕ → ℕ → List ℕ
 forward receiver giver = 0x0A ∷ receiver ∷ giver ∷ []
+
+abbrev pub leave : ℕ → List ℕ
+leave c = 0x0B ∷ c ∷ []
 
 -- the answer to a command in a room
 unfoldable pub answerIn : Room → Decoded → ℕ

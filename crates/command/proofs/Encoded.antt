@@ -21,11 +21,11 @@ use Rattle.command.specs.declared.Shape.{Shape}
 use Rattle.command.specs.declared.Shape.the-variants.{Known, Unknown}
 use Rattle.command.specs.declared.Operands.{Operands}
 use Rattle.command.specs.declared.Command.{Command}
-use Rattle.command.specs.declared.Command.the-variants.{Fork, Entry, Merge, FastForward}
+use Rattle.command.specs.declared.Command.the-variants.{Fork, Entry, Merge, FastForward, Leave}
 use Rattle.command.specs.declared.Decoded.{Decoded}
 use Rattle.command.specs.declared.Decoded.the-variants.{Whole, Refused}
-use Rattle.command.specs.Code.{consoleCount, forkCommand, mergeCommand, fastForwardCommand, kindOf, kindRefusal, shapeOf, shapeRefusal, lengthOf, numberAt, operandsOf, isEntryCode, isStrip, isOperand}
-use Rattle.command.specs.Decode.{codeIn, operandsIn, twoConsoleTests, entryNumberTests, numberTests, commandOf, decode, refusalOf, operandBytes, commandBytes, decodedBytes}
+use Rattle.command.specs.Code.{consoleCount, forkCommand, mergeCommand, fastForwardCommand, leaveCommand, kindOf, kindRefusal, shapeOf, shapeRefusal, lengthOf, numberAt, operandsOf, isEntryCode, isStrip, isOperand}
+use Rattle.command.specs.Decode.{codeIn, operandsIn, twoConsoleTests, entryNumberTests, leaveNumberTests, numberTests, commandOf, decode, refusalOf, operandBytes, commandBytes, decodedBytes}
 use Rattle.command.specs.Decoding.{narrow, TwoConsoles, InRange}
 use Rattle.command.proofs.Limits.{each-entry, operand-below}
 use Rattle.command.proofs.CodeKinds.{Says, kind-says, kind-entry}
@@ -82,6 +82,7 @@ spells kind-is.Entry code o e z =
     each-entry (λ n. commandBytes (commandOf kind-is.Entry n o) ≡ n ∷ shapeBytes (shapeOf n) o) refl refl refl refl refl refl refl code e
 spells kind-is.Merge code o e z = rw e
 spells kind-is.FastForward code o e z = rw e
+spells kind-is.Leave code o e z = rw e
 spells kind-is.Unknown code o e z = absurd (omega arith)
 
 pub decode-bytes : (s : List ℕ) (c : Command) → Bytes s → decode s ≡ Whole c → commandBytes c ≡ s
@@ -113,6 +114,18 @@ pair-decodes : (k : Kind) (code a b : ℕ) → k ≡ kindOf code → 0 ≡ kindR
 unfolding lengthOf operandsOf numberAt
 pair-decodes k code a b e z shape passes =
     sym (decoded (code ∷ a ∷ b ∷ []) code refl k e 0 z refl _ shape 3 refl refl (three-numbers a b 0) refl 0 passes refl)
+
+-- and so does a leave
+leave-passes : (a : ℕ) → (a < consoleCount) × (0 < a) → 0 ≡ firstRefusal (leaveNumberTests (three-numbers a 0 0))
+unfolding firstRefusal
+leave-passes a h = simp (lt-ltb a consoleCount (h .0), ne-eqb a 0 (omega arith))
+
+leave-decodes : (a : ℕ) → (a < consoleCount) × (0 < a) → decode (leaveCommand ∷ a ∷ []) ≡ Whole (Leave (record { 0 = a }))
+unfolding kindOf shapeOf lengthOf operandsOf numberAt
+leave-decodes a h =
+    sym
+    (decoded (leaveCommand ∷ a ∷ []) leaveCommand refl kind-is.Leave refl 0 refl refl (Known 1 0 0 0) refl 2 refl refl (three-numbers a 0 0) refl
+    0 (leave-passes a h) refl)
 
 -- an entry passes its tests, is as long as its code says, and has its numbers where they are read
 module _ (a code b x : ℕ) (h : (a < consoleCount) × (isEntryCode code && isStrip b && isOperand code x ≡ true)) where
@@ -155,3 +168,4 @@ bytes-decode (Merge receiver giver) h =
     pair-decodes kind-is.Merge mergeCommand (receiver .0) (giver .0) refl refl refl (pair-passes (receiver .0) (giver .0) h)
 bytes-decode (FastForward receiver giver) h =
     pair-decodes kind-is.FastForward fastForwardCommand (receiver .0) (giver .0) refl refl refl (pair-passes (receiver .0) (giver .0) h)
+bytes-decode (Leave console) h = leave-decodes (console .0) h

@@ -16,7 +16,7 @@ use Rattle.command.specs.declared.Operands.{Operands}
 use Rattle.command.specs.declared.Command.{Command}
 use Rattle.command.specs.declared.Decoded.the-variants.{Whole, Refused}
 use Rattle.command.specs.Code.{consoleCount, isEntryCode, kindOf, kindRefusal, isConsole, isStrip, isOperand}
-use Rattle.command.specs.Decode.{codeIn, operandsIn, twoConsoleTests, entryNumberTests, numberTests, commandRefusal, commandOf, decode}
+use Rattle.command.specs.Decode.{codeIn, operandsIn, twoConsoleTests, entryNumberTests, leaveNumberTests, numberTests, commandRefusal, commandOf, decode}
 use Rattle.command.specs.Decoding.{TwoConsoles, InRange}
 use Rattle.command.proofs.CodeKinds.{Says, kind-says}
 use Rattle.command.proofs.Decodes.{passed}
@@ -38,12 +38,18 @@ one-console code o e h =
       and-i _ _ (and-i _ _ e (not-false _ (four .0))) (not-false _ (four .1 .0)),
     )
 
+leaving-console : (o : Operands) → firstRefusal (leaveNumberTests o) ≡ 0 → (o .first < consoleCount) × (0 < o .first)
+leaving-console o h =
+    let three = none-applies _ refl h in
+    (ltb-true _ _ (not-false _ (three .0)), omega (arith, eqb-false (o .first) 0 (three .1 .0)))
+
 in-range : (k : Kind) (code : ℕ) (o : Operands) → Says code k → kindRefusal k ≡ 0 → firstRefusal (numberTests k code o) ≡ 0
     → InRange (commandOf k code o)
 in-range kind-is.Fork code o e z h = two-consoles o h
 in-range kind-is.Entry code o e z h = one-console code o e h
 in-range kind-is.Merge code o e z h = two-consoles o h
 in-range kind-is.FastForward code o e z h = two-consoles o h
+in-range kind-is.Leave code o e z h = leaving-console o h
 in-range kind-is.Unknown code o e z h = absurd (omega arith)
 
 -- the command at the front of a list of bytes, by its code

@@ -1,4 +1,4 @@
--- "A command is decoded whole, or the call ends with its refusal." What a byte string decodes to, with the refusals 1 to 6.
+-- "A command is decoded whole, or the call ends with its refusal." What a byte string decodes to, with the refusals 1 to 6 and 20.
 use Prim.Native.Nat.{ℕ}
 use mathlib.Core.Bool.{Bool, cond, not, _||_}
 use mathlib.Core.List.{List, [], _∷_}
@@ -10,11 +10,11 @@ use Rattle.command.specs.declared.Kind.{Kind}
 use Rattle.command.specs.declared.Kind.the-variants as kind-is
 use Rattle.command.specs.declared.Operands.{Operands}
 use Rattle.command.specs.declared.Command.{Command}
-use Rattle.command.specs.declared.Command.the-variants.{Fork, Entry, Merge, FastForward}
+use Rattle.command.specs.declared.Command.the-variants.{Fork, Entry, Merge, FastForward, Leave}
 use Rattle.command.specs.declared.Decoded.{Decoded}
 use Rattle.command.specs.declared.Decoded.the-variants.{Whole, Refused}
 use Rattle.refusal.specs.Refusal.{_when_, firstRefusal}
-use Rattle.command.specs.Code.{within, forkCommand, mergeCommand, fastForwardCommand, kindOf, kindRefusal, shapeOf, lengthOf, operandsOf, isConsole, isStrip, isOperand}
+use Rattle.command.specs.Code.{within, forkCommand, mergeCommand, fastForwardCommand, leaveCommand, kindOf, kindRefusal, shapeOf, lengthOf, operandsOf, isConsole, isStrip, isOperand}
 
 -- the code of a command; an empty one has none, and reads as 0, which is no command's
 abbrev pub codeIn : List ℕ → ℕ
@@ -43,15 +43,23 @@ entryNumberTests code o =
     ∷ 5 when not (isOperand code (o .third))
     ∷ []
 
--- the tests 3 to 6 of a command's numbers, by its kind
+-- "3 console above 15." of one console. "20 console 0 leaves, tested right after 6": by the command's bytes alone
+abbrev pub leaveNumberTests : Operands → List (ℕ × Bool)
+leaveNumberTests o =
+    3 when not (isConsole (o .first))
+    ∷ 20 when eqb (o .first) 0
+    ∷ []
+
+-- the tests 3 to 6 and 20 of a command's numbers, by its kind
 abbrev pub numberTests : Kind → ℕ → Operands → List (ℕ × Bool)
 numberTests kind-is.Fork code o = twoConsoleTests o
 numberTests kind-is.Entry code o = entryNumberTests code o
 numberTests kind-is.Merge code o = twoConsoleTests o
 numberTests kind-is.FastForward code o = twoConsoleTests o
+numberTests kind-is.Leave code o = leaveNumberTests o
 numberTests kind-is.Unknown code o = []
 
--- "1 empty command, or code outside 01 to 0A. 2 length not the code's."
+-- "1 empty command, or code outside 01 to 0A.", which request Two makes 01 to 0B. "2 length not the code's."
 unfoldable pub commandRefusal : List ℕ → ℕ
 commandRefusal s =
     let code : ℕ = codeIn s in
@@ -67,6 +75,7 @@ commandOf kind-is.Fork code o = Fork (record { 0 = o .first }) (record { 0 = o .
 commandOf kind-is.Entry code o = Entry (record { 0 = o .first }) code (record { 0 = o .second }) (o .third)
 commandOf kind-is.Merge code o = Merge (record { 0 = o .first }) (record { 0 = o .second })
 commandOf kind-is.FastForward code o = FastForward (record { 0 = o .first }) (record { 0 = o .second })
+commandOf kind-is.Leave code o = Leave (record { 0 = o .first })
 commandOf kind-is.Unknown code o = FastForward (record { 0 = o .first }) (record { 0 = o .second })
 
 unfoldable pub decode : List ℕ → Decoded
@@ -89,6 +98,7 @@ commandBytes (Fork new old) = forkCommand ∷ new .0 ∷ old .0 ∷ []
 commandBytes (Entry console code strip operand) = code ∷ console .0 ∷ strip .0 ∷ operandBytes code operand
 commandBytes (Merge receiver giver) = mergeCommand ∷ receiver .0 ∷ giver .0 ∷ []
 commandBytes (FastForward receiver giver) = fastForwardCommand ∷ receiver .0 ∷ giver .0 ∷ []
+commandBytes (Leave console) = leaveCommand ∷ console .0 ∷ []
 
 -- the paper's code and values for what was decoded: those of a whole command, none for a refusal
 abbrev pub decodedBytes : Decoded → List ℕ

@@ -5,6 +5,8 @@ pub const MERGE_COMMAND: usize = 0x09;
 
 pub const FAST_FORWARD_COMMAND: usize = 0x0A;
 
+pub const LEAVE_COMMAND: usize = 0x0B;
+
 pub const START_RECORD: usize = 0x20;
 
 pub const ENTRY_RECORD: usize = 0x21;

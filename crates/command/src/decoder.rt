@@ -9,6 +9,7 @@ use crate::codes::ENTRY_RECORD;
 use crate::codes::FAST_FORWARD_COMMAND;
 use crate::codes::FORK_COMMAND;
 use crate::codes::HEAD_RECORD;
+use crate::codes::LEAVE_COMMAND;
 use crate::codes::MERGE_COMMAND;
 use crate::codes::MERGE_RECORD;
 use crate::codes::START_RECORD;
@@ -34,7 +35,7 @@ ghost use lib.ListN.{length};
 ghost use Rattle.refusal.specs.Refusal.{firstRefusal};
 ghost use Rattle.command.specs.Code.{kindOf, kindRefusal, shapeOf, shapeRefusal, lengthOf, numberAt, operandsOf};
 ghost use Rattle.command.specs.Decoding.{narrow};
-ghost use Rattle.command.specs.Decode.{isCommandCode, twoConsoleTests, entryNumberTests, numberTests, commandOf, decode, refusalOf, decodedBytes};
+ghost use Rattle.command.specs.Decode.{isCommandCode, twoConsoleTests, entryNumberTests, leaveNumberTests, numberTests, commandOf, decode, refusalOf, decodedBytes};
 
 // The kind of the command that a code says.
 fn kind_of(code: usize) -> Kind
@@ -45,6 +46,7 @@ fn kind_of(code: usize) -> Kind
         LEVEL_ENTRY..=ALERT_OFF_ENTRY => Kind::Entry,
         MERGE_COMMAND => Kind::Merge,
         FAST_FORWARD_COMMAND => Kind::FastForward,
+        LEAVE_COMMAND => Kind::Leave,
         _ => Kind::Unknown,
     }
 }
@@ -58,6 +60,7 @@ fn kind_refusal(kind: Kind) -> u32
         Kind::Entry => 0,
         Kind::Merge => 0,
         Kind::FastForward => 0,
+        Kind::Leave => 0,
         Kind::Unknown => 1,
     }
 }
@@ -79,6 +82,7 @@ pub fn widths_of(code: usize) -> Shape
         MARK_PUT_ENTRY..=MARK_TAKEN_ENTRY => Shape::Known(1, 1, 1, 0),
         CALL_ENTRY..=ALERT_OFF_ENTRY => Shape::Known(1, 1, 0, 0),
         MERGE_COMMAND..=FAST_FORWARD_COMMAND => Shape::Known(1, 1, 0, 0),
+        LEAVE_COMMAND => Shape::Known(1, 0, 0, 0),
         START_RECORD => Shape::Known(2, 0, 0, 0),
         ENTRY_RECORD => Shape::Known(2, 1, 1, 2),
         MERGE_RECORD => Shape::Known(2, 2, 0, 0),
@@ -137,7 +141,7 @@ pub fn operands_of(shape: Shape, s: &[u8]) -> Operands
     }
 }
 
-// The lowest of the refusals 3 and 6 of a command over two consoles, or 0.
+// The first of the refusals 3 and 6 of a command over two consoles, or 0.
 fn two_consoles_refused(o: Operands) -> u32
     ensures { λ r. ⌜ r ≡ firstRefusal (twoConsoleTests o) ⌝ }
 {
@@ -146,7 +150,7 @@ fn two_consoles_refused(o: Operands) -> u32
     first_of(console_out_of_range, same_console_twice)
 }
 
-// The lowest of the refusals 3 to 5 of an entry, or 0.
+// The first of the refusals 3 to 5 of an entry, or 0.
 fn entry_numbers_refused(code: usize, o: Operands) -> u32
     ensures { λ r. ⌜ r ≡ firstRefusal (entryNumberTests code o) ⌝ }
 {
@@ -159,7 +163,16 @@ fn entry_numbers_refused(code: usize, o: Operands) -> u32
     )
 }
 
-// The lowest of the refusals 3 to 6 of a command's numbers, or 0.
+// The first of the refusals 3 and 20 of a console that leaves, or 0.
+fn leave_number_refused(o: Operands) -> u32
+    ensures { λ r. ⌜ r ≡ firstRefusal (leaveNumberTests o) ⌝ }
+{
+    let console_out_of_range = when(3, !is_console(o.first));
+    let console_0_leaves = when(20, o.first == 0);
+    first_of(console_out_of_range, console_0_leaves)
+}
+
+// The first of the refusals 3 to 6 and 20 of a command's numbers, or 0.
 fn numbers_refused(kind: Kind, code: usize, o: Operands) -> u32
     ensures { λ r. ⌜ r ≡ firstRefusal (numberTests kind code o) ⌝ }
 {
@@ -168,6 +181,7 @@ fn numbers_refused(kind: Kind, code: usize, o: Operands) -> u32
         Kind::Entry => entry_numbers_refused(code, o),
         Kind::Merge => two_consoles_refused(o),
         Kind::FastForward => two_consoles_refused(o),
+        Kind::Leave => leave_number_refused(o),
         Kind::Unknown => 0,
     }
 }
@@ -195,6 +209,9 @@ fn command_from(kind: Kind, code: usize, o: Operands) -> Command
             receiver: Console(o.first),
             giver: Console(o.second),
         },
+        Kind::Leave => Command::Leave {
+            console: Console(o.first),
+        },
         Kind::Unknown => Command::FastForward {
             receiver: Console(o.first),
             giver: Console(o.second),
@@ -202,7 +219,7 @@ fn command_from(kind: Kind, code: usize, o: Operands) -> Command
     }
 }
 
-// The command that a byte string decodes to, or its lowest refusal.
+// The command that a byte string decodes to, or its first refusal.
 pub fn decode_command(s: &[u8]) -> Decoded
     ensures { λ r. ⌜ (r ≡ decode (now (s .entry))) × (refusalOf r ≡ 0 → decodedBytes r ≡ now (s .entry)) ⌝ }
 {

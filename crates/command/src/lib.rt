@@ -12,6 +12,7 @@ pub enum Kind {
     Entry,
     Merge,
     FastForward,
+    Leave,
     Unknown,
 }
 
@@ -47,6 +48,9 @@ pub enum Command {
     FastForward {
         receiver: Console,
         giver: Console,
+    },
+    Leave {
+        console: Console,
     },
 }
 

@@ -1,17 +1,21 @@
--- What is true of a room where a command on it is accepted: the case of none of its refusals is there.
+-- What is true of a room where a command on it is accepted: the case of none of its refusals is there. And where a fork and a leave are.
 -- Assumes nothing.
 use Prim.Native.Nat.{ℕ, _<_}
 use mathlib.Core.Path.{_≡_, refl}
-use mathlib.Core.Bool.{true, false, not}
-use borrow.Author.Tests.{ltb-true, not-false}
-use Rattle.laws.proofs.Logic.{clash, or-none-l, or-none-r}
-use Rattle.graph.specs.Graph.{versionCount}
+use mathlib.Core.Bool.{true, false, not, _&&_}
+use borrow.Author.Tests.{eqb-false, ltb-true, not-false}
+use lib.Dec.{eqb}
+use Rattle.laws.proofs.Logic.{clash, and-l, and-r, not-e, or-none-l, or-none-r}
+use Rattle.graph.specs.Graph.{versionCount, ancestor}
+use Rattle.graph.proofs.Below.{some-at}
+use Rattle.command.specs.Code.{consoleCount}
 use Rattle.graph.specs.declared.Strip.{Strip}
 use Rattle.graph.specs.declared.Console.{Console}
-use Rattle.command.specs.declared.Command.the-variants.{Fork, Entry, Merge, FastForward}
+use Rattle.command.specs.declared.Command.the-variants.{Fork, Entry, Merge, FastForward, Leave}
+use Rattle.refusal.specs.Refusal.{firstRefusal}
 use Rattle.refusal.proofs.Refusals.{none-applies}
-use Rattle.room.specs.Room.{Room, present}
-use Rattle.room.specs.Step.{absent, behind, someThirdSplits, stateTests, stepRefusal}
+use Rattle.room.specs.Room.{Room, present, head}
+use Rattle.room.specs.Step.{absent, behind, someThirdSplits, otherDescends, someOtherDescends, stateTests, stepRefusal}
 
 -- console d is present, and c, where it is, is behind d: what a move of c to the head of d asks for
 abbrev pub MayMove : Room → ℕ → ℕ → Type 0
@@ -23,6 +27,11 @@ fork-accepted r new old h =
     let t = none-applies _ refl h in
     let free : present r (new .0) ≡ false = t .1 .0 in
     (not-false _ (t .0), λ p. clash p free)
+
+-- and the number of an absent console can be forked from any that is present
+pub fork-free : (r : Room) (new old : Console) → present r (new .0) ≡ false → present r (old .0) ≡ true → stepRefusal r (Fork new old) ≡ 0
+unfolding stepRefusal stateTests firstRefusal
+fork-free r new old gone here = rw (gone, here)
 
 pub forward-accepted : (r : Room) (a b : Console) → stepRefusal r (FastForward a b) ≡ 0 → MayMove r (a .0) (b .0)
 unfolding stepRefusal stateTests
@@ -63,3 +72,32 @@ merge-accepted r a b h =
       unsplit = seventeen .0;
       left = ltb-true _ _ (not-false _ (seventeen .1 .0));
     }
+
+-- another console whose head descends from that of c: what a leave of c asks for
+pub record Descends (r : Room) (c d : ℕ) : Type 0 where
+  pub here : present r d ≡ true
+  pub other : d ≡ c → ⊥
+  pub behind : ancestor (r .versions) (head r c) (head r d) ≡ true
+
+pub some-descends : (r : Room) (c : ℕ) → someOtherDescends r c ≡ true → (d : ℕ) × Descends r c d
+some-descends r c h =
+    let found = some-at consoleCount (otherDescends r c) h in
+    let d = found .0 in
+    let two = and-l (present r d && not (eqb d c)) _ (found .2) in (
+      d,
+      record {
+        here = and-l (present r d) _ two;
+        other = eqb-false _ _ (not-e _ (and-r (present r d) _ two));
+        behind = and-r (present r d && not (eqb d c)) _ (found .2);
+      },
+    )
+
+pub leave-accepted : (r : Room) (c : Console) → stepRefusal r (Leave c) ≡ 0 → (present r (c .0) ≡ true) × (someOtherDescends r (c .0) ≡ true)
+unfolding stepRefusal stateTests
+leave-accepted r c h =
+    let t = none-applies _ refl h in
+    (not-false _ (t .0), not-false _ (t .1 .0))
+
+pub leave-free : (r : Room) (c : Console) → present r (c .0) ≡ true → someOtherDescends r (c .0) ≡ true → stepRefusal r (Leave c) ≡ 0
+unfolding stepRefusal stateTests firstRefusal
+leave-free r c here other = rw (here, other)

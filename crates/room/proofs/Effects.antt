@@ -1,4 +1,4 @@
--- What each command does to the versions: fork and fast-forward make none, an entry and a merge make the next one.
+-- What each command does to the versions: fork, fast-forward and leave make none, an entry and a merge make the next one.
 -- Assumes nothing.
 use Prim.Native.Nat.{ℕ}
 use mathlib.Core.Path.{_≡_, refl}
@@ -6,7 +6,7 @@ use mathlib.Core.List.{_∷_}
 use Rattle.graph.specs.declared.Strip.{Strip}
 use Rattle.graph.specs.Graph.{entry, merge}
 use Rattle.graph.specs.declared.Console.{Console}
-use Rattle.command.specs.declared.Command.the-variants.{Fork, Entry, Merge, FastForward}
+use Rattle.command.specs.declared.Command.the-variants.{Fork, Entry, Merge, FastForward, Leave}
 use Rattle.room.specs.Room.{Room, head}
 use Rattle.room.specs.Step.{step}
 
@@ -17,6 +17,10 @@ fork-versions r new old = refl
 pub forward-versions : (r : Room) (a b : Console) → step r (FastForward a b) .versions ≡ r .versions
 unfolding step
 forward-versions r a b = refl
+
+pub leave-versions : (r : Room) (c : Console) → step r (Leave c) .versions ≡ r .versions
+unfolding step
+leave-versions r c = refl
 
 pub entry-versions : (r : Room) (c : Console) (code : ℕ) (k : Strip) (x : ℕ)
     → step r (Entry c code k x) .versions ≡ entry (head r (c .0)) code (k .0) x ∷ r .versions

@@ -1,8 +1,8 @@
--- When a console moves to another's head, and when it moves to a new version, a sound room stays sound.
+-- When a console moves to another's head, when it leaves, and when it moves to a new version, a sound room stays sound.
 -- Assumes nothing.
 use Prim.Native.Nat.{ℕ, suc, _<_}
-use mathlib.Core.Path.{_≡_, sym, _∙_, ap, subst₂}
-use mathlib.Core.Bool.{true}
+use mathlib.Core.Path.{_≡_, refl, sym, _∙_, ap, subst₂}
+use mathlib.Core.Bool.{true, false}
 use mathlib.Core.List.{_∷_}
 use mathlib.Core.Option.{Option, none, some, Option·getD}
 use native.Mathlib.Omega.{arith}
@@ -18,8 +18,9 @@ use Rattle.graph.proofs.Meet.{Meet, meet-sym, meet-self, Meet-new}
 use Rattle.command.specs.Code.{consoleCount}
 use Rattle.room.specs.Room.{Room, headOf, present, head}
 use Rattle.room.specs.Sound.{entryInRange}
-use Rattle.room.specs.Step.{moved, grown}
-use Rattle.room.proofs.Sound.{Sound, present-console}
+use Rattle.room.specs.Step.{someOtherDescends, moved, grown}
+use Rattle.room.proofs.Accepted.{some-descends}
+use Rattle.room.proofs.Sound.{Sound, no-head, present-console}
 
 module _ (r : Room) (c : ℕ) (h : Option ℕ) where
   head-set : c < length (r .heads) → headOf (moved r c h) c ≡ h
@@ -42,59 +43,76 @@ module _ {r′ r : Room} {k j : ℕ} (f : Follows r′ r k j) where
   pub number : head r′ k ≡ head r j
   number = ap (λ (o : Option ℕ). Option·getD o 0) (f .slot)
 
--- console c on the head of console d
-abbrev after : Room → ℕ → ℕ → Room
-after r c d = moved r c (headOf r d)
+-- console c moves to the slot h: every other console follows itself
+pub slot-other : (r : Room) (c : ℕ) (h : Option ℕ) (k : ℕ) → (k ≡ c → ⊥) → Follows (moved r c h) r k k
+slot-other r c h k ne = record { slot = head-kept r c h k ne }
 
--- each console then follows one of before: c follows d, and every other itself
-pub now-other : (r : Room) (c d k : ℕ) → (k ≡ c → ⊥) → Follows (after r c d) r k k
-now-other r c d k ne = record { slot = head-kept r c (headOf r d) k ne }
+-- and it follows the number d whose slot that is; one that leaves has the slot of a number that no console has
+module _ (r : Room) (s : Sound r) (c : ℕ) (l : c < consoleCount) (h : Option ℕ) (d : ℕ) (from : h ≡ headOf r d) where
+  pub slot-self : Follows (moved r c h) r c d
+  slot-self = record { slot = head-set r c h (omega (arith, s .sixteen)) ∙ from }
 
-module _ (r : Room) (s : Sound r) (c d : ℕ) (l : c < consoleCount) where
-  pub now-c : Follows (after r c d) r c d
-  now-c = record { slot = head-set r c (headOf r d) (omega (arith, s .sixteen)) }
+  source : (k : ℕ) → (j : ℕ) × Follows (moved r c h) r k j
+  source k = elim (ℕ-discrete k c) [ yes e ↦ (d, record { slot = ap (headOf (moved r c h)) e ∙ slot-self .slot }) | no ne ↦ (k, slot-other r c h k ne) ]
 
-  source : (k : ℕ) → (j : ℕ) × Follows (after r c d) r k j
-  source k = elim (ℕ-discrete k c) [ yes e ↦ (d, record { slot = ap (headOf (after r c d)) e ∙ now-c .slot }) | no ne ↦ (k, now-other r c d k ne) ]
+  -- a version behind a head is behind one still, where c's head is, and console 0 is still there
+  abbrev Behind : ℕ → Type 0
+  Behind v = (x : ℕ) × (present (moved r c h) x ≡ true) × (ancestor (r .versions) v (head (moved r c h) x) ≡ true)
 
-  module _ (q : present r d ≡ true) (b : present r c ≡ true → ancestor (r .versions) (head r c) (head r d) ≡ true) where
-    -- a version behind a head is behind one still
-    behind-one : (v k : ℕ) → present r k ≡ true → ancestor (r .versions) v (head r k) ≡ true
-        → (x : ℕ) × (present (after r c d) x ≡ true) × (ancestor (r .versions) v (head (after r c d) x) ≡ true)
+  module _ (own : present r c ≡ true → Behind (head r c)) (first : present (moved r c h) 0 ≡ true) where
+    behind-one : (v k : ℕ) → present r k ≡ true → ancestor (r .versions) v (head r k) ≡ true → Behind v
     behind-one v k p a =
         elim (ℕ-discrete k c) [
           | yes e ↦
-              let p′ : present r c ≡ true = rw e at p in
-              let a′ : ancestor (r .versions) v (head r c) ≡ true = rw e at a in (
-                c,
-                there now-c q,
-                ap (ancestor (r .versions) v) (number now-c) ∙ ancestor-trans (r .versions) v (head r c) (head r d) a′ (b p′),
-              )
-          | no ne ↦ (k, there (now-other r c d k ne) p, ap (ancestor (r .versions) v) (number (now-other r c d k ne)) ∙ a)
+              let x = own (rw e at p) in
+              let a′ : ancestor (r .versions) v (head r c) ≡ true = rw e at a in
+              (x .0, x .1, ancestor-trans (r .versions) v (head r c) (head (moved r c h) (x .0)) a′ (x .2))
+          | no ne ↦ (k, there (slot-other r c h k ne) p, ap (ancestor (r .versions) v) (number (slot-other r c h k ne)) ∙ a)
         ]
 
-    first-there : present (after r c d) 0 ≡ true
-    first-there =
-        elim (ℕ-discrete 0 c)
-        [ yes e ↦ ap (present (after r c d)) e ∙ there now-c q | no ne ↦ there (now-other r c d 0 ne) (s .first) ]
-
-    pub moved-sound : Sound (moved r c (headOf r d))
-    moved-sound = record {
+    slot-sound : Sound (moved r c h)
+    slot-sound = record {
       lower = s .lower;
       based = s .based;
-      sixteen = length-set (r .heads) c (headOf r d) ∙ s .sixteen;
+      sixteen = length-set (r .heads) c h ∙ s .sixteen;
       named = λ k v e. s .named (source k .0) v (sym (source k .1 .slot) ∙ e);
       meets = λ k k′ p p′.
           let m = s .meets (source k .0) (source k′ .0) (back (source k .1) p) (back (source k′ .1) p′) in (
             m .0,
             subst₂ (λ (u v : ℕ). Meet (r .versions) u v (m .0)) (sym (number (source k .1))) (sym (number (source k′ .1))) (m .1),
           );
-      first = first-there;
+      first = first;
       behind = λ v bound. let k = s .behind v bound in behind-one v (k .0) (k .1) (k .2);
       settings = s .settings;
       fits = s .fits;
       ranged = s .ranged;
     }
+
+-- console c on the head of console d, a present one
+module _ (r : Room) (s : Sound r) (c d : ℕ) (l : c < consoleCount) (q : present r d ≡ true)
+    (b : present r c ≡ true → ancestor (r .versions) (head r c) (head r d) ≡ true) where
+  onto : Follows (moved r c (headOf r d)) r c d
+  onto = slot-self r s c l (headOf r d) d refl
+
+  pub moved-sound : Sound (moved r c (headOf r d))
+  moved-sound =
+      slot-sound r s c l (headOf r d) d refl
+      (λ p. (c, there onto q, ap (ancestor (r .versions) (head r c)) (number onto) ∙ b p))
+      (elim (ℕ-discrete 0 c)
+      [ yes e ↦ ap (present (moved r c (headOf r d))) e ∙ there onto q | no ne ↦ there (slot-other r c (headOf r d) 0 ne) (s .first) ])
+
+-- console c, which is not console 0, gone home
+module _ (r : Room) (s : Sound r) (c : ℕ) (l : c < consoleCount) where
+  pub left-absent : present (moved r c none) c ≡ false
+  left-absent = ap isSome (head-set r c none (omega (arith, s .sixteen)))
+
+  pub left-sound : 0 < c → someOtherDescends r c ≡ true → Sound (moved r c none)
+  left-sound home h =
+      let d = some-descends r c h in
+      let f = slot-other r c none (d .0) (d .1 .other) in
+      slot-sound r s c l none consoleCount (sym (no-head r consoleCount (s .sixteen) (omega arith)))
+      (λ p. (d .0, there f (d .1 .here), ap (ancestor (r .versions) (head r c)) (number f) ∙ d .1 .behind))
+      (there (slot-other r c none 0 (omega arith)) (s .first))
 
 -- console c on a new version: every other console follows itself
 pub kept : (r : Room) (c : ℕ) (n : Node) (k : ℕ) → (k ≡ c → ⊥) → Follows (grown r c n) r k k

@@ -44,14 +44,15 @@ pub record Sound (r : Room) : Type 0 where
 pub versions-small : (r : Room) → Sound r → versionCount (r .versions) ≤ maxCapacity
 versions-small r s = omega (arith, s .fits, capacity-range (r .settings) (s .settings))
 
--- a present console is one of the sixteen
+-- a number above the last console's has no head, so that a present console is one of the sixteen
+pub no-head : (r : Room) (c : ℕ) → length (r .heads) ≡ consoleCount → consoleCount ≤ c → headOf r c ≡ none
+no-head r c l high = List·getD-eq-default (r .heads) none {n = c} (omega arith)
+
 pub present-console : (r : Room) (c : ℕ) → length (r .heads) ≡ consoleCount → present r c ≡ true → c < consoleCount
 present-console r c l p =
     elim (decLt c consoleCount) [
       | yes lt ↦ lt
-      | no ge ↦
-          let out : headOf r c ≡ none = List·getD-eq-default (r .heads) none {n = c} (omega arith) in
-          clash p (ap isSome out)
+      | no ge ↦ clash p (ap isSome (no-head r c l (omega arith)))
     ]
 
 -- the head of a present console

@@ -20,16 +20,16 @@ use Rattle.graph.proofs.Ancestor.{ancestor-above, ancestor-self}
 use Rattle.graph.proofs.Meet.{Meet, meet-found, meet-number, meet-sym, meet-behind}
 use Rattle.graph.specs.declared.Console.{Console}
 use Rattle.command.specs.declared.Command.{Command}
-use Rattle.command.specs.declared.Command.the-variants.{Fork, Entry, Merge, FastForward}
+use Rattle.command.specs.declared.Command.the-variants.{Fork, Entry, Merge, FastForward, Leave}
 use Rattle.command.specs.Code.{consoleCount}
 use Rattle.command.specs.Decoding.{InRange}
 use Rattle.room.specs.declared.Settings.{Settings}
 use Rattle.room.specs.Room.{Room, present, head, common, freshRoom}
 use Rattle.room.specs.Sound.{settingsInRange, entryInRange, headsMeet, allBehindHeads, soundRoom}
 use Rattle.room.specs.Step.{behind, apart, splits, someThirdSplits, stepRefusal, grown, step}
-use Rattle.room.proofs.Accepted.{fork-accepted, forward-accepted, entry-accepted, merge-accepted}
+use Rattle.room.proofs.Accepted.{fork-accepted, forward-accepted, entry-accepted, merge-accepted, leave-accepted}
 use Rattle.room.proofs.Sound.{Sound, capacity-range, present-console, present-head, two-met, met-two, sound-facts, facts-sound}
-use Rattle.room.proofs.Moves.{there, number, new-head, new-number, kept, moved-sound, grown-sound, grown-meets}
+use Rattle.room.proofs.Moves.{there, number, new-head, new-number, kept, moved-sound, left-sound, grown-sound, grown-meets}
 use Rattle.room.proofs.NewMeets.{entry-meet, merge-meet-receiver, merge-meet-giver, merge-meet-ordered}
 
 pub head-named : (r : Room) → Sound r → (c : ℕ) → present r c ≡ true → head r c < versionCount (r .versions)
@@ -46,6 +46,10 @@ unfolding step
 forward-sound r s a b range h =
     let may = forward-accepted r a b h in
     moved-sound r s (a .0) (b .0) (range .0) (may .0) (may .1)
+
+leave-sound : (r : Room) → Sound r → (c : Console) → InRange (Leave c) → stepRefusal r (Leave c) ≡ 0 → Sound (step r (Leave c))
+unfolding step
+leave-sound r s c range h = left-sound r s (c .0) (range .0) (range .1) (leave-accepted r c h .1)
 
 -- an entry on the head of a present console, where a version is left
 pub entry-grown : (r : Room) → Sound r → (c code k x : ℕ) → present r c ≡ true → entryInRange (r .versions) (entry (head r c) code k x) ≡ true
@@ -202,6 +206,7 @@ step-sound r (Fork new old) s range h = facts-sound _ (fork-sound r (sound-facts
 step-sound r (Entry console code strip operand) s range h = facts-sound _ (entry-sound r (sound-facts r s) console code strip operand range h)
 step-sound r (Merge a b) s range h = facts-sound _ (merge-sound r (sound-facts r s) a b range h)
 step-sound r (FastForward a b) s range h = facts-sound _ (forward-sound r (sound-facts r s) a b range h)
+step-sound r (Leave c) s range h = facts-sound _ (leave-sound r (sound-facts r s) c range h)
 
 -- opening gives a sound room
 pub fresh-sound : (settings : Settings) → settingsInRange settings ≡ true → soundRoom (freshRoom settings) ≡ true

@@ -1,15 +1,15 @@
--- What each command does to a room, and the refusals 12 to 18 in their order.
+-- What each command does to a room, and the refusals 12 to 18 and 21 in their order.
 use Prim.Native.Nat.{ℕ}
 use mathlib.Core.Bool.{Bool, not, _&&_, _||_}
 use mathlib.Core.List.{List, [], _∷_, _++_}
-use mathlib.Core.Option.{Option, some}
+use mathlib.Core.Option.{Option, none, some}
 use lib.Dec.{eqb, ltb}
 use lib.ListN.{set}
 use Rattle.graph.specs.Below.{someBelow}
 use Rattle.graph.specs.declared.Node.{Node}
 use Rattle.graph.specs.Graph.{entry, merge, versionCount, ancestor}
 use Rattle.command.specs.declared.Command.{Command}
-use Rattle.command.specs.declared.Command.the-variants.{Fork, Entry, Merge, FastForward}
+use Rattle.command.specs.declared.Command.the-variants.{Fork, Entry, Merge, FastForward, Leave}
 use Rattle.refusal.specs.Refusal.{_when_, firstRefusal}
 use Rattle.command.specs.Code.{consoleCount}
 use Rattle.room.specs.Room.{Room, headOf, present, head, common}
@@ -34,12 +34,20 @@ splits r receiver giver k =
 abbrev pub someThirdSplits : Room → ℕ → ℕ → Bool
 someThirdSplits r receiver giver = someBelow consoleCount (splits r receiver giver)
 
--- a version is left: "18 entry or merge: no version left." is given where none is
-abbrev pub versionLeft : Room → Bool
-versionLeft r = ltb (versionCount (r .versions)) (r .settings .capacity)
+-- console d is another present one, and its head descends from the head of c, or is the same
+abbrev pub otherDescends : Room → ℕ → ℕ → Bool
+otherDescends r c d = present r d && not (eqb d c) && behind r c d
 
--- The tests of a command in the state of a room, in their order, given whether a version is left; with `true` they say what would be
--- accepted if one were left. "12 a named console is absent (fork: the old one). 13 fork's new console is present. 14 merge or fast-forward: giver's
+-- "provided that its head is an ancestor of another present head"
+abbrev pub someOtherDescends : Room → ℕ → Bool
+someOtherDescends r c = someBelow consoleCount (otherDescends r c)
+
+-- a version is free; where none is, "18 entry or merge: no version left."
+abbrev pub versionFree : Room → Bool
+versionFree r = ltb (versionCount (r .versions)) (r .settings .capacity)
+
+-- The tests of a command in the state of a room, in their order, given whether a version is free; with `true` they say what would be
+-- accepted if one were. "12 a named console is absent (fork: the old one). 13 fork's new console is present. 14 merge or fast-forward: giver's
 -- head is an ancestor of receiver's. 15 merge: receiver's head is an ancestor of giver's. 16 fast-forward: receiver's head isn't an ancestor
 -- of giver's."
 abbrev pub receiverGiverTests : Room → ℕ → ℕ → List (ℕ × Bool)
@@ -52,14 +60,14 @@ abbrev pub forkTests : Room → ℕ → ℕ → List (ℕ × Bool)
 forkTests r new old = 12 when absent r old ∷ 13 when present r new ∷ []
 
 abbrev pub entryTests : Room → Bool → ℕ → List (ℕ × Bool)
-entryTests r left console = 12 when absent r console ∷ 18 when not left ∷ []
+entryTests r free console = 12 when absent r console ∷ 18 when not free ∷ []
 
 abbrev pub mergeTests : Room → Bool → ℕ → ℕ → List (ℕ × Bool)
-mergeTests r left receiver giver =
+mergeTests r free receiver giver =
     receiverGiverTests r receiver giver
     ++ (15 when behind r receiver giver
     ∷ 17 when someThirdSplits r receiver giver
-    ∷ 18 when not left
+    ∷ 18 when not free
     ∷ [])
 
 abbrev pub fastForwardTests : Room → ℕ → ℕ → List (ℕ × Bool)
@@ -68,17 +76,22 @@ fastForwardTests r receiver giver =
     ++ (16 when not (behind r receiver giver)
     ∷ [])
 
+-- "21 no other head descends from its head, tested last."
+abbrev pub leaveTests : Room → ℕ → List (ℕ × Bool)
+leaveTests r console = 12 when absent r console ∷ 21 when not (someOtherDescends r console) ∷ []
+
 unfoldable pub stateTests : Room → Bool → Command → List (ℕ × Bool)
-stateTests r left (Fork new old) = forkTests r (new .0) (old .0)
-stateTests r left (Entry console code strip operand) = entryTests r left (console .0)
-stateTests r left (Merge receiver giver) = mergeTests r left (receiver .0) (giver .0)
-stateTests r left (FastForward receiver giver) = fastForwardTests r (receiver .0) (giver .0)
+stateTests r free (Fork new old) = forkTests r (new .0) (old .0)
+stateTests r free (Entry console code strip operand) = entryTests r free (console .0)
+stateTests r free (Merge receiver giver) = mergeTests r free (receiver .0) (giver .0)
+stateTests r free (FastForward receiver giver) = fastForwardTests r (receiver .0) (giver .0)
+stateTests r free (Leave console) = leaveTests r (console .0)
 
 -- the first refusal that applies, or 0
 unfoldable pub stepRefusal : Room → Command → ℕ
-stepRefusal r c = firstRefusal (stateTests r (versionLeft r) c)
+stepRefusal r c = firstRefusal (stateTests r (versionFree r) c)
 
--- console c moves to the head given
+-- console c moves to the head given, or has none any more
 abbrev pub moved : Room → ℕ → Option ℕ → Room
 moved r c h = record { settings = r .settings; versions = r .versions; heads = set (r .heads) c h }
 
@@ -93,10 +106,11 @@ grown r c n =
 
 -- "Codes 02 to 08 make an entry version on the console's head, also when nothing visible changes." "Fork gives the new console the old
 -- one's head and makes no version. Fast-forward gives the receiver the giver's head and makes no version. Merge makes a version on the
--- receiver."
+-- receiver." "Code 0B with one console removes it": it has no head any more, and there is no version more or less.
 unfoldable pub step : Room → Command → Room
 step r (Fork new old) = moved r (new .0) (headOf r (old .0))
 step r (Entry console code strip operand) =
     grown r (console .0) (entry (head r (console .0)) code (strip .0) operand)
 step r (Merge receiver giver) = grown r (receiver .0) (merge (head r (receiver .0)) (head r (giver .0)))
 step r (FastForward receiver giver) = moved r (receiver .0) (headOf r (giver .0))
+step r (Leave console) = moved r (console .0) none

@@ -9,11 +9,11 @@ use Rattle.laws.proofs.Logic.{cond-true, cond-false}
 use Rattle.buffer.specs.Field.{overwrite}
 use Rattle.command.specs.declared.Command.{Command}
 use Rattle.refusal.specs.Refusal.{firstRefusal}
-use Rattle.room.specs.Step.{versionLeft, stateTests, stepRefusal, step}
+use Rattle.room.specs.Step.{versionFree, stateTests, stepRefusal, step}
 use Rattle.store.specs.Layout.{encode, roomIn}
 use Rattle.step.specs.Outcome.{afterStep}
 
-module _ (s : List ℕ) (c : Command) (left : Bool) (l : left ≡ versionLeft (roomIn s)) (n : ℕ) (e : n ≡ firstRefusal (stateTests (roomIn s) left c)) where
+module _ (s : List ℕ) (c : Command) (free : Bool) (l : free ≡ versionFree (roomIn s)) (n : ℕ) (e : n ≡ firstRefusal (stateTests (roomIn s) free c)) where
   pub step-refused : n ≡ stepRefusal (roomIn s) c
   unfolding stepRefusal
   step-refused = rw l at e

@@ -1,11 +1,11 @@
--- Consoles that do not split two others, and the consoles one after the other: none so far, and one more.
+-- Consoles that do not split two others, and the consoles one after the other: one more that does not.
 -- Assumes nothing.
-use mathlib.Core.Path.{_≡_, refl}
+use mathlib.Core.Path.{_≡_, _∙_}
 use mathlib.Core.Bool.{Bool, false}
 use Prim.Native.Nat.{ℕ, _+_}
-use native.Mathlib.Numerals.{add-one}
 use Rattle.laws.proofs.Logic.{clash, refuted, or-none}
 use Rattle.graph.specs.Below.{someBelow}
+use Rattle.graph.proofs.Below.{some-more}
 use Rattle.room.specs.Room.{Room, present}
 use Rattle.room.specs.Step.{splits}
 use Rattle.room.proofs.Steps.{split-parts}
@@ -20,11 +20,5 @@ module _ (r : Room) (c d k : ℕ) where
   pub absent-splits-not : present r k ≡ false → splits r c d k ≡ false
   absent-splits-not f = refuted _ (λ t. clash (split-parts r c d k t .pd) f)
 
-module _ (f : ℕ → Bool) where
-  pub some-none : someBelow 0 f ≡ false
-  unfolding someBelow
-  some-none = refl
-
-  pub some-none-more : (k : ℕ) → someBelow k f ≡ false → f k ≡ false → someBelow (k + 1) f ≡ false
-  unfolding someBelow
-  some-none-more k h e = rw add-one (or-none (someBelow k f) (f k) h e)
+pub some-none-more : (f : ℕ → Bool) (k : ℕ) → someBelow k f ≡ false → f k ≡ false → someBelow (k + 1) f ≡ false
+some-none-more f k h e = some-more k f ∙ or-none (someBelow k f) (f k) h e

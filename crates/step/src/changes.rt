@@ -1,6 +1,7 @@
 // What an accepted command does to a store.
 use command::Command;
 use update::commons::move_console;
+use update::commons::remove_console;
 use update::new_version::enter;
 use update::new_version::merge;
 ghost use mathlib.Core.Path.{_≡_};
@@ -27,5 +28,6 @@ pub fn change(s: &mut [u8], c: Command)
         } => enter(s, console, code, strip, operand),
         Command::Merge { receiver, giver } => merge(s, receiver, giver),
         Command::FastForward { receiver, giver } => move_console(s, receiver, giver),
+        Command::Leave { console } => remove_console(s, console),
     }
 }

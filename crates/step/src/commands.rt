@@ -1,7 +1,7 @@
 // A command of any kind, executed or refused.
 use crate::changes::change;
 use crate::refusals::refusal_of;
-use crate::refusals::version_left;
+use crate::refusals::version_free;
 use command::Command;
 ghost use mathlib.Core.Path.{_≡_};
 ghost use mathlib.Core.Bool.{true};
@@ -16,8 +16,8 @@ pub fn execute(s: &mut [u8], c: Command) -> u32
     requires { ⌜ InRange c ⌝ }
     ensures { λ r. ⌜ (r ≡ stepRefusal (roomIn (now (s .entry))) c) × (now (s .exit) ≡ afterStep (now (s .entry)) c) ⌝ }
 {
-    let left = version_left(s);
-    let refusal = refusal_of(s, left, c);
+    let free = version_free(s);
+    let refusal = refusal_of(s, free, c);
     if refusal != 0 {
         return refusal;
     }

@@ -1,9 +1,9 @@
 // The refusals of each command by the state of the room: a function for each group of tests, which gives the first that applies, or 0.
+use crate::descends::is_behind;
+use crate::descends::some_other_descends;
 use crate::third::some_third_splits;
 use command::Command;
 use graph::Console;
-use query::head_of;
-use query::is_ancestor;
 use query::is_present;
 use query::settings_of;
 use query::version_count;
@@ -15,7 +15,7 @@ ghost use Prim.Native.Nat.{_<_};
 ghost use Rattle.refusal.specs.Refusal.{firstRefusal};
 ghost use Rattle.command.specs.Code.{consoleCount};
 ghost use Rattle.command.specs.Decoding.{InRange};
-ghost use Rattle.room.specs.Step.{absent, behind, versionLeft, receiverGiverTests, forkTests, entryTests, mergeTests, fastForwardTests, stateTests};
+ghost use Rattle.room.specs.Step.{absent, versionFree, receiverGiverTests, forkTests, entryTests, mergeTests, fastForwardTests, leaveTests, stateTests};
 ghost use Rattle.store.specs.Layout.{roomIn, holdsStore};
 
 // Whether one of two consoles is absent.
@@ -27,19 +27,10 @@ fn one_is_absent(s: &[u8], c: Console, d: Console) -> bool
     !is_present(s, c) | !is_present(s, d)
 }
 
-// Whether the head of c is an ancestor of the head of d, itself included.
-fn is_behind(s: &[u8], c: Console, d: Console) -> bool
+// Whether a version is free.
+pub fn version_free(s: &[u8]) -> bool
     requires { ⌜ holdsStore (now s) ≡ true ⌝ }
-    requires { ⌜ (c .0 < consoleCount) × (d .0 < consoleCount) ⌝ }
-    ensures { λ r. ⌜ r ≡ behind (roomIn (now (s .entry))) (c .0) (d .0) ⌝ }
-{
-    is_ancestor(s, head_of(s, c), head_of(s, d))
-}
-
-// Whether a version is left.
-pub fn version_left(s: &[u8]) -> bool
-    requires { ⌜ holdsStore (now s) ≡ true ⌝ }
-    ensures { λ r. ⌜ r ≡ versionLeft (roomIn (now (s .entry))) ⌝ }
+    ensures { λ r. ⌜ r ≡ versionFree (roomIn (now (s .entry))) ⌝ }
 {
     let settings = settings_of(s);
     let count = version_count(s);
@@ -68,22 +59,22 @@ fn fork_refusal(s: &[u8], new: Console, old: Console) -> u32
     first_of(old_absent, new_present)
 }
 
-// What refuses an entry, given whether a version is left.
-fn entry_refusal(s: &[u8], left: bool, console: Console) -> u32
+// What refuses an entry, given whether a version is free.
+fn entry_refusal(s: &[u8], free: bool, console: Console) -> u32
     requires { ⌜ holdsStore (now s) ≡ true ⌝ }
     requires { ⌜ console .0 < consoleCount ⌝ }
-    ensures { λ r. ⌜ r ≡ firstRefusal (entryTests (roomIn (now (s .entry))) left (console .0)) ⌝ }
+    ensures { λ r. ⌜ r ≡ firstRefusal (entryTests (roomIn (now (s .entry))) free (console .0)) ⌝ }
 {
     let console_absent = when(12, !is_present(s, console));
-    let none_left = when(18, !left);
-    first_of(console_absent, none_left)
+    let none_free = when(18, !free);
+    first_of(console_absent, none_free)
 }
 
-// What refuses a merge, given whether a version is left. A third console is asked about only where both are present.
-fn merge_refusal(s: &[u8], left: bool, receiver: Console, giver: Console) -> u32
+// What refuses a merge, given whether a version is free. A third console is asked about only where both are present.
+fn merge_refusal(s: &[u8], free: bool, receiver: Console, giver: Console) -> u32
     requires { ⌜ holdsStore (now s) ≡ true ⌝ }
     requires { ⌜ (receiver .0 < consoleCount) × (giver .0 < consoleCount) ⌝ }
-    ensures { λ r. ⌜ r ≡ firstRefusal (mergeTests (roomIn (now (s .entry))) left (receiver .0) (giver .0)) ⌝ }
+    ensures { λ r. ⌜ r ≡ firstRefusal (mergeTests (roomIn (now (s .entry))) free (receiver .0) (giver .0)) ⌝ }
 {
     let refusal = receiver_giver_refusal(s, receiver, giver);
     if refusal != 0 {
@@ -91,8 +82,8 @@ fn merge_refusal(s: &[u8], left: bool, receiver: Console, giver: Console) -> u32
     }
     let receiver_behind = when(15, is_behind(s, receiver, giver));
     let third_splits = when(17, some_third_splits(s, receiver, giver));
-    let none_left = when(18, !left);
-    first_of(receiver_behind, first_of(third_splits, none_left))
+    let none_free = when(18, !free);
+    first_of(receiver_behind, first_of(third_splits, none_free))
 }
 
 // What refuses a fast-forward.
@@ -106,16 +97,28 @@ fn forward_refusal(s: &[u8], receiver: Console, giver: Console) -> u32
     first_of(refusal, receiver_ahead)
 }
 
-// The first refusal of a command by the state of the room, given whether a version is left, or 0.
-pub fn refusal_of(s: &[u8], left: bool, c: Command) -> u32
+// What refuses a leave.
+fn leave_refusal(s: &[u8], console: Console) -> u32
+    requires { ⌜ holdsStore (now s) ≡ true ⌝ }
+    requires { ⌜ console .0 < consoleCount ⌝ }
+    ensures { λ r. ⌜ r ≡ firstRefusal (leaveTests (roomIn (now (s .entry))) (console .0)) ⌝ }
+{
+    let console_absent = when(12, !is_present(s, console));
+    let none_descends = when(21, !some_other_descends(s, console));
+    first_of(console_absent, none_descends)
+}
+
+// The first refusal of a command by the state of the room, given whether a version is free, or 0.
+pub fn refusal_of(s: &[u8], free: bool, c: Command) -> u32
     requires { ⌜ holdsStore (now s) ≡ true ⌝ }
     requires { ⌜ InRange c ⌝ }
-    ensures { λ r. ⌜ r ≡ firstRefusal (stateTests (roomIn (now (s .entry))) left c) ⌝ }
+    ensures { λ r. ⌜ r ≡ firstRefusal (stateTests (roomIn (now (s .entry))) free c) ⌝ }
 {
     match c {
         Command::Fork { new, old } => fork_refusal(s, new, old),
-        Command::Entry { console, .. } => entry_refusal(s, left, console),
-        Command::Merge { receiver, giver } => merge_refusal(s, left, receiver, giver),
+        Command::Entry { console, .. } => entry_refusal(s, free, console),
+        Command::Merge { receiver, giver } => merge_refusal(s, free, receiver, giver),
         Command::FastForward { receiver, giver } => forward_refusal(s, receiver, giver),
+        Command::Leave { console } => leave_refusal(s, console),
     }
 }

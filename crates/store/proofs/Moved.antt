@@ -1,9 +1,10 @@
--- The table of common versions after a console moved: to another's head, to a new entry, to a merge. Its fields against the other consoles
+-- The table of common versions after a console moved (to another's head, to a new entry, to a merge) or left. Where it moved, its fields against the other consoles
 -- are the higher of its own and the giver's before, as the later of two common versions has the higher number.
 -- Assumes nothing.
 use mathlib.Core.Path.{_≡_, refl, sym, _∙_, ap, subst₂}
 use mathlib.Core.Bool.{Bool, true, false}
 use mathlib.Core.List.{_∷_}
+use mathlib.Core.Option.{Option, none}
 use mathlib.Core.Logic.{inl, inr}
 use Prim.Native.Nat.{ℕ, suc, pred, max, _≤_, _<_}
 use native.Mathlib.Omega.{arith}
@@ -16,7 +17,7 @@ use Rattle.command.specs.Code.{consoleCount}
 use Rattle.room.specs.Room.{Room, headOf, present, head}
 use Rattle.room.specs.Step.{behind, someThirdSplits, moved, grown}
 use Rattle.room.proofs.Sound.{Sound}
-use Rattle.room.proofs.Moves.{Follows, there, back, number, now-c, now-other, moved-sound, new-head, new-number, kept}
+use Rattle.room.proofs.Moves.{Follows, there, back, number, slot-self, slot-other, moved-sound, left-absent, new-head, new-number, kept}
 use Rattle.room.proofs.NewMeets.{entry-meet, merge-meet-receiver, merge-meet-giver, merge-meet-ordered}
 use Rattle.room.proofs.Steps.{head-named, meeting}
 use Rattle.store.specs.Layout.{commonField}
@@ -54,28 +55,40 @@ module _ (r : Room) (s : Sound r) where
           let up = ancestor-trans (r .versions) (pred (commonField r c k)) (head r c) (head r d) (m .1 .first) (b e) in
           omega (arith, ancestor-le (r .versions) _ _ (w .1 .lowest (pred (commonField r c k)) up (m .1 .second)))
 
+-- console c moved or left: the fields of the others stay
+pub moved-other : (r : Room) → Sound r → (c : ℕ) (h : Option ℕ) (j k : ℕ) → (j ≡ c → ⊥) → (k ≡ c → ⊥) → commonField (moved r c h) j k ≡ commonField r j k
+moved-other r s c h j k nj nk =
+    sym (field-is (follow-field (slot-other r c h j nj) (slot-other r c h k nk) (λ u v m w. w) (sound-field r s j k)))
+
+-- console c gone home: it has no field
+module _ (r : Room) (s : Sound r) (c : ℕ) (l : c < consoleCount) where
+  left-field : (k : ℕ) → Field (moved r c none) c k 0
+  left-field k = record { away = λ a. refl; both = λ p q. clash p (left-absent r s c l) }
+
+  pub left-row : (k : ℕ) → commonField (moved r c none) c k ≡ 0
+  left-row k = sym (field-is (left-field k))
+
+  pub left-column : (k : ℕ) → commonField (moved r c none) k c ≡ 0
+  left-column k = sym (field-is (field-sym (left-field k)))
+
 -- console c on the head of console d: a fork where c is absent, a fast-forward where its head is behind
 module _ (r : Room) (s : Sound r) (c d : ℕ) (l : c < consoleCount) (q : present r d ≡ true) (b : present r c ≡ true → behind r c d ≡ true) where
   abbrev after : Room
   after = moved r c (headOf r d)
 
-  keep : (u v m : ℕ) → Meet (r .versions) u v m → Meet (after .versions) u v m
-  keep u v m w = w
+  onto : Follows after r c d
+  onto = slot-self r s c l (headOf r d) d refl
 
   pub moved-self : commonField after c c ≡ commonField r d d
-  moved-self = sym (field-is (follow-field (now-c r s c d l) (now-c r s c d l) keep (sound-field r s d d)))
+  moved-self = sym (field-is (follow-field onto onto (λ u v m w. w) (sound-field r s d d)))
 
   pub moved-row : (k : ℕ) → (k ≡ c → ⊥) → commonField after c k ≡ max (commonField r c k) (commonField r d k)
   moved-row k ne =
-      let e = field-is (follow-field (now-c r s c d l) (now-other r c d k ne) keep (sound-field r s d k)) in
+      let e = field-is (follow-field onto (slot-other r c (headOf r d) k ne) (λ u v m w. w) (sound-field r s d k)) in
       omega (arith, field-behind r s c d k q b)
 
   pub moved-column : (k : ℕ) → (k ≡ c → ⊥) → commonField after k c ≡ max (commonField r c k) (commonField r d k)
   moved-column k ne = commonField-sym after (moved-sound r s c d l q b) k c ∙ moved-row k ne
-
-  pub moved-other : (j k : ℕ) → (j ≡ c → ⊥) → (k ≡ c → ⊥) → commonField after j k ≡ commonField r j k
-  moved-other j k nj nk =
-      sym (field-is (follow-field (now-other r c d j nj) (now-other r c d k nk) keep (sound-field r s j k)))
 
 -- console c on a new version
 module _ (r : Room) (s : Sound r) (c : ℕ) (p : present r c ≡ true) (n : Node) where

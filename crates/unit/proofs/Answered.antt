@@ -1,6 +1,6 @@
 -- What the calls answer: the reply and the lent bytes where the code found this refusal or none, and what holds where none is given.
 -- Assumes nothing.
-use mathlib.Core.Path.{_≡_, refl, sym, _∙_}
+use mathlib.Core.Path.{_≡_, refl, sym, _∙_, ap}
 use mathlib.Core.Bool.{Bool, true, false, cond, not}
 use mathlib.Core.List.{List, [], _∷_}
 use Prim.Native.Nat.{ℕ, _≤_, _<_}
@@ -13,13 +13,13 @@ use Rattle.buffer.specs.Field.{overwrite}
 use Rattle.board.specs.Board.{stripCount, boardSize, cellCount, cellOf}
 use Rattle.refusal.specs.Refusal.{_when_, firstRefusal, firstOf}
 use Rattle.command.specs.Code.{consoleCount, isConsole, isStrip, isCell}
-use Rattle.room.specs.Room.{present, openSettings}
+use Rattle.room.specs.Room.{present, common, openSettings}
 use Rattle.room.specs.Sound.{settingsInRange}
 use Rattle.room.specs.Origin.{origin}
 use Rattle.room.specs.Step.{absent}
 use Rattle.store.specs.Layout.{storeSize, roomIn, holdsStore}
 use Rattle.unit.specs.declared.Reply.{Reply}
-use Rattle.unit.specs.Calls.{Outcome, replied, written, tooShort, bufferTests, openTests, consoleStateTests, consoleTests, pairStateTests, pairTests, originTests, originReply}
+use Rattle.unit.specs.Calls.{Outcome, replied, written, tooShort, bufferTests, openTests, consoleStateTests, consoleTests, pairStateTests, pairTests, commonReply, originTests, originReply}
 use Rattle.refusal.proofs.Refusals.{none-applies, numbered, first-append, first-none}
 
 -- a call with this reply, which left this in the lent buffer, went as it should
@@ -92,6 +92,17 @@ pair-allowed s c d e z =
       here = not-false (present (roomIn s) c) (or-none-l _ _ twelve);
       there = not-false (present (roomIn s) d) (or-none-r (absent (roomIn s) c) _ twelve);
     }
+
+-- their common version is answered where they can be asked about, and only there
+pub pair-answered : (s : List ℕ) (c d : ℕ) → Allowed s c d → commonReply s c d ≡ replied 0 (common (roomIn s) c d)
+unfolding commonReply firstRefusal
+pair-answered s c d a = rw (lt-ltb c consoleCount (a .first), lt-ltb d consoleCount (a .second), a .held, a .here, a .there)
+
+pub pair-told : (s : List ℕ) (c d v : ℕ) → commonReply s c d ≡ replied 0 v → Allowed s c d × (common (roomIn s) c d ≡ v)
+unfolding commonReply
+pair-told s c d v told =
+    let none = ap (λ (r : Reply). r .answer) told in
+    (pair-allowed s c d refl none, rw none at (ap (λ (r : Reply). r .count) told))
 
 -- a console is asked about as two that are the same
 pub pair-state-sole : (s : List ℕ) (c : ℕ) → firstRefusal (pairStateTests s c c) ≡ firstRefusal (consoleStateTests s c)

@@ -31,12 +31,13 @@ use Rattle.room.proofs.Lengths.{boardOf-length}
 use Rattle.store.specs.Layout.{roomIn, holdsStore}
 use Rattle.store.proofs.RoundTrip.{holds-sound}
 use Rattle.store.proofs.Whole.{whole-sound}
-use Rattle.unit.specs.Calls.{replied, written, boardOutcome, heardReply, commonReply}
+use Rattle.unit.specs.Calls.{replied, written, boardOutcome, heardReply}
 use Rattle.unit.specs.Journal.{Journal, Made, entered, merged, madeBy, isPresent, headNumber, leads, madeAs, wasEntered, holds, hasHeard, entriesHeard, callOf, callsHeard}
 use Rattle.unit.specs.Convergence.{Common, Origin, Converged, Demand3}
 use Rattle.unit.proofs.Reading.{leads-ancestor, made-node, entered-entry, call-entry}
 use Rattle.unit.proofs.Matched.{journalOf, matched}
-use Rattle.unit.proofs.Answered.{Askable, origin-answered}
+use Rattle.unit.proofs.Answered.{Allowed, pair-answered, Askable, origin-answered}
+use Rattle.unit.proofs.Leaving.{absent-console}
 
 -- what the journal of a room says is what the room says
 holds-ancestor : (r : Room) (v e : ℕ) → holds (journalOf r) v e ≡ (isEntry (r .versions) e && ancestor (r .versions) e v)
@@ -77,6 +78,11 @@ module _ (store : List ℕ) (h : holdsStore store ≡ true) where
   console : (c : ℕ) → isPresent (journalIn store) c ≡ true → isConsole c ≡ true
   console c p = lt-ltb c consoleCount (present-console (roomIn store) c (s .sixteen) p)
 
+  both-there : (c d : ℕ) → isPresent (journalIn store) c ≡ true → isPresent (journalIn store) d ≡ true → Allowed store c d
+  both-there c d p q =
+      let l = s .sixteen in
+      record { first = present-console (roomIn store) c l p; second = present-console (roomIn store) d l q; held = h; here = p; there = q }
+
   module _ (c d : ℕ) (p : isPresent (journalIn store) c ≡ true) (q : isPresent (journalIn store) d ≡ true) where
     same-head : ((e : ℕ) → hasHeard (journalIn store) c e ≡ hasHeard (journalIn store) d e)
         → headNumber (journalIn store) c ≡ headNumber (journalIn store) d
@@ -91,14 +97,13 @@ module _ (store : List ℕ) (h : holdsStore store ≡ true) where
     same-board e output = cc (console c p, console d q)
 
     common-version : (m : ℕ) × Common store (journalIn store) c d m
-    unfolding commonReply firstRefusal
     common-version =
         let r = roomIn store in
         let g = r .versions in
         let m = s .meets c d p q in (
           m .0,
           record {
-            answered = cc (h, console c p, console d q, common-meet r c d (m .1));
+            answered = pair-answered store c d (both-there c d p q) ∙ ap (replied 0) (common-meet r c d (m .1));
             held = λ e.
                 cc (
                   holds-ancestor r (m .0) e,
@@ -160,6 +165,7 @@ module _ (store : List ℕ) (h : holdsStore store ≡ true) where
     calls = λ c k p. calls-counted c p k;
     heard = heard-count;
     origins = λ c k cell p. origin-told c p k cell;
+    absent = absent-console store h;
   }
 
 pub demand-3 : Demand3

@@ -13,7 +13,7 @@ use lib.ListN.{length, length-map, drop}
 use Rattle.laws.proofs.Logic.{clash}
 use Rattle.buffer.specs.Field.{overwrite}
 use Rattle.command.specs.declared.Command.{Command}
-use Rattle.command.specs.declared.Command.the-variants.{Fork, Entry, Merge, FastForward}
+use Rattle.command.specs.declared.Command.the-variants.{Fork, Entry, Merge, FastForward, Leave}
 use Rattle.command.specs.declared.Decoded.{Decoded}
 use Rattle.command.specs.declared.Decoded.the-variants.{Whole, Refused}
 use Rattle.refusal.specs.Refusal.{firstRefusal}
@@ -65,6 +65,7 @@ step-journal r (Fork new old) = refl
 step-journal r (Entry console code strip operand) = cc (length-map (r .versions) madeBy)
 step-journal r (Merge receiver giver) = cc (length-map (r .versions) madeBy)
 step-journal r (FastForward receiver giver) = refl
+step-journal r (Leave console) = refl
 
 -- a call that changes both where it is accepted, and neither where it is refused
 either-matched : {store store′ : List ℕ} {j j′ : Journal} (refusal : ℕ) → Matched store j → (refusal ≡ 0 → Matched store′ j′)

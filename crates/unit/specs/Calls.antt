@@ -19,7 +19,7 @@ use Rattle.room.specs.Room.{Room, head, common, heardCount, openSettings, fresh
 use Rattle.room.specs.Sound.{settingsInRange}
 use Rattle.room.specs.Boards.{boardOf}
 use Rattle.room.specs.Origin.{origin}
-use Rattle.room.specs.Step.{absent, versionLeft, stateTests, step}
+use Rattle.room.specs.Step.{absent, versionFree, stateTests, step}
 use Rattle.store.specs.Layout.{storeSize, encode, roomIn, holdsStore}
 use Rattle.tape.specs.Tape.{Content, contentOf, tapeTests, roomOf, tapeOf}
 use Rattle.unit.specs.declared.Reply.{Reply}
@@ -56,9 +56,9 @@ openTests capacity store = bufferTests (8 when not (settingsInRange (openSetting
 unfoldable pub openOutcome : ℕ → List ℕ → Outcome
 openOutcome capacity store = written (firstRefusal (openTests capacity store)) 0 (encode (fresh capacity)) store
 
--- a command that was decoded whole: 11, and 12 to 18
+-- a command that was decoded whole: 11, then 12 to 18 and 21
 abbrev pub commandTests : List ℕ → Command → List (ℕ × Bool)
-commandTests store c = 11 when holdsNoStore store ∷ stateTests (roomIn store) (versionLeft (roomIn store)) c
+commandTests store c = 11 when holdsNoStore store ∷ stateTests (roomIn store) (versionFree (roomIn store)) c
 
 -- what was decoded, on a store
 unfoldable pub stepOutcome : List ℕ → Decoded → Outcome

@@ -9,9 +9,11 @@ use mathlib.Core.Option.{some}
 use lib.ListN.{length}
 use Rattle.buffer.specs.Field.{wordAt}
 use Rattle.board.specs.Board.{stripCount, boardSize, callsAt, cellCount, cellOf, writingCode}
+use Rattle.command.specs.Code.{consoleCount}
 use Rattle.store.specs.Layout.{roomIn, holdsStore}
 use Rattle.unit.specs.Calls.{Call, opening, command, resume, question, replied, replyTo, storeAfter, boardOutcome, heardReply, commonReply, originReply}
 use Rattle.unit.specs.Journal.{Journal, entered, isPresent, headNumber, feed, leads, madeAs, holds, hasHeard, commonTo, entriesHeard, callsHeard}
+use Rattle.unit.specs.Leaving.{Absent}
 
 -- the store and the journal after a list of calls
 unfoldable pub afterCalls : List ℕ → Journal → List Call → List ℕ × Journal
@@ -55,6 +57,8 @@ pub record Converged (store : List ℕ) (j : Journal) : Type 0 where
   -- where a level or heading comes from is answered; above 0 it is an entry that the console has heard, on that strip, with the code that
   -- writes the cell. That it wrote the value shown is `OriginsTraced`: the journal has no operands.
   pub origins : (c k cell : ℕ) → isPresent j c ≡ true → k < stripCount → cell < cellCount → (v : ℕ) × Origin store j c k cell v
+  -- a console for which the journal has no head, such as one that went home, is absent from the store
+  pub absent : (c : ℕ) → c < consoleCount → isPresent j c ≡ false → Absent store c
 
 -- the claim: any bytes in the lent buffer, any journal, an opening or a resume that answered 0, and any list of calls after it
 abbrev pub Demand3 : Type 0

@@ -1,4 +1,5 @@
 pub mod Calls
 pub mod Traced
 pub mod Journal
+pub mod Leaving
 pub mod Convergence

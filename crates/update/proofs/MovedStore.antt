@@ -3,7 +3,7 @@
 use mathlib.Core.Path.{_≡_, refl, sym, _∙_}
 use mathlib.Core.Bool.{true}
 use mathlib.Core.List.{List}
-use mathlib.Core.Option.{Option}
+use mathlib.Core.Option.{Option, none}
 use Prim.Native.Nat.{ℕ, _<_}
 use native.Mathlib.Omega.{arith}
 use Rattle.buffer.specs.Field.{overwrite}
@@ -12,13 +12,13 @@ use Rattle.buffer.proofs.Stands.{stands-kept}
 use Rattle.graph.specs.Graph.{ancestor, isEntry}
 use Rattle.command.specs.Code.{consoleCount}
 use Rattle.room.specs.Room.{Room, headOf, present, head}
-use Rattle.room.specs.Step.{moved}
+use Rattle.room.specs.Step.{someOtherDescends, moved}
 use Rattle.room.proofs.Sound.{Sound, facts-sound}
-use Rattle.room.proofs.Moves.{moved-sound}
+use Rattle.room.proofs.Moves.{moved-sound, left-sound}
 use Rattle.store.specs.Layout.{rowSize, commonField, encode, roomIn, holdsStore}
 use Rattle.store.specs.Check.{commonIn}
 use Rattle.store.proofs.Joined.{placed}
-use Rattle.store.proofs.Moved.{moved-self, moved-row, moved-column, moved-other}
+use Rattle.store.proofs.Moved.{moved-self, moved-row, moved-column, moved-other, left-row, left-column}
 use Rattle.store.proofs.Changed.{changed-store}
 use Rattle.store.proofs.Reading.{common-read}
 use Rattle.store.proofs.Whole.{whole-sound, whole-front, whole-long, whole-header}
@@ -65,4 +65,13 @@ module _ (s : List ℕ) (t : holdsStore s ≡ true) (c d : ℕ) (cl : c < consol
       (moved-self r sound c d cl q b ∙ sym (read d d dl dl))
       (λ k kl kc. rw (read c k cl kl, read d k dl kl) (moved-row r sound c d cl q b k kc))
       (λ k kl kc. rw (read c k cl kl, read d k dl kl) (moved-column r sound c d cl q b k kc))
-      (moved-other r sound c d cl q b)
+      (moved-other r sound c (headOf r d))
+
+-- a console that left, whose fields were cleared
+pub left-store : (s : List ℕ) → holdsStore s ≡ true → (c : ℕ) → c < consoleCount → 0 < c → someOtherDescends (roomIn s) c ≡ true
+    → putHead (putOthers s c (λ k. 0) consoleCount) c 0 ≡ overwrite (encode (moved (roomIn s) c none)) s
+left-store s t c cl home h =
+    let r = roomIn s in
+    let sound = whole-sound s t in
+    slot-store s t c cl none (λ k. 0) 0 (left-sound r sound c cl home h) (left-row r sound c cl c)
+    (λ k _ _. left-row r sound c cl k) (λ k _ _. left-column r sound c cl k) (moved-other r sound c none)

@@ -7,13 +7,14 @@ use store::places::common_at;
 use store::places::common_in;
 ghost use mathlib.Core.Path.{_≡_};
 ghost use mathlib.Core.Bool.{true};
+ghost use mathlib.Core.Option.{none};
 ghost use Prim.Native.Nat.{max, _<_, _≤_};
 ghost use lib.ListN.{length};
 ghost use Rattle.buffer.specs.Field.{putWord, overwrite};
 ghost use Rattle.graph.specs.Graph.{ancestor};
 ghost use Rattle.command.specs.Code.{consoleCount};
 ghost use Rattle.room.specs.Room.{headOf, present, head};
-ghost use Rattle.room.specs.Step.{moved};
+ghost use Rattle.room.specs.Step.{someOtherDescends, moved};
 ghost use Rattle.store.specs.Layout.{headerSize, commonAt, encode, roomIn, holdsStore};
 ghost use Rattle.update.specs.Commons.{putCommon, putOther, putOthers, joinedField};
 
@@ -71,7 +72,7 @@ pub fn join_commons(s: &mut [u8], c: Console, d: Console)
 }
 
 // Clears what console c has in common with each other one.
-pub fn clear_commons(s: &mut [u8], c: Console)
+fn clear_commons(s: &mut [u8], c: Console)
     requires { ⌜ headerSize ≤ length (now s) ⌝ }
     requires { ⌜ c .0 < consoleCount ⌝ }
     ensures { λ _. ⌜ now (s .exit) ≡ putOthers (now (s .entry)) (c .0) (λ k. 0) consoleCount ⌝ }
@@ -101,4 +102,15 @@ pub fn move_console(s: &mut [u8], c: Console, d: Console)
     let field = common_in(s, d, d);
     join_commons(s, c, d);
     put_head(s, c, field);
+}
+
+// Takes console c, which is not console 0, out of the room: a leave.
+pub fn remove_console(s: &mut [u8], c: Console)
+    requires { ⌜ holdsStore (now s) ≡ true ⌝ }
+    requires { ⌜ (c .0 < consoleCount) × (0 < c .0) ⌝ }
+    requires { ⌜ someOtherDescends (roomIn (now s)) (c .0) ≡ true ⌝ }
+    ensures { λ _. ⌜ now (s .exit) ≡ overwrite (encode (moved (roomIn (now (s .entry))) (c .0) none)) (now (s .entry)) ⌝ }
+{
+    clear_commons(s, c);
+    put_head(s, c, Field(0));
 }

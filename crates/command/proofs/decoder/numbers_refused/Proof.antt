@@ -18,10 +18,13 @@ returns-4 : tie.Need-returns-4
 returns-4 c = rw (c .before .enum-told4 .given .1) (c .two-consoles-refused3 .ensures)
 
 returns-5 : tie.Need-returns-5
-returns-5 c = rw (c .enum-told5 .given .1) given-none
+returns-5 c = rw (c .before .enum-told5 .given .1) (c .leave-number-refused .ensures)
+
+returns-6 : tie.Need-returns-6
+returns-6 c = rw (c .enum-told6 .given .1) given-none
 
 pub numbers-refused-spec : {M : Type 1} → statement M
 numbers-refused-spec =
     tie.close
     (tie.spec (λ c. search needs) (λ c κs. tt) (λ c. search needs) (λ c κs. tt) (λ c. search needs) (λ c κs. tt) (λ c. search needs) (λ c κs. tt)
-    (λ c. search needs) returns returns-2 returns-3 returns-4 returns-5)
+    (λ c. search needs) (λ c κs. tt) (λ c. search needs) returns returns-2 returns-3 returns-4 returns-5 returns-6)

@@ -12,7 +12,7 @@ use Rattle.graph.specs.declared.Console.{Console}
 use Rattle.command.specs.Code.{consoleCount}
 use Rattle.command.specs.Decoding.{TwoConsoles, InRange}
 use Rattle.room.specs.Step.{stepRefusal, step}
-use Rattle.room.proofs.Accepted.{MayMove, fork-accepted, forward-accepted, entry-accepted, merge-accepted}
+use Rattle.room.proofs.Accepted.{MayMove, fork-accepted, forward-accepted, entry-accepted, merge-accepted, leave-accepted}
 use Rattle.store.specs.Layout.{roomIn}
 use Rattle.step.proofs.changes.change.Statement.{statement}
 use Rattle.step.proofs.changes.change.Tie as tie
@@ -57,6 +57,13 @@ move-console-requires-2 c κs =
     let accepted = subst (Accepted s) (c .before .before .c4 .given .1) (start .pre .1) in
     (start .pre .0, move-asks s _ _ (accepted .0) (forward-accepted _ _ _ (accepted .1)))
 
+remove-console-requires : tie.Need-remove-console-requires
+remove-console-requires c κs =
+    let start = c .before .before .before .before .before in
+    let s = start .args .s .now in
+    let accepted = subst (Accepted s) (c .before .before .c5 .given .1) (start .pre .1) in
+    (start .pre .0, (accepted .0, leave-accepted _ _ (accepted .1) .1))
+
 returns : tie.Need-returns
 unfolding step
 returns c = rw (c .before .before .before .before .before .c .given .1) (c .before .before .move-console .ensures)
@@ -73,9 +80,13 @@ returns-4 : tie.Need-returns-4
 unfolding step
 returns-4 c = rw (c .before .before .before .before .before .c4 .given .1) (c .before .before .move-console2 .ensures)
 
+returns-5 : tie.Need-returns-5
+unfolding step
+returns-5 c = rw (c .before .before .before .before .before .c5 .given .1) (c .before .before .remove-console .ensures)
+
 pub change-spec : {M : Type 1} → statement M
 change-spec =
     tie.close
     (tie.spec (λ c. search needs) move-console-requires (λ c. search needs) enter-requires (λ c. search needs) merge-requires
-    (λ c. search needs) move-console-requires-2 (λ c. omega arith) returns (λ c. omega arith) returns-2 (λ c. omega arith) returns-3
-    (λ c. omega arith) returns-4)
+    (λ c. search needs) move-console-requires-2 (λ c. search needs) remove-console-requires (λ c. omega arith) returns (λ c. omega arith) returns-2 (λ c. omega arith) returns-3
+    (λ c. omega arith) returns-4 (λ c. omega arith) returns-5)

@@ -31,6 +31,11 @@ forward-refusal-requires c κs =
     let range = subst InRange (c .before .c4 .given .1) (start .pre .1) in
     (start .pre .0, omega (arith, range))
 
+leave-refusal-requires : tie.Need-leave-refusal-requires
+leave-refusal-requires c κs =
+    let start = c .before .before .before .before in
+    (start .pre .0, subst InRange (c .before .c5 .given .1) (start .pre .1) .0)
+
 returns : tie.Need-returns
 unfolding stateTests
 returns c = rw (c .before .before .c .given .1) (c .fork-refusal .ensures)
@@ -47,8 +52,12 @@ returns-4 : tie.Need-returns-4
 unfolding stateTests
 returns-4 c = rw (c .before .before .c4 .given .1) (c .forward-refusal .ensures)
 
+returns-5 : tie.Need-returns-5
+unfolding stateTests
+returns-5 c = rw (c .before .before .c5 .given .1) (c .leave-refusal .ensures)
+
 pub refusal-of-spec : {M : Type 1} → statement M
 refusal-of-spec =
     tie.close
     (tie.spec (λ c. search needs) fork-refusal-requires (λ c. search needs) entry-refusal-requires (λ c. search needs) merge-refusal-requires
-    (λ c. search needs) forward-refusal-requires returns returns-2 returns-3 returns-4)
+    (λ c. search needs) forward-refusal-requires (λ c. search needs) leave-refusal-requires returns returns-2 returns-3 returns-4 returns-5)

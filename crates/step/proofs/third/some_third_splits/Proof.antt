@@ -5,11 +5,11 @@ use mathlib.Core.Path.{_≡_, sym, ap, _∙_}
 use mathlib.Core.Bool.{false}
 use native.Mathlib.Omega.{arith}
 use Rattle.graph.specs.Below.{someBelow}
-use Rattle.graph.proofs.Below.{some-of}
+use Rattle.graph.proofs.Below.{some-of, some-none}
 use Rattle.command.specs.Code.{consoleCount}
 use Rattle.room.specs.Step.{splits}
 use Rattle.store.specs.Layout.{roomIn}
-use Rattle.step.proofs.Thirds.{some-none, some-none-more}
+use Rattle.step.proofs.Thirds.{some-none-more}
 use Rattle.step.proofs.third.some_third_splits.Statement.{statement}
 use Rattle.step.proofs.third.some_third_splits.Tie as tie
 

@@ -1,0 +1,287 @@
+-- A leave is accepted exactly where the console may leave, and then the console is gone: its row and column are cleared, it is absent, and
+-- whoever remains is shown what it was shown.
+-- Assumes nothing.
+use Prim.Native.Nat.{ℕ, _+_, _<_}
+use mathlib.Core.Path.{_≡_, refl, sym, _∙_, ap, subst}
+use mathlib.Core.Bool.{Bool, true, false, cond, not, _&&_, _||_}
+use mathlib.Core.List.{List, [], _∷_}
+use mathlib.Core.Option.{Option, none}
+use mathlib.Core.Logic.{inl, inr}
+use native.Mathlib.Omega.{arith}
+use native.Mathlib.Decide.{decLt}
+use lib.Dec.{eqb}
+use lib.ListN.{length, getD, set, drop, length-set, List·getD-eq-default}
+use lib.Seq.{getD-set-same, getD-set-other}
+use borrow.Author.Tests.{eqb-true, eqb-false, ne-eqb, lt-ltb, not-false}
+use Rattle.laws.proofs.Logic.{clash, decide, refuted, and-i, not-i, or-r, or-split, or-none-l, or-none-r}
+use Rattle.buffer.specs.Field.{word, overwrite}
+use Rattle.board.specs.Board.{stripCount, cellCount}
+use Rattle.graph.specs.declared.Console.{Console}
+use Rattle.graph.specs.Below.{countBelow}
+use Rattle.graph.specs.Graph.{versionCount, ancestor, isEntry}
+use Rattle.graph.proofs.Below.{some-at, some-of}
+use Rattle.graph.proofs.Meet.{meet-self, meet-behind}
+use Rattle.refusal.specs.Refusal.{firstRefusal}
+use Rattle.refusal.proofs.Refusals.{none-applies}
+use Rattle.command.specs.declared.Command.{Command}
+use Rattle.command.specs.declared.Command.the-variants.{Fork, Leave}
+use Rattle.command.specs.declared.Decoded.{Decoded}
+use Rattle.command.specs.declared.Decoded.the-variants.{Whole, Refused}
+use Rattle.command.specs.Code.{consoleCount, forkCommand, leaveCommand, kindOf, shapeOf, operandsOf, numberAt}
+use Rattle.command.specs.Decode.{decode, commandBytes}
+use Rattle.command.specs.Decoding.{InRange}
+use Rattle.command.proofs.Ranges.{whole-told, refused-told, decode-range}
+use Rattle.command.proofs.Encoded.{bytes-decode}
+use Rattle.room.specs.Room.{Room, present, head, common, heardCount}
+use Rattle.room.specs.Origin.{origin}
+use Rattle.room.specs.Step.{otherDescends, someOtherDescends, stateTests, stepRefusal, moved, step}
+use Rattle.room.specs.Sound.{soundRoom}
+use Rattle.room.proofs.Sound.{Sound, present-console, facts-sound}
+use Rattle.room.proofs.Moves.{number, slot-other, left-absent, left-sound}
+use Rattle.room.proofs.Accepted.{fork-free, some-descends, leave-accepted, leave-free}
+use Rattle.room.proofs.Steps.{head-named, common-meet}
+use Rattle.store.specs.Layout.{commonAt, commonField, encode, roomIn, holdsStore}
+use Rattle.store.proofs.RoundTrip.{room-encode, holds-encode}
+use Rattle.store.proofs.Joined.{placed}
+use Rattle.store.proofs.Moved.{left-row, left-column}
+use Rattle.store.proofs.Whole.{whole-sound, whole-front}
+use Rattle.update.specs.Commons.{putOthers, putHead}
+use Rattle.update.proofs.CommonsTable.{Clear, table-length, table-kept}
+use Rattle.update.proofs.MovedStore.{left-store}
+use Rattle.unit.specs.Calls.{Outcome, replied, written, commandTests, stepOutcome, commandOutcome, boardOutcome, heardReply, commonReply, originReply, command}
+use Rattle.unit.specs.Journal.{Journal, afterCommand, afterAccepted, feed}
+use Rattle.unit.specs.Leaving.{leaveOutcome, MayLeave, Absent, inField, inRowOrColumn, Gone, Dropped, ConsolesLeave}
+use Rattle.unit.proofs.Commanded.{held-refused}
+use Rattle.unit.proofs.Answered.{Allowed, pair-answered, pair-told}
+
+-- a command in range on bytes that hold a store, which its room does not refuse
+carried-out : (store : List ℕ) (c : Command) → InRange c → holdsStore store ≡ true → stepRefusal (roomIn store) c ≡ 0
+    → commandOutcome store (commandBytes c) ≡ written 0 0 (encode (step (roomIn store) c)) store
+unfolding commandOutcome stepOutcome
+carried-out store c range held free = rw (bytes-decode c range, held-refused store c held, free)
+
+-- an absent console
+module _ (store : List ℕ) (held : holdsStore store ≡ true) (c : ℕ) (cl : c < consoleCount) (gone : present (roomIn store) c ≡ false) where
+  no-common : (d : ℕ) → d < consoleCount → (commonReply store c d ≡ replied 12 0) × (commonReply store d c ≡ replied 12 0)
+  unfolding commonReply firstRefusal
+  no-common d dl =
+      let late : not (present (roomIn store) d) || true ≡ true = or-r (not (present (roomIn store) d)) true refl in (
+        rw (lt-ltb c consoleCount cl, lt-ltb d consoleCount dl, held, gone),
+        rw (lt-ltb c consoleCount cl, lt-ltb d consoleCount dl, held, gone, late),
+      )
+
+  no-board : (output : List ℕ) → boardOutcome store c output .reply ≡ replied 12 0
+  unfolding boardOutcome firstRefusal
+  no-board output = rw (lt-ltb c consoleCount cl, held, gone)
+
+  no-heard : heardReply store c ≡ replied 12 0
+  unfolding heardReply firstRefusal
+  no-heard = rw (lt-ltb c consoleCount cl, held, gone)
+
+  no-origin : (k cell : ℕ) → k < stripCount → cell < cellCount → originReply store c k cell ≡ replied 12 0
+  unfolding originReply firstRefusal
+  no-origin k cell kl l = rw (lt-ltb c consoleCount cl, lt-ltb k stripCount kl, lt-ltb cell cellCount l, held, gone)
+
+  forkable : (old : ℕ) → present (roomIn store) old ≡ true → commandOutcome store (forkCommand ∷ c ∷ old ∷ []) .reply ≡ replied 0 0
+  unfolding commandBytes
+  forkable old here =
+      let range : InRange (Fork (record { 0 = c }) (record { 0 = old })) = (cl, present-console (roomIn store) old (whole-sound store held .sixteen) here, λ e. clash (rw (sym e) at here) gone) in
+      ap (λ (o : Outcome). o .reply)
+      (carried-out store (Fork (record { 0 = c }) (record { 0 = old })) range held (fork-free (roomIn store) (record { 0 = c }) (record { 0 = old }) gone here))
+
+  pub absent-console : Absent store c
+  absent-console = record { noCommon = no-common; noBoard = no-board; noHeard = no-heard; noOrigin = no-origin; forkable = forkable }
+
+-- what is true where a leave is accepted
+record Accepted (store : List ℕ) (c : ℕ) : Type 0 where
+  range : (c < consoleCount) × (0 < c)
+  held : holdsStore store ≡ true
+  here : present (roomIn store) c ≡ true
+  other : someOtherDescends (roomIn store) c ≡ true
+
+module _ (store : List ℕ) (c : ℕ) where
+  abbrev leaving : Command
+  leaving = Leave (record { 0 = c })
+
+  accepted-is : Accepted store c → leaveOutcome store c ≡ written 0 0 (encode (moved (roomIn store) c none)) store
+  unfolding commandBytes step
+  accepted-is a = carried-out store leaving (a .range) (a .held) (leave-free (roomIn store) (record { 0 = c }) (a .here) (a .other))
+
+  -- a whole command that begins with these bytes is the leave
+  accepted-whole : decode (leaveCommand ∷ c ∷ []) ≡ Whole leaving → stepOutcome store (Whole leaving) .reply .answer ≡ 0 → Accepted store c
+  unfolding stepOutcome stateTests
+  accepted-whole e h =
+      let held = not-false _ (none-applies (commandTests store leaving) refl h .0) in
+      let may = leave-accepted (roomIn store) (record { 0 = c }) (sym (held-refused store leaving held) ∙ h) in
+      record { range = decode-range (leaveCommand ∷ c ∷ []) leaving e; held = held; here = may .0; other = may .1 }
+
+  accepted-told : (d : Decoded) → decode (leaveCommand ∷ c ∷ []) ≡ d → stepOutcome store d .reply .answer ≡ 0 → Accepted store c
+  unfolding stepOutcome kindOf shapeOf operandsOf numberAt
+  accepted-told (Refused n) e h = absurd (omega (arith, refused-told (leaveCommand ∷ c ∷ []) n (sym e)))
+  accepted-told (Whole k) e h =
+      let same : leaving ≡ k = whole-told (leaveCommand ∷ c ∷ []) k e .1 in
+      accepted-whole (e ∙ ap Whole (sym same)) (ap (λ (x : Command). stepOutcome store (Whole x) .reply .answer) same ∙ h)
+
+  accepted : leaveOutcome store c .reply .answer ≡ 0 → Accepted store c
+  unfolding commandOutcome
+  accepted h = accepted-told (decode (leaveCommand ∷ c ∷ [])) refl h
+
+  -- a console whose head is what it has in common with another may leave, and only such a one
+  may-leave : Accepted store c → MayLeave store c
+  may-leave a =
+      let r = roomIn store in
+      let s = whole-sound store (a .held) in
+      let d = some-descends r c (a .other) in
+      let asked : (k : ℕ) → present r k ≡ true → Allowed store c k =
+      λ k p. record { first = a .range .0; second = present-console r k (s .sixteen) p; held = a .held; here = a .here; there = p } in
+      record {
+        notConsole0 = a .range .1;
+        other = d .0;
+        another = d .1 .other;
+        head = head r c;
+        itsHead = pair-answered store c c (asked c (a .here))
+            ∙ ap (replied 0) (common-meet r c c (meet-self (r .versions) (head r c) (head-named r s c (a .here))));
+        inCommon = pair-answered store c (d .0) (asked (d .0) (d .1 .here))
+            ∙ ap (replied 0) (common-meet r c (d .0) (meet-behind (r .versions) (head r c) (head r (d .0)) (d .1 .behind)));
+      }
+
+  may-accept : MayLeave store c → Accepted store c
+  may-accept m =
+      let r = roomIn store in
+      let d = m .other in
+      let own = pair-told store c c (m .head) (m .itsHead) in
+      let two = pair-told store c d (m .head) (m .inCommon) in
+      let here = own .0 .here in
+      let there = two .0 .there in
+      let s = whole-sound store (own .0 .held) in
+      let found = s .meets c d here there in
+      let its : common r c c ≡ head r c = common-meet r c c (meet-self (r .versions) (head r c) (head-named r s c here)) in
+      let same : found .0 ≡ head r c = sym (common-meet r c d (found .1)) ∙ two .1 ∙ sym (own .1) ∙ its in
+      record {
+        range = (own .0 .first, m .notConsole0);
+        held = own .0 .held;
+        here = here;
+        other = some-of consoleCount (otherDescends r c) d (two .0 .second)
+            (and-i _ _ (and-i _ _ there (not-i _ (ne-eqb d c (m .another)))) (rw same at (found .1 .second)));
+      }
+
+outside-field : (c d i : ℕ) → inField c d i ≡ false → (i ≡ commonAt c d → ⊥) × (i ≡ commonAt c d + 1 → ⊥)
+outside-field c d i f = (eqb-false i _ (or-none-l _ _ f), eqb-false i _ (or-none-r (eqb i (commonAt c d)) _ f))
+
+-- the store that an accepted leave gives
+module _ (store : List ℕ) (c : ℕ) (a : Accepted store c) where
+  abbrev r : Room
+  r = roomIn store
+
+  abbrev next : Room
+  next = moved r c none
+
+  abbrev after : List ℕ
+  after = overwrite (encode next) store
+
+  s : Sound r
+  s = whole-sound store (a .held)
+
+  next-sound : soundRoom next ≡ true
+  next-sound = facts-sound next (left-sound r s c (a .range .0) (a .range .1) (a .other))
+
+  after-held : holdsStore after ≡ true
+  after-held = holds-encode next (drop (length (encode next)) store) next-sound
+
+  after-room : roomIn after ≡ next
+  after-room = room-encode next (drop (length (encode next)) store) next-sound
+
+  -- it is the old one with the console's fields cleared
+  cleared : putHead (putOthers store c (λ k. 0) consoleCount) c 0 ≡ after
+  cleared = left-store store (a .held) c (a .range .0) (a .range .1) (a .other)
+
+  field-cleared : (j k i : ℕ) → j < consoleCount → k < consoleCount → commonField next j k ≡ 0 → inField j k i ≡ true → getD after i 0 ≡ 0
+  field-cleared j k i jl kl none-common h =
+      let stands = rw none-common at (placed next (rw after-room at (whole-front after after-held)) .commons j k jl kl) in
+      let at : (n : ℕ) → n < 2 → i ≡ commonAt j k + n → getD after i 0 ≡ getD (word 0) n 0 =
+      λ n l e. ap (λ (m : ℕ). getD after m 0) e ∙ stands .read n l in
+      elim (or-split (eqb i (commonAt j k)) _ h) [
+        | inl e ↦ at 0 (omega arith) (omega (arith, eqb-true i (commonAt j k) e))
+        | inr e ↦ at 1 (omega arith) (eqb-true i (commonAt j k + 1) e)
+      ]
+
+  row-column-cleared : (i : ℕ) → inRowOrColumn c i ≡ true → getD after i 0 ≡ 0
+  row-column-cleared i h =
+      let found = some-at consoleCount (λ d. inField c d i || inField d c i) h in
+      let d = found .0 in
+      elim (or-split (inField c d i) (inField d c i) (found .2)) [
+        | inl e ↦ field-cleared c d i (a .range .0) (found .1) (left-row r s c (a .range .0) d) e
+        | inr e ↦ field-cleared d c i (found .1) (a .range .0) (left-column r s c (a .range .0) d) e
+      ]
+
+  others-kept : (i : ℕ) → inRowOrColumn c i ≡ false → getD after i 0 ≡ getD store i 0
+  others-kept i f =
+      let none-of : (d : ℕ) → d < consoleCount → inField c d i || inField d c i ≡ false =
+      λ d l. refuted _ (λ t. clash (some-of consoleCount (λ d. inField c d i || inField d c i) d l t) f) in
+      ap (λ (t : List ℕ). getD t i 0) (sym cleared)
+      ∙ table-kept store c (λ k. 0) 0 (a .range .0) i
+      (λ d l.
+      let row = outside-field c d i (or-none-l _ _ (none-of d l)) in
+      let column = outside-field d c i (or-none-r (inField c d i) _ (none-of d l)) in
+      (row .0, row .1, column .0, column .1))
+
+  bytes-left : (i : ℕ) → getD after i 0 ≡ cond (inRowOrColumn c i) 0 (getD store i 0)
+  bytes-left i =
+      elim (decide (inRowOrColumn c i))
+      [ inl t ↦ rw t (row-column-cleared i t) | inr f ↦ rw f (others-kept i f) ]
+
+  boards-stay : (d : ℕ) → (d ≡ c → ⊥) → (output : List ℕ) → boardOutcome after d output ≡ boardOutcome store d output
+  unfolding boardOutcome
+  boards-stay d ne output = rw (after-held, after-room, a .held, slot-other r c none d ne .slot)
+
+  same-count : (d : ℕ) → (d ≡ c → ⊥) → heardCount next d ≡ heardCount r d
+  unfolding heardCount
+  same-count d ne =
+      ap (λ (h : ℕ). countBelow (versionCount (r .versions)) (λ v. isEntry (r .versions) v && ancestor (r .versions) v h)) (number (slot-other r c none d ne))
+
+  heard-stays : (d : ℕ) → (d ≡ c → ⊥) → heardReply after d ≡ heardReply store d
+  unfolding heardReply
+  heard-stays d ne = rw (after-held, after-room, a .held, same-count d ne, slot-other r c none d ne .slot)
+
+  commons-stay : (d e : ℕ) → (d ≡ c → ⊥) → (e ≡ c → ⊥) → commonReply after d e ≡ commonReply store d e
+  unfolding commonReply common
+  commons-stay d e dc ec = rw (after-held, after-room, a .held, slot-other r c none d dc .slot, slot-other r c none e ec .slot)
+
+  origins-stay : (d k cell : ℕ) → (d ≡ c → ⊥) → originReply after d k cell ≡ originReply store d k cell
+  unfolding originReply origin
+  origins-stay d k cell ne = rw (after-held, after-room, a .held, slot-other r c none d ne .slot)
+
+  gone : Gone store c after
+  gone = record {
+    sound = after-held;
+    sameLength = ap length (sym cleared) ∙ table-length store c (λ k. 0) 0;
+    bytes = bytes-left;
+    absent = absent-console after after-held c (a .range .0) (rw after-room (left-absent r s c (a .range .0)));
+    boards = boards-stay;
+    heard = heard-stays;
+    commons = commons-stay;
+    origins = origins-stay;
+  }
+
+-- a slot that is emptied, whatever list it is in
+set-none : (xs : List (Option ℕ)) (c : ℕ) → getD (set xs c none) c none ≡ none
+set-none xs c =
+    elim (decLt c (length xs)) [
+      | yes l ↦ getD-set-same xs c none none l
+      | no ge ↦ List·getD-eq-default (set xs c none) none {n = c} (omega (arith, length-set xs c none))
+    ]
+
+dropped : (c : ℕ) → (c < consoleCount) × (0 < c) → (j : Journal) → Dropped j c (feed j (command (leaveCommand ∷ c ∷ [])) 0)
+unfolding feed afterAccepted afterCommand commandBytes
+dropped c range j =
+    rw (bytes-decode (Leave (record { 0 = c })) range)
+    record { noHead = set-none (j .heads) c; heads = λ d ne. getD-set-other (j .heads) c d none none ne; versions = refl }
+
+pub consoles-leave : ConsolesLeave
+consoles-leave store c =
+    record {
+      accepted = λ m. ap (λ (o : Outcome). o .reply) (accepted-is store c (may-accept store c m));
+      allowed = λ h. may-leave store c (accepted store c h);
+      gone = λ h. let a = accepted store c h in rw (accepted-is store c a) (gone store c a);
+      dropped = λ h. dropped c (accepted store c h .range);
+    }
