@@ -60,11 +60,13 @@ extern "C" {
 #define ROOM_ALERT_OFF 0x08    /* console, strip */
 #define ROOM_MERGE 0x09        /* receiver, giver */
 #define ROOM_FAST_FORWARD 0x0A /* receiver, giver */
+#define ROOM_LEAVE 0x0B        /* console */
 
-/* Refusals. Of several that apply, the lowest is given. */
+/* Refusals. Each call below names its own in the order of its tests, and the first that applies is given: that is the lowest, but a command
+   tests 20 right after 6. An ancestor of a version may be the version itself. */
 enum room_refusal {
     ROOM_ACCEPTED = 0,
-    ROOM_NO_COMMAND = 1,          /* empty command, or code outside 01 to 0A */
+    ROOM_NO_COMMAND = 1,          /* empty command, or code outside 01 to 0B */
     ROOM_WRONG_LENGTH = 2,        /* length not the code's */
     ROOM_CONSOLE_TOO_HIGH = 3,    /* console above 15 */
     ROOM_STRIP_TOO_HIGH = 4,      /* strip above 31 */
@@ -82,7 +84,9 @@ enum room_refusal {
     ROOM_NOT_BEHIND = 16,         /* fast-forward: the receiver's head is no ancestor of the giver's */
     ROOM_THIRD_CONSOLE = 17,      /* merge: a third console's common versions with the two are apart */
     ROOM_FULL = 18,               /* no version left */
-    ROOM_BUFFER_TOO_SHORT = 19    /* lent output or store buffer too short */
+    ROOM_BUFFER_TOO_SHORT = 19,   /* lent output or store buffer too short */
+    ROOM_CONSOLE_0_LEAVES = 20,   /* leave: the console is 0, which stays for good */
+    ROOM_BEHIND_NO_OTHER = 21     /* leave: the console's head is an ancestor of no other console's head */
 };
 
 /* 0 or a refusal; and a question's number, or for room_pause and room_board the bytes written, else 0. */
@@ -94,7 +98,7 @@ struct room_reply {
 /* Makes version 0 with console 0 on it, whatever stood in the store. Refusals 8, 19. */
 struct room_reply room_open(uint32_t capacity, uint8_t *store, size_t store_length);
 
-/* Carries out one command. Refusals 1 to 6, 11 to 18. */
+/* Carries out one command. Refusals 1 to 6, 20, 11 to 18, 21. */
 struct room_reply room_command(uint8_t *store, size_t store_length, const uint8_t *command, size_t command_length);
 
 /* Writes the tape of the room; counts its bytes. Refusals 11, 19. */

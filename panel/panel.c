@@ -21,6 +21,7 @@ static const char HELP[] =
     "mark CONSOLE STRIP MARK      and unmark\n"
     "call CONSOLE STRIP           and alert, quiet\n"
     "merge RECEIVER GIVER         and forward\n"
+    "leave CONSOLE                it goes home; its number can be forked again\n"
     "board CONSOLE                the console's strips\n"
     "heads                        where every console stands\n"
     "heard CONSOLE                how many entries it has heard\n"
@@ -49,6 +50,7 @@ static const struct named_command COMMANDS[] = {
     {"quiet", ROOM_ALERT_OFF, 2, 0},
     {"merge", ROOM_MERGE, 2, 0},
     {"forward", ROOM_FAST_FORWARD, 2, 0},
+    {"leave", ROOM_LEAVE, 1, 0},
 };
 
 /* A line that was typed: a word, then a file's name, or up to three numbers and the name of a cell. */

@@ -26,6 +26,8 @@ static const char *const MEANINGS[] = {
     [ROOM_THIRD_CONSOLE] = "a third console's common versions with the two are apart",
     [ROOM_FULL] = "the room is full",
     [ROOM_BUFFER_TOO_SHORT] = "the buffer is too short",
+    [ROOM_CONSOLE_0_LEAVES] = "console 0 never leaves",
+    [ROOM_BEHIND_NO_OTHER] = "no other console has all that this one has: let one take it over first",
 };
 
 const char *refusal_in_words(uint32_t answer)

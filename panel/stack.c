@@ -1,7 +1,7 @@
 /* How much stack each of the unit's calls uses, against what room.h says: each runs in a thread on a painted stack, and what it left is
    counted. Each is the first call of a process of its own, so that what the loader does to find the unit's C functions counts too.
-   Each is made in two rooms, which the measured entry and merge fill: one almost all of entries, one with as many merges as it can have,
-   so that the walk to an origin is a long one over either. */
+   Each is made in two rooms: one almost all of entries, one with as many merges as it can have, so that the walk to an origin is a long one
+   over either. The measured fork makes the last of 16 consoles, and the measured entry and merge the last versions. */
 #define _DEFAULT_SOURCE /* for pthread_attr_setstack and MAP_ANONYMOUS */
 #include <pthread.h>
 #include <stdint.h>
@@ -14,6 +14,8 @@
 #include "room.h"
 
 enum { STACK_BYTES = 1 << 20, PAINT = 0xA5 };
+
+enum { LAST_CONSOLE = ROOM_CONSOLES - 1 };
 
 /* Versions to prepare: all but version 0, an entry before the first merge, and the measured entry and merge. A merge takes two, as
    console 1 needs an entry to give. */
@@ -42,10 +44,15 @@ static void must_be_accepted(struct room_reply reply)
 
 /* ---- the calls, each of them accepted where main makes it ---- */
 
+static struct room_reply carry_out(const uint8_t *bytes, size_t length)
+{
+    return room_command(shared->store, sizeof shared->store, bytes, length);
+}
+
 static struct room_reply command(uint8_t code, uint8_t first, uint8_t second)
 {
     uint8_t bytes[] = {code, first, second};
-    return room_command(shared->store, sizeof shared->store, bytes, sizeof bytes);
+    return carry_out(bytes, sizeof bytes);
 }
 
 static struct room_reply open_room(void)
@@ -53,9 +60,9 @@ static struct room_reply open_room(void)
     return room_open(ROOM_MAX_CAPACITY, shared->store, sizeof shared->store);
 }
 
-static struct room_reply fork_2_off_1(void)
+static struct room_reply fork_last_off_1(void)
 {
-    return command(ROOM_FORK, 2, 1);
+    return command(ROOM_FORK, LAST_CONSOLE, 1);
 }
 
 static struct room_reply enter_on_0(void)
@@ -76,6 +83,13 @@ static struct room_reply merge_1_into_0(void)
 static struct room_reply forward_1_to_0(void)
 {
     return command(ROOM_FAST_FORWARD, 1, 0);
+}
+
+/* Its head is where console 1 was at the fork, and 0 has merged that. */
+static struct room_reply leave_by_last(void)
+{
+    uint8_t bytes[] = {ROOM_LEAVE, LAST_CONSOLE};
+    return carry_out(bytes, sizeof bytes);
 }
 
 static struct room_reply pause_room(void)
@@ -172,12 +186,13 @@ struct room {
     int merges;
 };
 
-/* The room's merges, one upon the other, and entries of console 0 on top of them. */
+/* Every console but the last, the room's merges, one upon the other, and entries of console 0 on top of them. */
 static void prepare(void *wanted)
 {
     const struct room *room = wanted;
     must_be_accepted(open_room());
-    must_be_accepted(command(ROOM_FORK, 1, 0));
+    for (int console = 1; console < LAST_CONSOLE; console++)
+        must_be_accepted(command(ROOM_FORK, (uint8_t)console, 0));
     must_be_accepted(enter_on_0());
     for (int i = 0; i < room->merges; i++) {
         must_be_accepted(enter_on_1());
@@ -204,7 +219,7 @@ static void run_apart(void (*part)(void *), void *what)
 int main(void)
 {
     struct measured measured[] = {
-        {"a fork", fork_2_off_1, ROOM_STACK},
+        {"a fork", fork_last_off_1, ROOM_STACK},
         {"an entry", enter_on_1, ROOM_STACK},
         {"a merge", merge_1_into_0, ROOM_STACK},
         {"a fast-forward", forward_1_to_0, ROOM_STACK},
@@ -213,6 +228,7 @@ int main(void)
         {"heard", ask_heard_by_0, ROOM_STACK},
         {"common", ask_common_of_0_and_1, ROOM_STACK},
         {"origin", ask_origin_for_0, ROOM_ORIGIN_STACK},
+        {"a leave", leave_by_last, ROOM_STACK},
         {"resume", resume_room, ROOM_RESUME_STACK},
         {"open", open_room, ROOM_STACK},
     };
