@@ -1,68 +1,20 @@
 // The comparison of an implementation of the calls with the model, call by call: every reply, and every byte of every
-// lent buffer and of guard bytes around it. The cases come from one seed, so that a difference can be met again.
+// lent buffer and of guard bytes around it; and in sessions in which consoles come and go, with the book of demand 3. The cases come
+// from one seed, so that a difference can be met again.
 
-use crate::calls::{self, Reply};
+use crate::book::Book;
+use crate::calls::Reply;
+use crate::gen;
+use crate::implementations::{Calls, MODEL};
 use crate::layout::{self, store_bytes, BOARD_BYTES};
 use crate::model::{
     code, decode, record, refusal, room_of_tape, step, tape_of, Room, CONSOLES, STRIPS,
 };
 use crate::rng::Rng;
-use crate::{fast, gen, unit};
 use std::fmt;
 use std::iter::repeat_n;
+use std::mem::take;
 use std::ops::AddAssign;
-
-// ---------------------------------------------------------------- implementations
-
-/// One implementation of the calls.
-#[derive(Clone, Copy)]
-pub struct Calls {
-    pub name: &'static str,
-    pub open: fn(u32, &mut [u8]) -> Reply,
-    pub command: fn(&mut [u8], &[u8]) -> Reply,
-    pub pause: fn(&[u8], &mut [u8]) -> Reply,
-    pub resume: fn(&[u8], &mut [u8]) -> Reply,
-    pub board: fn(&[u8], u32, &mut [u8]) -> Reply,
-    pub heard: fn(&[u8], u32) -> Reply,
-    pub common: fn(&[u8], u32, u32) -> Reply,
-    pub origin: fn(&[u8], u32, u32, u32) -> Reply,
-}
-
-pub const MODEL: Calls = Calls {
-    name: "model",
-    open: calls::open,
-    command: calls::command,
-    pause: calls::pause,
-    resume: calls::resume,
-    board: calls::board,
-    heard: calls::heard,
-    common: calls::common,
-    origin: calls::origin,
-};
-
-pub const FAST: Calls = Calls {
-    name: "fast",
-    open: fast::open,
-    command: fast::command,
-    pause: fast::pause,
-    resume: fast::resume,
-    board: fast::board,
-    heard: fast::heard,
-    common: fast::common,
-    origin: fast::origin,
-};
-
-pub const UNIT: Calls = Calls {
-    name: "unit",
-    open: unit::open,
-    command: unit::command,
-    pause: unit::pause,
-    resume: unit::resume,
-    board: unit::board,
-    heard: unit::heard,
-    common: unit::common,
-    origin: unit::origin,
-};
 
 // ---------------------------------------------------------------- lent buffers
 
@@ -190,12 +142,12 @@ pub enum Call {
     Origin { console: u32, strip: u32, cell: u32 },
 }
 
-/// The calls, each with the answers that include/room.h lists for it.
+/// The calls, each with the answers that include/room.h lists for it, in the order of the tests.
 const LISTED: [(&str, &[usize]); 8] = [
     ("open", &[0, 8, 19]),
     (
         "command",
-        &[0, 1, 2, 3, 4, 5, 6, 11, 12, 13, 14, 15, 16, 17, 18],
+        &[0, 1, 2, 3, 4, 5, 6, 20, 11, 12, 13, 14, 15, 16, 17, 18, 21],
     ),
     ("pause", &[0, 11, 19]),
     ("resume", &[0, 7, 8, 9, 10, 19]),
@@ -241,19 +193,37 @@ impl Call {
 /// The first difference, told in words.
 pub type Outcome<T> = Result<T, String>;
 
-const HIGHEST_REFUSAL: usize = refusal::BUFFER_TOO_SHORT as usize;
+const HIGHEST_REFUSAL: usize = refusal::NO_OTHER_HEAD_DESCENDS as usize;
 
 /// The cells of a question for an origin: level and heading.
 const CELLS: [u32; 2] = [0, 1];
 
-/// The two kinds of an accepted origin: count 0, and a count above 0.
-const ORIGINS: [&str; 2] = ["origin of no entry", "origin of an entry"];
+/// What is counted beside the answers.
+#[derive(Clone, Copy)]
+enum Figure {
+    OriginOfNoEntry,
+    OriginOfAnEntry,
+    Leave,
+    ForkedAgain,
+    ResumedAfterLeave,
+    HeardTheSame,
+}
 
-/// How often each call gave each answer, and how often an accepted origin was of each kind.
+/// The figures in this order, each with the least that a run must have of it for each of its rounds.
+const FIGURES: [(&str, u64); 6] = [
+    ("origins of no entry", 1),
+    ("origins of an entry", 1),
+    ("leaves accepted", 100),
+    ("numbers forked again after a leave", 60),
+    ("rooms resumed after a leave", 40),
+    ("pairs of consoles that heard the same", 300),
+];
+
+/// How often each call gave each answer, and the figures.
 #[derive(Clone, Default)]
 pub struct Tally {
     answers: [[u64; HIGHEST_REFUSAL + 1]; LISTED.len()],
-    origins: [u64; ORIGINS.len()],
+    figures: [u64; FIGURES.len()],
 }
 
 impl Tally {
@@ -261,8 +231,17 @@ impl Tally {
     fn note(&mut self, call: Call, reply: Reply) {
         self.answers[call.place()][reply.answer as usize] += 1;
         if matches!(call, Call::Origin { .. }) && reply.answer == 0 {
-            self.origins[usize::from(reply.count > 0)] += 1;
+            let figure = if reply.count == 0 {
+                Figure::OriginOfNoEntry
+            } else {
+                Figure::OriginOfAnEntry
+            };
+            self.count(figure, 1);
         }
+    }
+
+    fn count(&mut self, figure: Figure, more: usize) {
+        self.figures[figure as usize] += more as u64;
     }
 
     pub fn calls(&self) -> u64 {
@@ -286,30 +265,33 @@ impl Tally {
         self.pairs().filter(|&(_, _, met)| met > 0).count()
     }
 
-    /// The kinds of accepted origins, and how often each was met.
-    fn origins(&self) -> impl Iterator<Item = (&'static str, u64)> {
-        ORIGINS.into_iter().zip(self.origins)
+    /// The figures: what, how often it was met, and how often a round must meet it.
+    fn figures(&self) -> impl Iterator<Item = (&'static str, u64, u64)> {
+        let named = FIGURES.into_iter().zip(self.figures);
+        named.map(|((name, least), met)| (name, met, least))
     }
 
-    /// The listed pairs and the kinds of origins that were never met.
-    fn missing(&self) -> Vec<String> {
+    /// The listed pairs that were never met, and the figures that are too low for so many rounds.
+    fn missing(&self, rounds: usize) -> Vec<String> {
         let pairs = self
             .pairs()
-            .map(|(name, answer, met)| (format!("{name} {answer}"), met));
-        let origins = self.origins().map(|(kind, met)| (kind.to_string(), met));
+            .map(|(name, answer, met)| (format!("{name} {answer}"), met, 1));
+        let figures = self
+            .figures()
+            .map(|(name, met, least)| (name.to_string(), met, least * rounds as u64));
         pairs
-            .chain(origins)
-            .filter(|&(_, met)| met == 0)
-            .map(|(never_met, _)| never_met)
+            .chain(figures)
+            .filter(|&(_, met, least)| met < least)
+            .map(|(what, met, least)| format!("{what}: {met} of {least}"))
             .collect()
     }
 }
 
 impl AddAssign<&Tally> for Tally {
     fn add_assign(&mut self, other: &Tally) {
-        let others = other.answers.as_flattened().iter().chain(&other.origins);
+        let others = other.answers.as_flattened().iter().chain(&other.figures);
         let answers = self.answers.as_flattened_mut().iter_mut();
-        let sums = answers.chain(&mut self.origins);
+        let sums = answers.chain(&mut self.figures);
         sums.zip(others).for_each(|(sum, other)| *sum += other);
     }
 }
@@ -321,8 +303,8 @@ impl fmt::Display for Tally {
             let met = self.answers.map(|answers| answers[answer]);
             write_row(out, answer, met, self.of_answer(answer))
         })?;
-        self.origins()
-            .try_for_each(|(kind, met)| writeln!(out, "{kind}: {met}"))
+        self.figures()
+            .try_for_each(|(name, met, _)| writeln!(out, "{name}: {met}"))
     }
 }
 
@@ -539,17 +521,62 @@ fn some_origin(rng: &mut Rng) -> Call {
 
 // ---------------------------------------------------------------- sessions
 
-/// A running room: its buffers, and the room that the model's rules give, from which commands are chosen.
+/// A running room: its buffers, the room that the model's rules give, from which commands are chosen, the book of its calls, and which
+/// consoles have left and not come back.
 struct Session<'a> {
     comparison: &'a mut Comparison,
     rng: Rng,
     pair: Pair,
     room: Room,
+    book: Book,
+    has_left: [bool; CONSOLES],
 }
 
+/// The steps of a session with turnover from one look at the book to the next.
+const STEPS_TO_THE_BOOK: usize = 30;
+
 impl Session<'_> {
+    fn new<'a>(
+        comparison: &'a mut Comparison,
+        rng: &mut Rng,
+        pair: Pair,
+        room: Room,
+        book: Book,
+    ) -> Session<'a> {
+        Session {
+            comparison,
+            rng: Rng::new(rng.number()),
+            pair,
+            room,
+            book,
+            has_left: [false; CONSOLES],
+        }
+    }
+
     fn run(&mut self, steps: usize) -> Outcome<()> {
         (0..steps).try_for_each(|_| self.step())
+    }
+
+    /// Steps in most of which consoles come and go; now and then the store is compared with the book.
+    fn run_turnover(&mut self, steps: usize) -> Outcome<()> {
+        for step in 0..steps {
+            self.turnover_step(step)?;
+            if (step + 1) % STEPS_TO_THE_BOOK == 0 {
+                self.check_book()?;
+            }
+        }
+        Ok(())
+    }
+
+    fn turnover_step(&mut self, step: usize) -> Outcome<()> {
+        match self.rng.below(100) {
+            0..=79 => {
+                let bytes = gen::turnover_command(&mut self.rng, &self.room, step);
+                self.command(&bytes)
+            }
+            80..=85 => self.come_back(),
+            _ => self.step(),
+        }
     }
 
     fn step(&mut self) -> Outcome<()> {
@@ -576,7 +603,36 @@ impl Session<'_> {
         if reply.answer == 0 {
             let next = decode(bytes).and_then(|command| step(&self.room, &command));
             self.room = next.map_err(|refusal| format!("the model accepted {refusal}"))?;
+            self.book.note(bytes);
+            self.note_turnover(bytes);
         }
+        Ok(())
+    }
+
+    /// Counts an accepted leave, and an accepted fork of a number that has left before.
+    fn note_turnover(&mut self, command: &[u8]) {
+        let tally = &mut self.comparison.tally;
+        match *command {
+            [code::LEAVE, console] => {
+                self.has_left[usize::from(console)] = true;
+                tally.count(Figure::Leave, 1);
+            }
+            [code::FORK, new, _] => {
+                let is_back = take(&mut self.has_left[usize::from(new)]);
+                tally.count(Figure::ForkedAgain, is_back.into());
+            }
+            _ => {}
+        }
+    }
+
+    /// Compares what the implementation under test says of its store with the book.
+    fn check_book(&mut self) -> Outcome<()> {
+        let (tested, store) = (self.comparison.tested, self.pair.tested.store.lent());
+        let alike = self.book.check(&tested, store).map_err(|difference| {
+            let round = &self.comparison.round;
+            format!("book and {}, {round}: {difference}", tested.name)
+        })?;
+        self.comparison.tally.count(Figure::HeardTheSame, alike);
         Ok(())
     }
 
@@ -621,6 +677,10 @@ impl Session<'_> {
             self.pair = Pair::of_store(&damaged);
         }
         self.comparison.resume(&mut self.pair, &tape)?;
+        self.book = Book::of_tape(&tape);
+        let has_one_left = self.has_left.contains(&true);
+        let tally = &mut self.comparison.tally;
+        tally.count(Figure::ResumedAfterLeave, has_one_left.into());
         Ok(())
     }
 
@@ -656,41 +716,30 @@ fn store_length(rng: &mut Rng, capacity: usize) -> usize {
     store_bytes(capacity) + rng.pick(&longer).unwrap_or(0)
 }
 
-/// A session of so many steps from opening on.
-fn session_from_opening(
-    comparison: &mut Comparison,
+/// A session from opening on.
+fn opened_session<'a>(
+    comparison: &'a mut Comparison,
     rng: &mut Rng,
     capacity: usize,
-    steps: usize,
-) -> Outcome<()> {
+) -> Outcome<Session<'a>> {
     let length = store_length(rng, capacity);
     let pair = comparison.opened(rng, capacity as u32, length)?;
-    let mut session = Session {
-        comparison,
-        rng: Rng::new(rng.number()),
-        pair,
-        room: Room::opened(capacity),
-    };
-    session.run(steps)
+    let (room, book) = (Room::opened(capacity), Book::opened());
+    Ok(Session::new(comparison, rng, pair, room, book))
 }
 
-/// A session of so many steps that goes on from a room's tape.
-fn session_from_room(
-    comparison: &mut Comparison,
+/// A session that goes on from a room's tape.
+fn resumed_session<'a>(
+    comparison: &'a mut Comparison,
     rng: &mut Rng,
     room: Room,
-    steps: usize,
-) -> Outcome<()> {
+) -> Outcome<Session<'a>> {
     let length = store_length(rng, room.capacity);
     let mut pair = Pair::of_store(&bytes_of_length(rng, length));
-    comparison.resume(&mut pair, &tape_of(&room))?;
-    let mut session = Session {
-        comparison,
-        rng: Rng::new(rng.number()),
-        pair,
-        room,
-    };
-    session.run(steps)
+    let tape = tape_of(&room);
+    comparison.resume(&mut pair, &tape)?;
+    let book = Book::of_tape(&tape);
+    Ok(Session::new(comparison, rng, pair, room, book))
 }
 
 // ---------------------------------------------------------------- tapes, stores, garbage, numbers
@@ -789,7 +838,7 @@ const EDGE_OPERANDS: [u16; 11] = [0, 1, 15, 16, 255, 256, 360, 361, 600, 601, 0x
 /// Codes, strips and operands at and beyond the ends of their ranges, as commands and on tapes.
 fn compare_edges(comparison: &mut Comparison, rng: &mut Rng) -> Outcome<()> {
     let opened = comparison.opened(rng, 3, store_bytes(3))?;
-    let codes: Vec<u8> = (0..=0x0B).collect();
+    let codes: Vec<u8> = (0..=0x0C).collect();
     for (code, strip) in pairs(&codes, &EDGE_STRIPS) {
         compare_edge_commands(comparison, &opened, code, strip)?;
         compare_edge_records(comparison, &opened, code, strip)?;
@@ -804,7 +853,7 @@ fn compare_edge_commands(
     strip: u8,
 ) -> Outcome<()> {
     let operands = pairs(&EDGE_OPERANDS, &[0, 15, 16]);
-    for ((operand, console), length) in pairs(&operands, &[5, 4, 3]) {
+    for ((operand, console), length) in pairs(&operands, &[5, 4, 3, 2]) {
         let [high, low] = operand.to_be_bytes();
         let command = [code, console, strip, high, low];
         comparison.command(&mut opened.clone(), &command[..length])?;
@@ -1028,18 +1077,21 @@ fn compare_paper_rooms(comparison: &mut Comparison, rng: &mut Rng) -> Outcome<()
     for (capacity, commands) in PAPER_ROOMS {
         let mut pair = comparison.opened(rng, capacity, store_bytes(capacity as usize))?;
         comparison.commands(&mut pair, commands)?;
-        compare_joinings(comparison, &pair)?;
+        compare_next_commands(comparison, &pair)?;
         comparison.all_calls(rng, &mut pair)?;
     }
     Ok(())
 }
 
-/// Every fork, merge and fast-forward of two of the first five consoles.
-fn compare_joinings(comparison: &mut Comparison, pair: &Pair) -> Outcome<()> {
-    let consoles = pairs(&[0, 1, 2, 3, 4], &[0, 1, 2, 3, 4]);
+/// Every fork, merge and fast-forward of two of the first five consoles, and each of them leaving.
+fn compare_next_commands(comparison: &mut Comparison, pair: &Pair) -> Outcome<()> {
+    let consoles = [0, 1, 2, 3, 4];
     let codes = [code::FORK, code::MERGE, code::FAST_FORWARD];
-    for ((first, second), code) in pairs(&consoles, &codes) {
+    for ((first, second), code) in pairs(&pairs(&consoles, &consoles), &codes) {
         comparison.command(&mut pair.clone(), &[code, first, second])?;
+    }
+    for console in consoles {
+        comparison.command(&mut pair.clone(), &[code::LEAVE, console])?;
     }
     Ok(())
 }
@@ -1065,8 +1117,8 @@ pub struct Effort {
     pub steps_at_1024: usize,
 }
 
-/// Compares the implementation with the model on all cases of the seed; each call gives each answer listed for it, and origins are of
-/// both kinds, or the run has failed.
+/// Compares the implementation with the model on all cases of the seed; each call gives each answer listed for it, and no figure is
+/// too low, or the run has failed.
 pub fn compare(tested: Calls, seed: u64, effort: Effort) -> Outcome<Tally> {
     let mut tally = Tally::default();
     for round in 0..effort.rounds {
@@ -1080,11 +1132,9 @@ pub fn compare(tested: Calls, seed: u64, effort: Effort) -> Outcome<Tally> {
     fixed_cases(&mut comparison, rng)?;
     large_sessions(&mut comparison, rng, effort.steps_at_1024)?;
     tally += &comparison.tally;
-    match tally.missing()[..] {
+    match tally.missing(effort.rounds)[..] {
         [] => Ok(tally),
-        ref missing => Err(format!(
-            "seed {seed}: answers and origins never met: {missing:?}"
-        )),
+        ref missing => Err(format!("seed {seed}: met too rarely: {missing:?}")),
     }
 }
 
@@ -1097,8 +1147,13 @@ const SMALL_SESSIONS: [(usize, usize, usize); 5] = [
     (64, 8, 250),
 ];
 
+/// Capacities of the sessions in which consoles come and go, one of each in a round, and their steps. The first room is soon full: then
+/// consoles still fork, fast-forward and leave.
+const TURNOVER_SESSIONS: [(usize, usize); 2] = [(12, 240), (96, 640)];
+
 fn small_round(comparison: &mut Comparison, rng: &mut Rng) -> Outcome<()> {
     small_sessions(comparison, rng)?;
+    turnover_sessions(comparison, rng)?;
     sessions_from_full_rooms(comparison, rng, 16)?;
     sessions_from_full_rooms(comparison, rng, 64)?;
     compare_garbage(comparison, rng, 250)?;
@@ -1118,7 +1173,14 @@ fn small_sessions(comparison: &mut Comparison, rng: &mut Rng) -> Outcome<()> {
         .into_iter()
         .flat_map(|(capacity, sessions, steps)| repeat_n((capacity, steps), sessions));
     for (capacity, steps) in all {
-        session_from_opening(comparison, rng, capacity, steps)?;
+        opened_session(comparison, rng, capacity)?.run(steps)?;
+    }
+    Ok(())
+}
+
+fn turnover_sessions(comparison: &mut Comparison, rng: &mut Rng) -> Outcome<()> {
+    for (capacity, steps) in TURNOVER_SESSIONS {
+        opened_session(comparison, rng, capacity)?.run_turnover(steps)?;
     }
     Ok(())
 }
@@ -1129,9 +1191,9 @@ fn sessions_from_full_rooms(
     capacity: usize,
 ) -> Outcome<()> {
     let entries = gen::full_of_entries(rng, capacity);
-    session_from_room(comparison, rng, entries, 40)?;
+    resumed_session(comparison, rng, entries)?.run(40)?;
     let merges = gen::full_of_merges(rng, capacity);
-    session_from_room(comparison, rng, merges, 40)
+    resumed_session(comparison, rng, merges)?.run(40)
 }
 
 /// The cases that are the same, or nearly so, for every seed.
@@ -1146,7 +1208,9 @@ fn fixed_cases(comparison: &mut Comparison, rng: &mut Rng) -> Outcome<()> {
 }
 
 fn large_sessions(comparison: &mut Comparison, rng: &mut Rng, steps: usize) -> Outcome<()> {
-    session_from_opening(comparison, rng, 1024, steps / 2)?;
+    let mut opened = opened_session(comparison, rng, 1024)?;
+    opened.run(steps / 4)?;
+    opened.run_turnover(steps / 4)?;
     for (kind, count) in [(0, 900), (1, 900), (0, 1010), (1, 1010)] {
         let mut room = if kind == 0 {
             gen::full_of_entries(rng, count)
@@ -1154,7 +1218,7 @@ fn large_sessions(comparison: &mut Comparison, rng: &mut Rng, steps: usize) -> O
             gen::full_of_merges(rng, count)
         };
         room.capacity = 1024;
-        session_from_room(comparison, rng, room, steps / 8)?;
+        resumed_session(comparison, rng, room)?.run(steps / 8)?;
     }
     Ok(())
 }

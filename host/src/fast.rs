@@ -562,6 +562,7 @@ enum Command {
     Entry { console: usize, entry: Entry },
     Merge { receiver: usize, giver: usize },
     FastForward { receiver: usize, giver: usize },
+    Leave { console: usize },
 }
 
 fn decode(bytes: &[u8]) -> Result<Command, u32> {
@@ -574,7 +575,8 @@ fn decode(bytes: &[u8]) -> Result<Command, u32> {
             decode_entry(console, code, strip, mark.into())
         }
         [code @ (0x06..=0x08), console, strip] => decode_entry(console, code, strip, 0),
-        [0x01..=0x0A, ..] => Err(refusal::WRONG_LENGTH),
+        [0x0B, console] => decode_leave(console),
+        [0x01..=0x0B, ..] => Err(refusal::WRONG_LENGTH),
         _ => Err(refusal::NO_SUCH_COMMAND),
     }
 }
@@ -617,6 +619,14 @@ fn decode_entry(console: u8, code: u8, strip: u8, operand: u16) -> Result<Comman
     })
 }
 
+fn decode_leave(console: u8) -> Result<Command, u32> {
+    refuse_high_console(console.into())?;
+    refuse_if(console == 0, refusal::CONSOLE_0_LEAVES)?;
+    Ok(Command::Leave {
+        console: console.into(),
+    })
+}
+
 fn obey(store: &mut [u8], command: &[u8]) -> Result<usize, u32> {
     let decoded = decode(command)?;
     let (header, blocks) = sound_parts_mut(store)?;
@@ -625,6 +635,7 @@ fn obey(store: &mut [u8], command: &[u8]) -> Result<usize, u32> {
         Command::Entry { console, entry } => enter(header, blocks, console, entry),
         Command::Merge { receiver, giver } => merge(header, blocks, receiver, giver),
         Command::FastForward { receiver, giver } => fast_forward(header, blocks, receiver, giver),
+        Command::Leave { console } => leave(header, console),
     }?;
     Ok(0)
 }
@@ -665,6 +676,21 @@ fn follow(header: &mut Header, console: usize, leader: usize) {
     let head = common_field(header, leader, leader);
     put_common_field(header, console, leader, head);
     put_common_field(header, console, console, head);
+}
+
+/// Another head descends from the console's exactly where that head is their common version, so its row of the table tells.
+fn leave(header: &mut Header, console: usize) -> Result<(), u32> {
+    let head = head_of(header, console)?;
+    let is_behind =
+        |other: usize| other != console && common_field(header, console, other) == head + 1;
+    refuse_if(
+        !(0..CONSOLES).any(is_behind),
+        refusal::NO_OTHER_HEAD_DESCENDS,
+    )?;
+    for other in 0..CONSOLES {
+        put_common_field(header, console, other, 0);
+    }
+    Ok(())
 }
 
 fn enter(

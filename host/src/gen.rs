@@ -6,7 +6,7 @@ use crate::model::{
     HIGHEST_HEADING, HIGHEST_LEVEL, MARKS, STRIPS,
 };
 use crate::rng::Rng;
-use std::iter::{once, repeat};
+use std::iter::{once, repeat, repeat_with};
 
 // ---------------------------------------------------------------- single commands
 
@@ -80,16 +80,15 @@ fn fork_command(rng: &mut Rng, room: &Room) -> Vec<u8> {
     }
 }
 
-/// A merge or fast-forward of two present consoles: the first accepted one of a few tries, else the last tried; an entry where there
-/// are no two.
-fn joining_command(rng: &mut Rng, room: &Room, joining_code: u8) -> Vec<u8> {
+/// The first of these commands that is accepted, else the last of them; an entry where there are none.
+fn first_accepted(
+    rng: &mut Rng,
+    room: &Room,
+    commands: impl IntoIterator<Item = Vec<u8>>,
+) -> Vec<u8> {
     let mut bytes = entry_anywhere(rng, room);
-    for _ in 0..12 {
-        let consoles = rng.shuffled(&room.present());
-        let [receiver, giver, ..] = consoles[..] else {
-            break;
-        };
-        bytes = vec![joining_code, receiver as u8, giver as u8];
+    for command in commands {
+        bytes = command;
         if after(room, &bytes).is_some() {
             break;
         }
@@ -97,12 +96,50 @@ fn joining_command(rng: &mut Rng, room: &Room, joining_code: u8) -> Vec<u8> {
     bytes
 }
 
+/// A merge or fast-forward of two present consoles, an accepted one if a few tries meet one.
+fn joining_command(rng: &mut Rng, room: &Room, joining_code: u8) -> Vec<u8> {
+    let present = room.present();
+    let tries: Vec<Vec<u8>> = repeat_with(|| rng.shuffled(&present))
+        .take(12)
+        .filter_map(|consoles| match consoles[..] {
+            [receiver, giver, ..] => Some(vec![joining_code, receiver as u8, giver as u8]),
+            _ => None,
+        })
+        .collect();
+    first_accepted(rng, room, tries)
+}
+
+/// A leave of a console other than 0, an accepted one if there is one.
+fn leave_command(rng: &mut Rng, room: &Room) -> Vec<u8> {
+    let present = rng.shuffled(&room.present());
+    let students = present.into_iter().filter(|&console| console != 0);
+    let leaves = students.map(|console| vec![code::LEAVE, console as u8]);
+    first_accepted(rng, room, leaves)
+}
+
 /// A command that is likely to be accepted in this room.
 pub fn likely_command(rng: &mut Rng, room: &Room) -> Vec<u8> {
     match rng.below(100) {
         0..=14 => fork_command(rng, room),
-        15..=59 => entry_anywhere(rng, room),
+        15..=19 => leave_command(rng, room),
+        20..=59 => entry_anywhere(rng, room),
         60..=84 => joining_command(rng, room, code::MERGE),
+        _ => joining_command(rng, room, code::FAST_FORWARD),
+    }
+}
+
+/// For so many steps consoles come to a room, and for as many they go.
+const TIDE: usize = 40;
+
+/// A command for this step of a room to which consoles come and from which they go; meanwhile they enter, merge and fast-forward, with
+/// so few new versions that the room lasts for long.
+pub fn turnover_command(rng: &mut Rng, room: &Room, step: usize) -> Vec<u8> {
+    let is_ebb = step / TIDE % 2 == 1;
+    match rng.below(100) {
+        0..=49 if is_ebb => leave_command(rng, room),
+        0..=49 => fork_command(rng, room),
+        50..=59 => entry_anywhere(rng, room),
+        60..=74 => joining_command(rng, room, code::MERGE),
         _ => joining_command(rng, room, code::FAST_FORWARD),
     }
 }
@@ -111,9 +148,11 @@ pub fn likely_command(rng: &mut Rng, room: &Room) -> Vec<u8> {
 pub fn any_command(rng: &mut Rng) -> Vec<u8> {
     let (first, second) = (near(rng, CONSOLES), near(rng, CONSOLES));
     let joining_code = rng.pick(&[code::FORK, code::MERGE, code::FAST_FORWARD]);
+    let leaving = rng.pick(&[0, first]);
     let mut bytes = match rng.below(100) {
         0..=9 => (0..rng.below(8)).map(|_| rng.byte()).collect(),
         10..=54 => entry_command(rng, first),
+        55..=64 => vec![code::LEAVE, leaving.unwrap_or(0) as u8],
         _ => vec![joining_code.unwrap_or(0), first as u8, second as u8],
     };
     if rng.chance(30) {
@@ -163,11 +202,26 @@ pub fn command_sequence(rng: &mut Rng, capacity: usize, length: usize) -> (Vec<V
 }
 
 /// The same from any room on.
-pub fn commands_from(rng: &mut Rng, mut room: Room, length: usize) -> (Vec<Vec<u8>>, Room) {
+pub fn commands_from(rng: &mut Rng, room: Room, length: usize) -> (Vec<Vec<u8>>, Room) {
+    chosen_commands(rng, room, length, |rng, room, _| likely_command(rng, room))
+}
+
+/// The same, with consoles that come and go.
+pub fn turnover_from(rng: &mut Rng, room: Room, length: usize) -> (Vec<Vec<u8>>, Room) {
+    chosen_commands(rng, room, length, turnover_command)
+}
+
+/// So many commands from a room on, most of them chosen by the room and the step, and the room they lead to.
+fn chosen_commands(
+    rng: &mut Rng,
+    mut room: Room,
+    length: usize,
+    choose: impl Fn(&mut Rng, &Room, usize) -> Vec<u8>,
+) -> (Vec<Vec<u8>>, Room) {
     let mut commands = Vec::new();
-    for _ in 0..length {
+    for step in 0..length {
         let bytes = if rng.chance(90) {
-            likely_command(rng, &room)
+            choose(rng, &room, step)
         } else {
             any_command(rng)
         };

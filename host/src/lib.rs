@@ -1,10 +1,12 @@
 // The test host: an independent model of the room unit, its bytes, its calls, generators of cases, a fast second implementation,
-// the wrapper of the unit itself, and the comparison of both, and of the session program, with the model.
+// the wrapper of the unit itself, the comparison of both, and of the session program, with the model, and the book of demand 3.
 
+pub mod book;
 pub mod calls;
 pub mod compare;
 pub mod fast;
 pub mod gen;
+pub mod implementations;
 pub mod layout;
 pub mod model;
 pub mod rng;

@@ -23,6 +23,7 @@ pub mod code {
     pub const ALERT_OFF: u8 = 0x08;
     pub const MERGE: u8 = 0x09;
     pub const FAST_FORWARD: u8 = 0x0A;
+    pub const LEAVE: u8 = 0x0B;
 }
 
 /// The code bytes of tape records.
@@ -55,6 +56,8 @@ pub mod refusal {
     pub const COMMONS_APART: u32 = 17;
     pub const NO_VERSION_LEFT: u32 = 18;
     pub const BUFFER_TOO_SHORT: u32 = 19;
+    pub const CONSOLE_0_LEAVES: u32 = 20;
+    pub const NO_OTHER_HEAD_DESCENDS: u32 = 21;
 }
 
 /// The refusal where the condition holds; a `?` behind it ends the caller.
@@ -567,9 +570,12 @@ pub enum Command {
         receiver: usize,
         giver: usize,
     },
+    Leave {
+        console: usize,
+    },
 }
 
-/// The length of a command, which its code alone decides; nothing for a code outside 01 to 0A.
+/// The length of a command, which its code alone decides; nothing for a code outside 01 to 0B.
 pub fn command_length(command_code: u8) -> Option<usize> {
     match command_code {
         code::FORK => Some(3),
@@ -577,11 +583,12 @@ pub fn command_length(command_code: u8) -> Option<usize> {
         code::MARK_PUT | code::MARK_TAKEN => Some(4),
         code::CALL_COUNTED | code::ALERT_ON | code::ALERT_OFF => Some(3),
         code::MERGE | code::FAST_FORWARD => Some(3),
+        code::LEAVE => Some(2),
         _ => None,
     }
 }
 
-/// A command decoded whole, or the lowest of the refusals 1 to 6.
+/// A command decoded whole, or the first that applies of the refusals 1 to 6 and then 20.
 pub fn decode(bytes: &[u8]) -> Result<Command, u32> {
     let length = bytes.first().and_then(|&first| command_length(first));
     refuse_if(length.is_none(), refusal::NO_SUCH_COMMAND)?;
@@ -592,6 +599,10 @@ pub fn decode(bytes: &[u8]) -> Result<Command, u32> {
     refuse_if(
         names_same_console_twice(&command),
         refusal::SAME_CONSOLE_TWICE,
+    )?;
+    refuse_if(
+        command == Command::Leave { console: 0 },
+        refusal::CONSOLE_0_LEAVES,
     )?;
     Ok(command)
 }
@@ -626,15 +637,18 @@ fn split_command(bytes: &[u8]) -> Option<Command> {
             receiver: usize::from(receiver),
             giver: usize::from(giver),
         }),
+        [code::LEAVE, console] => Some(Command::Leave {
+            console: usize::from(console),
+        }),
         _ => None,
     }
 }
 
-/// The consoles that a command names: two, or an entry's one.
+/// The consoles that a command names: two, or the one of an entry or a leave.
 fn named_consoles(command: &Command) -> (usize, Option<usize>) {
     match *command {
         Command::Fork { new, old } => (new, Some(old)),
-        Command::Entry { console, .. } => (console, None),
+        Command::Entry { console, .. } | Command::Leave { console } => (console, None),
         Command::Merge { receiver, giver } => (receiver, Some(giver)),
         Command::FastForward { receiver, giver } => (receiver, Some(giver)),
     }
@@ -658,7 +672,7 @@ fn names_same_console_twice(command: &Command) -> bool {
     second == Some(first)
 }
 
-/// The room after a decoded command, or the lowest of the refusals 12 to 18.
+/// The room after a decoded command, or the first that applies of the refusals 12 to 18 and then 21.
 pub fn step(room: &Room, command: &Command) -> Result<Room, u32> {
     match *command {
         Command::Fork { new, old } => fork(room, new, old),
@@ -679,6 +693,7 @@ pub fn step(room: &Room, command: &Command) -> Result<Room, u32> {
         }
         Command::Merge { receiver, giver } => merge(room, receiver, giver),
         Command::FastForward { receiver, giver } => fast_forward(room, receiver, giver),
+        Command::Leave { console } => leave(room, console),
     }
 }
 
@@ -690,7 +705,7 @@ fn named_head(room: &Room, console: usize) -> Result<usize, u32> {
 fn fork(room: &Room, new: usize, old: usize) -> Result<Room, u32> {
     let head = named_head(room, old)?;
     refuse_if(room.head(new).is_some(), refusal::NEW_CONSOLE_PRESENT)?;
-    Ok(with_head(room, new, head))
+    Ok(with_head(room, new, Some(head)))
 }
 
 fn fast_forward(room: &Room, receiver: usize, giver: usize) -> Result<Room, u32> {
@@ -705,7 +720,7 @@ fn fast_forward(room: &Room, receiver: usize, giver: usize) -> Result<Room, u32>
         !ancestry.is_ancestor(receiver_head, giver_head),
         refusal::RECEIVER_NOT_BEHIND,
     )?;
-    Ok(with_head(room, receiver, giver_head))
+    Ok(with_head(room, receiver, Some(giver_head)))
 }
 
 fn merge(room: &Room, receiver: usize, giver: usize) -> Result<Room, u32> {
@@ -757,14 +772,30 @@ fn some_third_console_is_torn(
 fn make_version(room: &Room, console: usize, version: Version) -> Result<Room, u32> {
     let number = room.versions.len();
     refuse_if(number >= room.capacity, refusal::NO_VERSION_LEFT)?;
-    let mut changed = with_head(room, console, number);
+    let mut changed = with_head(room, console, Some(number));
     changed.versions.push(version);
     Ok(changed)
 }
 
-fn with_head(room: &Room, console: usize, head: usize) -> Room {
+/// The console goes home, provided that its head is an ancestor of another present head.
+fn leave(room: &Room, console: usize) -> Result<Room, u32> {
+    let head = named_head(room, console)?;
+    let without = with_head(room, console, None);
+    let ancestry = Ancestry::new(room);
+    let other_heads = without.present_heads();
+    refuse_if(
+        !other_heads
+            .iter()
+            .any(|&other| ancestry.is_ancestor(head, other)),
+        refusal::NO_OTHER_HEAD_DESCENDS,
+    )?;
+    Ok(without)
+}
+
+/// The room with another head of this console, or with none.
+fn with_head(room: &Room, console: usize, head: Option<usize>) -> Room {
     let mut changed = room.clone();
-    changed.heads[console] = Some(head);
+    changed.heads[console] = head;
     changed
 }
 

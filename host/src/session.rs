@@ -3,8 +3,9 @@
 use crate::calls;
 use crate::compare::Outcome;
 use crate::gen;
-use crate::model::{decode, refusal};
+use crate::model::{decode, refusal, Room};
 use crate::rng::Rng;
+use std::fmt;
 use std::io::{self, Write};
 use std::path::{Path, PathBuf};
 use std::process::{Command, Stdio};
@@ -72,16 +73,20 @@ fn ends(command: &[u8]) -> bool {
     refusal == Some(refusal::NO_SUCH_COMMAND) || refusal == Some(refusal::WRONG_LENGTH)
 }
 
-/// An input: commands of which most are accepted, whole or cut or with a byte changed, or garbage.
+/// An input: commands of which most are accepted, whole or cut or with a byte changed, or garbage. In half of them consoles come and go.
 fn some_input(rng: &mut Rng) -> Vec<u8> {
     let length = rng.below(120);
-    let (mut commands, _) = gen::command_sequence(rng, 64, length);
+    let (mut commands, _) = if rng.chance(50) {
+        gen::command_sequence(rng, 64, length)
+    } else {
+        gen::turnover_from(rng, Room::opened(64), 2 * length)
+    };
     commands.retain(|command| !ends(command));
     let mut input = commands.concat();
     match rng.below(6) {
         0 => input.truncate(rng.below(input.len() + 1)),
         1 => input = gen::garbage(rng, 40),
-        2 => input = (0..rng.below(60)).map(|_| rng.below(12) as u8).collect(),
+        2 => input = (0..rng.below(60)).map(|_| rng.below(13) as u8).collect(),
         3 => {
             let place = rng.below(input.len());
             if let Some(byte) = input.get_mut(place) {
@@ -93,19 +98,50 @@ fn some_input(rng: &mut Rng) -> Vec<u8> {
     input
 }
 
-/// Compares the program with the model on the paper's session, cut at every place, and on so many random inputs; how
-/// many inputs and lines were compared.
-pub fn compare_program(program: &Path, seed: u64, count: usize) -> Outcome<(usize, usize)> {
+/// How many inputs and lines were compared, and how many accepted leaves were among them.
+#[derive(Default)]
+pub struct Compared {
+    inputs: usize,
+    lines: usize,
+    leaves: usize,
+}
+
+impl Compared {
+    fn note(&mut self, printed: &str) {
+        self.inputs += 1;
+        self.lines += printed.lines().count();
+        // After no other accepted command is the console in the first operand absent.
+        let is_leave = |line: &&str| line.ends_with(" 0 -");
+        self.leaves += printed.lines().filter(is_leave).count();
+    }
+}
+
+impl fmt::Display for Compared {
+    fn fmt(&self, out: &mut fmt::Formatter) -> fmt::Result {
+        let (inputs, lines, leaves) = (self.inputs, self.lines, self.leaves);
+        write!(
+            out,
+            "{inputs} inputs, {lines} lines, {leaves} accepted leaves"
+        )
+    }
+}
+
+/// Compares the program with the model on the paper's session, cut at every place, and on so many random inputs, in which there must
+/// be as many accepted leaves at least.
+pub fn compare_program(program: &Path, seed: u64, count: usize) -> Outcome<Compared> {
+    let mut compared = Compared::default();
     compare_input(program, &PAPER_INPUT, PAPER_LINES)?;
+    compared.note(PAPER_LINES);
     let rng = &mut Rng::new(seed);
     let cut = (0..=PAPER_INPUT.len()).map(|length| PAPER_INPUT[..length].to_vec());
     let random = (0..count).map(|_| some_input(rng));
-    let (mut inputs, mut lines) = (1, PAPER_LINES.lines().count());
     for input in cut.chain(random) {
         let expected = calls::session(&input);
         compare_input(program, &input, &expected)?;
-        inputs += 1;
-        lines += expected.lines().count();
+        compared.note(&expected);
     }
-    Ok((inputs, lines))
+    if compared.leaves < count {
+        return Err(format!("seed {seed}: too few leaves in {compared}"));
+    }
+    Ok(compared)
 }

@@ -1,6 +1,7 @@
 // The unit and the fast implementation against the model, on fewer cases than the program `compare` runs.
 
-use room_host::compare::{compare, seed, Calls, Effort, FAST, UNIT};
+use room_host::compare::{compare, seed, Effort};
+use room_host::implementations::{Calls, FAST, UNIT};
 
 const EFFORT: Effort = Effort {
     rounds: 2,

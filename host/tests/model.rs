@@ -23,7 +23,11 @@ fn two_hundred_rooms_come_back_from_tape_and_bytes() {
 /// The accepted commands of a random sequence from opening on, each with the room after it.
 fn accepted_steps(rng: &mut Rng, capacity: usize, length: usize) -> Vec<(Vec<u8>, Room)> {
     let (commands, _) = gen::command_sequence(rng, capacity, length);
-    let mut room = Room::opened(capacity);
+    accepted_from(Room::opened(capacity), commands)
+}
+
+/// Those of these commands that are accepted, one after the other, each with the room after it.
+fn accepted_from(mut room: Room, commands: Vec<Vec<u8>>) -> Vec<(Vec<u8>, Room)> {
     let mut steps = Vec::new();
     for command in commands {
         if let Ok(next) = decode(&command).and_then(|decoded| step(&room, &decoded)) {
@@ -83,6 +87,69 @@ fn refusal_17_is_exact() {
         }
     }
     assert!(torn > 50 && merged > 50, "{torn} {merged}");
+}
+
+/// Each present console but 0 of some rooms, and the room after it has left, whatever would refuse it.
+fn forced_leaves(rooms: &[Room]) -> impl Iterator<Item = (&Room, usize, Room)> {
+    rooms.iter().flat_map(|room| {
+        let students = room.present().into_iter().filter(|&console| console != 0);
+        students.map(move |console| {
+            let mut forced = room.clone();
+            forced.heads[console] = None;
+            (room, console, forced)
+        })
+    })
+}
+
+/// Refusal 21 stands exactly where the leave would leave a version that no head descends from.
+#[test]
+fn refusal_21_is_exact() {
+    let rooms = gen::random_rooms(18, 60);
+    let (mut kept, mut left) = (0, 0);
+    for (room, console, forced) in forced_leaves(&rooms) {
+        let after = step(room, &Command::Leave { console });
+        if sound(&forced) {
+            assert_eq!(after, Ok(forced));
+            left += 1;
+        } else {
+            assert_eq!(after, Err(21));
+            kept += 1;
+        }
+    }
+    assert!(kept > 50 && left > 50, "{kept} {left}");
+}
+
+/// What is answered to a merge and to a fast-forward of every two of these consoles.
+fn joining_answers(room: &Room, consoles: &[usize]) -> Vec<u32> {
+    let answer = |command: Command| step(room, &command).err().unwrap_or(0);
+    let answers = |receiver: usize, giver: usize| {
+        [
+            answer(Command::Merge { receiver, giver }),
+            answer(Command::FastForward { receiver, giver }),
+        ]
+    };
+    consoles
+        .iter()
+        .flat_map(|&one| consoles.iter().flat_map(move |&other| answers(one, other)))
+        .collect()
+}
+
+/// A leave changes no answer to whoever remains: where a third console gives 17, it may leave only behind another that gives 17.
+#[test]
+fn a_leave_is_not_felt_by_whoever_remains() {
+    let rooms = gen::random_rooms(19, 40);
+    let (mut leaves, mut torn) = (0, 0);
+    for (room, console, _) in forced_leaves(&rooms) {
+        let Ok(after) = step(room, &Command::Leave { console }) else {
+            continue;
+        };
+        let remaining = after.present();
+        let answers = joining_answers(&after, &remaining);
+        assert_eq!(joining_answers(room, &remaining), answers);
+        leaves += 1;
+        torn += answers.iter().filter(|&&answer| answer == 17).count();
+    }
+    assert!(leaves > 50 && torn > 50, "{leaves} {torn}");
 }
 
 /// A room of capacity 4 with these versions after version 0, and these heads from console 0 up.
@@ -293,7 +360,7 @@ struct SeenOrigins {
 #[test]
 fn origins_have_written_what_is_shown() {
     let mut seen = SeenOrigins::default();
-    for room in gen::random_rooms(16, 150) {
+    for room in gen::random_rooms(16, 200) {
         for strip in [0, 1, 2, 7] {
             CellOfRoom::of(&room, strip, Cell::Level).check(&mut seen);
             CellOfRoom::of(&room, strip, Cell::Heading).check(&mut seen);
@@ -373,12 +440,33 @@ fn entry_count(room: &Room) -> usize {
 #[test]
 fn most_commands_of_a_sequence_are_accepted() {
     let mut rng = Rng::new(15);
-    let mut accepted_codes = [0; 11];
+    let mut accepted_codes = [0; 12];
     for (command, _) in (0..20).flat_map(|_| accepted_steps(&mut rng, 64, 100)) {
         accepted_codes[usize::from(command[0])] += 1;
     }
     assert!(accepted_codes[1..].iter().all(|&count| count > 50));
     assert!(accepted_codes.iter().sum::<usize>() > 1400);
+}
+
+/// A room with turnover fills up to 16 consoles and empties again, over and over.
+#[test]
+fn consoles_come_and_go_for_long() {
+    let opened = Room::opened(96);
+    let (commands, _) = gen::turnover_from(&mut Rng::new(20), opened.clone(), 640);
+    let (mut is_full, mut ebbs, mut leaves) = (false, 0, 0);
+    for (command, room) in accepted_from(opened, commands) {
+        assert!(sound(&room), "{command:02X?}");
+        leaves += usize::from(command[0] == 0x0B);
+        match room.present().len() {
+            CONSOLES => is_full = true,
+            0..=10 if is_full => {
+                is_full = false;
+                ebbs += 1;
+            }
+            _ => {}
+        }
+    }
+    assert!(leaves > 60 && ebbs > 4, "{leaves} {ebbs}");
 }
 
 #[test]

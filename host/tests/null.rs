@@ -1,5 +1,6 @@
 // A lent buffer of length 0 may be NULL, says include/room.h: each buffer of each of the unit's calls as NULL, alone and with the
-// call's other buffer. The answers are worked out by hand from the paper; of several refusals that apply, the lowest is given.
+// call's other buffer. The answers are worked out by hand from the paper and the requests; of several refusals that apply, the one
+// tested first is given.
 
 use room_host::calls::Reply;
 use room_host::unit::{
@@ -35,11 +36,15 @@ fn open_into_null() {
 
 #[test]
 fn command_on_a_null_store() {
-    let commands: [(&[u8], u32); 4] = [
+    let commands: [(&[u8], u32); 8] = [
         (&CALL_COUNTED, 11),
-        (&[0x0B, 0, 0], 1),
+        (&[0x0C, 0, 0], 1),
         (&[0x06, 0], 2),
         (&[0x06, 16, 0], 3),
+        (&[0x0B, 0, 0], 2),
+        (&[0x0B, 16], 3),
+        (&[0x0B, 0], 20),
+        (&[0x0B, 1], 11),
     ];
     for (command, due) in commands {
         let reply = unsafe { room_command(null_mut(), 0, command.as_ptr(), command.len()) };

@@ -8,7 +8,7 @@ use room_host::rng::Rng;
 use room_host::session::{compare_program, printed, program};
 
 /// Inputs and what is printed for them.
-const SESSIONS: [(&[u8], &str); 12] = [
+const SESSIONS: [(&[u8], &str); 18] = [
     (
         &[
             0x01, 0x01, 0x00, 0x02, 0x00, 0x05, 0x00, 0x64, 0x06, 0x01, 0x05, 0x09, 0x00, 0x01,
@@ -21,12 +21,27 @@ const SESSIONS: [(&[u8], &str); 12] = [
     (&[0x06], "1 2 -\nend 1\n"),
     (&[0x06, 0x01], "1 2 -\nend 1\n"),
     (&[0x06, 0x10], "1 2 -\nend 1\n"),
-    (&[0x0B, 0x00, 0x00], "1 1 -\nend 1\n"),
+    (&[0x0C, 0x00, 0x00], "1 1 -\nend 1\n"),
     (&[0x00], "1 1 -\nend 1\n"),
     (&[0x06, 0x10, 0x00], "1 3 -\nend 1\n"),
     (&[0x06, 0, 32, 0x06, 0, 31], "1 4 0\n2 0 1\nend 2\n"),
     (&[0x01, 0x02, 0x01], "1 12 -\nend 1\n"),
     (&[0x06, 0, 0, 0xFF, 0x06, 0, 0], "1 0 1\n2 1 -\nend 2\n"),
+    // Console 0 stays, and 00 is no code.
+    (&[0x0B, 0, 0], "1 20 0\n2 1 -\nend 1\n"),
+    (&[0x0B], "1 2 -\nend 1\n"),
+    (&[0x0B, 0x10], "1 3 -\nend 1\n"),
+    (&[0x0B, 0x01], "1 12 -\nend 1\n"),
+    // Console 1 may go once console 0 has its entry, is absent then, and comes back.
+    (
+        &[
+            0x01, 1, 0, 0x06, 1, 5, 0x0B, 1, 0x0A, 0, 1, 0x0B, 1, 0x06, 1, 5, 0x0B, 1, 0x01, 1, 0,
+            0x06, 1, 5,
+        ],
+        "1 0 0\n2 0 1\n3 21 1\n4 0 1\n5 0 -\n6 12 -\n7 12 -\n8 0 1\n9 0 2\nend 3\n",
+    ),
+    // The input ends in the middle of a leave.
+    (&[0x01, 1, 0, 0x0B], "1 0 0\n2 2 -\nend 1\n"),
 ];
 
 fn check_lines(print: impl Fn(&[u8]) -> String) {
@@ -55,7 +70,7 @@ fn the_session_program_prints_what_the_model_says() {
         return;
     };
     match compare_program(&program, seed(), 60) {
-        Ok((inputs, lines)) => println!("{inputs} inputs, {lines} lines agree"),
+        Ok(compared) => println!("{compared} agree"),
         Err(difference) => panic!("{difference}"),
     }
 }

@@ -3,7 +3,8 @@
 // is cleared between runs. A line `limit WHAT AGAINST VALUE` behind a ratio says what it may be at most, with EXCEEDED where it is more.
 // Where a ratio is more than one and a half times its limit, the last line names it and the program ends with 1; less may be noise.
 
-use room_host::compare::{Call, Calls, FAST, UNIT};
+use room_host::compare::Call;
+use room_host::implementations::{Calls, FAST, UNIT};
 use room_host::layout::{self, BOARD_BYTES};
 use room_host::model::{code, decode, step, tape_of, Room, CONSOLES};
 use room_host::rng::Rng;

@@ -1,7 +1,8 @@
 // Compares the unit and the fast implementation with the model, call by call, and the session program with the model's session.
 // `compare [unit|fast|session]`; the seed is ROOM_SEED, the program ROOM_SESSION. Ends with 1 at the first difference.
 
-use room_host::compare::{compare, seed, Calls, Effort, Outcome, FAST, UNIT};
+use room_host::compare::{compare, seed, Effort, Outcome};
+use room_host::implementations::{Calls, FAST, UNIT};
 use room_host::session;
 use std::process::ExitCode;
 use std::time::Instant;
@@ -31,8 +32,8 @@ fn compare_session(seed: u64) -> Outcome<()> {
     let Some(program) = session::program() else {
         return Ok(());
     };
-    let (inputs, lines) = session::compare_program(&program, seed, SESSIONS)?;
-    println!("model and session program agree in {inputs} inputs, {lines} lines, seed {seed}");
+    let compared = session::compare_program(&program, seed, SESSIONS)?;
+    println!("model and session program agree in {compared}, seed {seed}");
     Ok(())
 }
 

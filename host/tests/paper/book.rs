@@ -1,128 +1,17 @@
 // Demand 3: after any list of calls the store says of its consoles what a book says that is kept of the calls alone.
 
-use super::store::{accepted, refused, strip_of, Store};
+use super::store::Store;
+use super::TESTED;
+use room_host::book::Book;
 use room_host::gen;
 use room_host::model::{room_of_tape, tape_of, Room};
 use room_host::rng::Rng;
 
-// ---------------------------------------------------------------- the book
-
-/// A version in the book: its parents, and an entry's code and strip.
-struct Noted {
-    parents: Vec<usize>,
-    entry: Option<(u8, u8)>,
-}
-
-/// The book of demand 3, kept apart from the model.
-struct Book {
-    versions: Vec<Noted>,
-    heads: [Option<usize>; 16],
-}
-
-impl Book {
-    /// Version 0 without parent, and no console.
-    fn new() -> Book {
-        let mut book = Book {
-            versions: vec![],
-            heads: [None; 16],
-        };
-        book.add(vec![], None);
-        book
-    }
-
-    fn opened() -> Book {
-        let mut book = Book::new();
-        book.heads[0] = Some(0);
-        book
-    }
-
-    /// The book after an accepted resume of this tape.
-    fn of_tape(tape: &[u8]) -> Book {
-        let mut book = Book::new();
-        let mut rest = &tape[3..];
-        while let Some(behind) = book.note_record(rest) {
-            rest = behind;
-        }
-        book
-    }
-
-    /// Notes the record 21, 22 or 23 at the front and gives what is behind it.
-    fn note_record<'a>(&mut self, tape: &'a [u8]) -> Option<&'a [u8]> {
-        let number = |high: u8, low: u8| usize::from(u16::from_be_bytes([high, low]));
-        match *tape {
-            [0x21, high, low, code, strip, _, _, ref rest @ ..] => {
-                self.add(vec![number(high, low)], Some((code, strip)));
-                Some(rest)
-            }
-            [0x22, high, low, giver_high, giver_low, ref rest @ ..] => {
-                let parents = vec![number(high, low), number(giver_high, giver_low)];
-                self.add(parents, None);
-                Some(rest)
-            }
-            [0x23, console, high, low, ref rest @ ..] => {
-                self.heads[usize::from(console)] = Some(number(high, low));
-                Some(rest)
-            }
-            _ => None,
-        }
-    }
-
-    /// Notes an accepted command.
-    fn note(&mut self, command: &[u8]) {
-        let (first, second) = (usize::from(command[1]), command[2]);
-        let head = self.heads[first];
-        self.heads[first] = match command[0] {
-            0x01 | 0x0A => self.heads[usize::from(second)],
-            0x09 => {
-                let giver = self.heads[usize::from(second)];
-                Some(self.add([head, giver].into_iter().flatten().collect(), None))
-            }
-            code => Some(self.add(head.into_iter().collect(), Some((code, second)))),
-        };
-    }
-
-    /// Adds the next version and gives its number.
-    fn add(&mut self, parents: Vec<usize>, entry: Option<(u8, u8)>) -> usize {
-        self.versions.push(Noted { parents, entry });
-        self.versions.len() - 1
-    }
-
-    /// The present consoles with their heads.
-    fn present(&self) -> Vec<(u32, usize)> {
-        let heads = self.heads.iter().enumerate();
-        heads
-            .filter_map(|(console, head)| head.map(|head| (console as u32, head)))
-            .collect()
-    }
-
-    /// For every version, whether it leads to this one.
-    fn leading_to(&self, version: usize) -> Vec<bool> {
-        let mut leads = vec![false; self.versions.len()];
-        leads[version] = true;
-        for child in (0..=version).rev() {
-            let is_leading = leads[child];
-            let parents = self.versions[child].parents.iter();
-            parents.for_each(|&parent| leads[parent] |= is_leading);
-        }
-        leads
-    }
-
-    /// The entries that lead to a version: their numbers, codes and strips.
-    fn held_by(&self, version: usize) -> Vec<(usize, (u8, u8))> {
-        let leads = self.leading_to(version);
-        let numbered = self.versions.iter().enumerate();
-        numbered
-            .filter(|(number, _)| leads[*number])
-            .filter_map(|(number, noted)| noted.entry.map(|entry| (number, entry)))
-            .collect()
-    }
-}
-
-// ---------------------------------------------------------------- store and book together
-
+/// A store and the book of its calls; `leaves` counts the accepted ones.
 struct Kept {
     store: Store,
     book: Book,
+    leaves: usize,
 }
 
 impl Kept {
@@ -130,15 +19,26 @@ impl Kept {
         Kept {
             store: Store::open(capacity),
             book: Book::opened(),
+            leaves: 0,
         }
     }
 
-    fn say_all(&mut self, commands: &[Vec<u8>]) {
-        for command in commands {
-            if self.store.say(command) == 0 {
-                self.book.note(command);
-            }
+    fn say(&mut self, command: &[u8]) {
+        if self.store.say(command) == 0 {
+            self.book.note(command);
+            self.leaves += usize::from(command[0] == 0x0B);
         }
+    }
+
+    /// Commands that lead the model to this room, and so must lead the store.
+    fn say_all(&mut self, (commands, last): (Vec<Vec<u8>>, Room)) {
+        commands.iter().for_each(|command| self.say(command));
+        assert_eq!(self.store.tape(), tape_of(&last));
+    }
+
+    /// The room that the store holds.
+    fn room(&self) -> Room {
+        room_of_tape(&self.store.tape()).expect("a store's tape is sound")
     }
 
     /// Resumes a tape over the room; whether it was accepted.
@@ -150,70 +50,12 @@ impl Kept {
         is_accepted
     }
 
-    /// Compares all that demand 3 says, and the origins as far as the book knows them; how many pairs of consoles have heard the same entries.
+    /// Compares the store with the book; how many pairs of consoles, in both orders, have heard the same entries.
     fn check(&self) -> usize {
-        let (store, book) = (&self.store, &self.book);
-        assert_eq!(usize::from(store.version_count()), book.versions.len());
-        for (console, head) in (0..).zip(book.heads) {
-            let expected = head.map_or(refused(12), |head| accepted(head as u32));
-            assert_eq!(store.common(console, console), expected);
+        match self.book.check(&TESTED, &self.store.bytes) {
+            Ok(alike) => alike,
+            Err(difference) => panic!("{difference}"),
         }
-        let present = book.present();
-        present.iter().for_each(|&one| self.check_heard(one));
-        present.iter().for_each(|&one| self.check_origins(one));
-        let pairs = present
-            .iter()
-            .flat_map(|&one| present.iter().map(move |&other| (one, other)));
-        pairs
-            .filter(|&(one, other)| self.check_pair(one, other))
-            .count()
-    }
-
-    /// The heard count, and the call counter of every strip.
-    fn check_heard(&self, (console, head): (u32, usize)) {
-        let heard = self.book.held_by(head);
-        assert_eq!(self.store.heard(console), accepted(heard.len() as u32));
-        let board = self.store.board(console);
-        for strip in 0..32 {
-            let is_call = |(_, entry): &&(usize, (u8, u8))| *entry == (0x06, strip);
-            let called = heard.iter().filter(is_call).count();
-            let shown = strip_of(&board, usize::from(strip)).calls;
-            assert_eq!(usize::from(shown), called);
-        }
-    }
-
-    /// Where an origin is above 0, it is an entry that the console has heard and that writes this cell; else the cell shows 0. The
-    /// first strips are those that most entries are on.
-    fn check_origins(&self, (console, head): (u32, usize)) {
-        let heard = self.book.held_by(head);
-        let board = self.store.board(console);
-        for strip in 0..8 {
-            let shown = strip_of(&board, usize::from(strip));
-            for (cell, code, value) in [(0, 0x02, shown.level), (1, 0x03, shown.heading)] {
-                let reply = self.store.origin(console, strip.into(), cell);
-                assert_eq!(reply.answer, 0);
-                let origin = (reply.count as usize, (code, strip));
-                let is_none = reply.count == 0 && value == 0;
-                assert!(is_none || heard.contains(&origin));
-            }
-        }
-    }
-
-    /// The common version leads to both heads, and every version common to both leads to it. Two consoles that have heard the same
-    /// entries are on the same version and show the same board; whether these are such.
-    fn check_pair(&self, one: (u32, usize), other: (u32, usize)) -> bool {
-        let (store, book) = (&self.store, &self.book);
-        let reply = store.common(one.0, other.0);
-        assert_eq!(reply.answer, 0);
-        let (to_one, to_other) = (book.leading_to(one.1), book.leading_to(other.1));
-        let to_both: Vec<bool> = to_one.iter().zip(&to_other).map(|(a, b)| a & b).collect();
-        assert_eq!(book.leading_to(reply.count as usize), to_both);
-        let is_same = one.0 != other.0 && book.held_by(one.1) == book.held_by(other.1);
-        if is_same {
-            assert_eq!(store.common(one.0, one.0), store.common(other.0, other.0));
-            assert_eq!(store.board(one.0), store.board(other.0));
-        }
-        is_same
     }
 }
 
@@ -233,18 +75,51 @@ fn lists_of_calls_agree_with_the_book() {
     for _ in 0..30 {
         let opened = Room::opened(rng.between(1, 40));
         let mut kept = Kept::open(opened.capacity);
-        let (commands, last) = gen::commands_from(rng, opened, 80);
-        kept.say_all(&commands);
-        assert_eq!(kept.store.tape(), tape_of(&last));
+        kept.say_all(gen::commands_from(rng, opened, 80));
         same += kept.check();
         let tape = some_tape(rng, &kept.store);
         resumes += usize::from(kept.resume(&tape));
         same += kept.check();
-        let resumed = room_of_tape(&kept.store.tape()).expect("a store's tape is sound");
-        let (commands, last) = gen::commands_from(rng, resumed, 80);
-        kept.say_all(&commands);
-        assert_eq!(kept.store.tape(), tape_of(&last));
+        kept.say_all(gen::commands_from(rng, kept.room(), 80));
         same += kept.check();
     }
     assert!(resumes > 15 && same > 500, "{resumes} {same}");
+}
+
+/// The pairs that have heard the same are worked out by hand.
+#[test]
+fn the_book_drops_the_head_of_one_that_leaves() {
+    let mut kept = Kept::open(16);
+    let mut after = |commands: &[&[u8]]| {
+        commands.iter().for_each(|command| kept.say(command));
+        kept.check()
+    };
+    assert_eq!(after(&[&[0x01, 1, 0], &[0x01, 2, 0]]), 6, "all three");
+    assert_eq!(after(&[&[0x06, 1, 0], &[0x04, 2, 0, 1]]), 0);
+    assert_eq!(after(&[&[0x09, 1, 2], &[0x0A, 0, 1]]), 2, "0 and 1 on 3");
+    assert_eq!(after(&[&[0x0B, 2]]), 2, "2 leaves, on 2");
+    assert_eq!(after(&[&[0x0B, 1]]), 0, "0 is alone");
+    assert_eq!(after(&[&[0x0B, 0]]), 0, "and stays");
+    assert_eq!(after(&[&[0x01, 2, 0]]), 2, "0 and 2 on 3");
+    assert_eq!(after(&[&[0x06, 2, 0], &[0x01, 1, 2]]), 2, "2 and 1 on 4");
+    assert_eq!(after(&[&[0x0B, 2], &[0x0A, 0, 1]]), 2, "0 and 1 on 4");
+    assert_eq!(kept.leaves, 3);
+}
+
+/// Long lists in which consoles come and go, with pauses and resumes in between.
+#[test]
+fn consoles_that_come_and_go_agree_with_the_book() {
+    let rng = &mut Rng::new(17);
+    let (mut leaves, mut same) = (0, 0);
+    for capacity in [6, 40, 80] {
+        let mut kept = Kept::open(capacity);
+        for _ in 0..6 {
+            kept.say_all(gen::turnover_from(rng, kept.room(), 100));
+            same += kept.check();
+            assert!(kept.resume(&kept.store.tape()));
+            same += kept.check();
+        }
+        leaves += kept.leaves;
+    }
+    assert!(leaves > 150 && same > 300, "{leaves} {same}");
 }

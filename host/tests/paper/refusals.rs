@@ -16,7 +16,9 @@ fn refusal_1_no_such_command() {
         &[][..],
         &[0x00],
         &[0x00, 2, 0],
-        &[0x0B, 0, 0],
+        &[0x0C],
+        &[0x0C, 1],
+        &[0x0C, 0, 0],
         &of_a_tape,
         &[0xFF; 5],
     ];
@@ -26,6 +28,7 @@ fn refusal_1_no_such_command() {
     assert_eq!(store.say(&[0x01, 1, 0]), 0);
     assert_eq!(store.say(&[0x06, 0, 0]), 0);
     assert_eq!(store.say(&[0x0A, 1, 0]), 0);
+    assert_eq!(store.say(&[0x0B, 1]), 0);
 }
 
 #[test]
@@ -52,6 +55,10 @@ fn refusal_2_length() {
     assert_eq!(store.say(&[0x0A, 1]), 2);
     assert_eq!(store.say(&[0x0A, 1, 0, 0]), 2);
     assert_eq!(store.say(&[0x0A, 1, 0]), 0);
+    assert_eq!(store.say(&[0x0B]), 2);
+    assert_eq!(store.say(&[0x0B, 1, 0]), 2);
+    assert_eq!(store.say(&[0x0B, 0, 0]), 2);
+    assert_eq!(store.say(&[0x0B, 1]), 0);
 }
 
 #[test]
@@ -75,6 +82,11 @@ fn refusal_3_console() {
         assert_eq!(store.origin(too_high, 0, 0), refused(3));
     }
     assert_eq!(store.origin(15, 0, 0), accepted(0));
+    assert_eq!(store.say(&[0x0A, 0, 15]), 0);
+    for too_high in [16, 16 + 15, 255] {
+        assert_eq!(store.say(&[0x0B, too_high]), 3);
+    }
+    assert_eq!(store.say(&[0x0B, 15]), 0);
 }
 
 #[test]
@@ -282,7 +294,7 @@ fn refusal_11_no_sound_store() {
 fn refusal_12_absent_console() {
     let mut store = Store::open(8);
     store.say_all(&[&[0x01, 2, 0], &[0x06, 0, 0]]);
-    let absent: [&[u8]; 7] = [
+    let absent: [&[u8]; 8] = [
         &[0x01, 3, 1],
         &[0x01, 2, 1],
         &[0x06, 1, 0],
@@ -290,6 +302,7 @@ fn refusal_12_absent_console() {
         &[0x09, 0, 1],
         &[0x0A, 1, 0],
         &[0x0A, 0, 1],
+        &[0x0B, 1],
     ];
     for command in absent {
         assert_eq!(store.say(command), 12);
@@ -397,11 +410,44 @@ fn refusal_19_short_buffers() {
     assert_eq!(lent, store.bytes[..store_bytes(64)]);
 }
 
+/// Console 0 never leaves, whoever else is there, and in a full room too.
 #[test]
-fn the_lowest_refusal_is_given() {
+fn refusal_20_console_0_leaves() {
+    let mut store = Store::open(2);
+    assert_eq!(store.say(&[0x0B, 0]), 20, "alone");
+    store.say_all(&[&[0x01, 1, 0]]);
+    assert_eq!(store.say(&[0x0B, 0]), 20, "another console on its head");
+    store.say_all(&[&[0x06, 1, 0]]);
+    assert_eq!(store.say(&[0x0B, 0]), 20, "another head descends from it");
+    store.say_all(&[&[0x0A, 0, 1]]);
+    assert_eq!(store.say(&[0x0B, 1]), 0);
+    assert_eq!(store.heads(), [1]);
+}
+
+/// The last test: in a full room too, and after 12.
+#[test]
+fn refusal_21_no_other_head_descends() {
+    let mut store = Store::open(2);
+    store.say_all(&[&[0x01, 1, 0], &[0x06, 1, 0]]);
+    assert_eq!(store.say(&[0x06, 1, 0]), 18);
+    assert_eq!(store.say(&[0x0B, 1]), 21);
+    assert_eq!(store.say(&[0x0B, 2]), 12, "it has no head");
+    store.say_all(&[&[0x0A, 0, 1]]);
+    assert_eq!(store.say(&[0x0B, 1]), 0);
+    assert_eq!(store.say(&[0x0B, 1]), 12);
+}
+
+/// The order of the tests; it rises but for 20, which comes right after 6.
+#[test]
+fn the_first_refusal_is_given() {
     let mut garbage = vec![FILLER; 50];
-    let cases: [(&[u8], u32); 9] = [
-        (&[0x0B, 99], 1),
+    let cases: [(&[u8], u32); 14] = [
+        (&[0x0C, 99], 1),
+        (&[0x0B], 2),
+        (&[0x0B, 0, 0], 2),
+        (&[0x0B, 16], 3),
+        (&[0x0B, 0], 20),
+        (&[0x0B, 1], 11),
         (&[0x02, 0xFF], 2),
         (&[0x01, 16, 16], 3),
         (&[0x04, 16, 32, 16], 3),

@@ -1,0 +1,54 @@
+// The implementations of the calls, each as one value: the model, the fast one and the unit.
+
+use crate::calls::{self, Reply};
+use crate::{fast, unit};
+
+/// One implementation of the calls.
+#[derive(Clone, Copy)]
+pub struct Calls {
+    pub name: &'static str,
+    pub open: fn(u32, &mut [u8]) -> Reply,
+    pub command: fn(&mut [u8], &[u8]) -> Reply,
+    pub pause: fn(&[u8], &mut [u8]) -> Reply,
+    pub resume: fn(&[u8], &mut [u8]) -> Reply,
+    pub board: fn(&[u8], u32, &mut [u8]) -> Reply,
+    pub heard: fn(&[u8], u32) -> Reply,
+    pub common: fn(&[u8], u32, u32) -> Reply,
+    pub origin: fn(&[u8], u32, u32, u32) -> Reply,
+}
+
+pub const MODEL: Calls = Calls {
+    name: "model",
+    open: calls::open,
+    command: calls::command,
+    pause: calls::pause,
+    resume: calls::resume,
+    board: calls::board,
+    heard: calls::heard,
+    common: calls::common,
+    origin: calls::origin,
+};
+
+pub const FAST: Calls = Calls {
+    name: "fast",
+    open: fast::open,
+    command: fast::command,
+    pause: fast::pause,
+    resume: fast::resume,
+    board: fast::board,
+    heard: fast::heard,
+    common: fast::common,
+    origin: fast::origin,
+};
+
+pub const UNIT: Calls = Calls {
+    name: "unit",
+    open: unit::open,
+    command: unit::command,
+    pause: unit::pause,
+    resume: unit::resume,
+    board: unit::board,
+    heard: unit::heard,
+    common: unit::common,
+    origin: unit::origin,
+};
