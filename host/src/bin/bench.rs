@@ -32,11 +32,12 @@ const MEMCMP: &str = "memcmp_of_the_store";
 const SOUNDNESS: &str = "soundness";
 
 /// What each of these may be at most, against what: the limits of docs/PERFORMANCE.md.
-const LIMITS: [(&str, &str, f64); 12] = [
+const LIMITS: [(&str, &str, f64); 13] = [
     ("soundness_entries_1024", MEMCMP, 4.5),
     ("soundness_merges_1024", MEMCMP, 13.0),
     ("entry", SOUNDNESS, 1.3),
     ("merge", SOUNDNESS, 1.3),
+    ("leave", SOUNDNESS, 1.3),
     ("pause_entries_1023", SOUNDNESS, 1.3),
     ("pause_merges_1023", SOUNDNESS, 1.3),
     ("resume_entries_1023", SOUNDNESS, 3.0),
@@ -331,7 +332,7 @@ fn bench_calls(verdict: &mut Verdict) {
 // ---------------------------------------------------------------- a room in which every command is accepted
 
 /// A room of 1,000 versions and 15 consoles, and an accepted command of each kind in it.
-fn busy_room() -> (Room, [(&'static str, Vec<u8>); 4]) {
+fn busy_room() -> (Room, [(&'static str, Vec<u8>); 5]) {
     let mut room = full_room("merges", 990);
     room.capacity = 1024;
     let absent = leaving_console(&mut room);
@@ -346,6 +347,7 @@ fn busy_room() -> (Room, [(&'static str, Vec<u8>); 4]) {
         ("merge", merge),
         ("fork", vec![code::FORK, absent, 0]),
         ("fast_forward", vec![code::FAST_FORWARD, follower, 0]),
+        ("leave", vec![code::LEAVE, follower]),
     ];
     (room, commands)
 }
@@ -365,12 +367,13 @@ fn accepted_merge(room: &Room) -> Vec<u8> {
         .expect("some two neighbours can merge")
 }
 
-/// Merges some console into another and takes it out of the room: its versions still lead to a head.
+/// Merges some console into another, after which it leaves.
 fn leaving_console(room: &mut Room) -> u8 {
     let merge = accepted_merge(room);
     *room = after(room, &merge).expect("the merge is accepted");
-    room.heads[usize::from(merge[2])] = None;
-    merge[2]
+    let leaving = merge[2];
+    *room = after(room, &[code::LEAVE, leaving]).expect("the receiver is ahead of it");
+    leaving
 }
 
 fn main() -> ExitCode {
