@@ -7,3 +7,4 @@ pub mod Accepted
 pub mod Steps
 pub mod Counters
 pub mod Origins
+pub mod Leaving

@@ -1,9 +1,9 @@
 -- A leave is accepted exactly where the console may leave, and then the console is gone: its row and column are cleared, it is absent, and
--- whoever remains is shown what it was shown.
+-- whoever remains is shown what it was shown, and can merge and fast-forward as it could.
 -- Assumes nothing.
 use Prim.Native.Nat.{ℕ, _+_, _<_}
-use mathlib.Core.Path.{_≡_, refl, sym, _∙_, ap, subst}
-use mathlib.Core.Bool.{Bool, true, false, cond, not, _&&_, _||_}
+use mathlib.Core.Path.{_≡_, refl, sym, _∙_, ap}
+use mathlib.Core.Bool.{true, false, cond, not, _&&_, _||_}
 use mathlib.Core.List.{List, [], _∷_}
 use mathlib.Core.Option.{Option, none}
 use mathlib.Core.Logic.{inl, inr}
@@ -16,7 +16,6 @@ use borrow.Author.Tests.{eqb-true, eqb-false, ne-eqb, lt-ltb, not-false}
 use Rattle.laws.proofs.Logic.{clash, decide, refuted, and-i, not-i, or-r, or-split, or-none-l, or-none-r}
 use Rattle.buffer.specs.Field.{word, overwrite}
 use Rattle.board.specs.Board.{stripCount, cellCount}
-use Rattle.graph.specs.declared.Console.{Console}
 use Rattle.graph.specs.Below.{countBelow}
 use Rattle.graph.specs.Graph.{versionCount, ancestor, isEntry}
 use Rattle.graph.proofs.Below.{some-at, some-of}
@@ -27,10 +26,10 @@ use Rattle.command.specs.declared.Command.{Command}
 use Rattle.command.specs.declared.Command.the-variants.{Fork, Leave}
 use Rattle.command.specs.declared.Decoded.{Decoded}
 use Rattle.command.specs.declared.Decoded.the-variants.{Whole, Refused}
-use Rattle.command.specs.Code.{consoleCount, forkCommand, leaveCommand, kindOf, shapeOf, operandsOf, numberAt}
+use Rattle.command.specs.Code.{consoleCount, forkCommand, mergeCommand, fastForwardCommand, leaveCommand, kindOf, shapeOf, operandsOf, numberAt}
 use Rattle.command.specs.Decode.{decode, commandBytes}
 use Rattle.command.specs.Decoding.{InRange}
-use Rattle.command.proofs.Ranges.{whole-told, refused-told, decode-range}
+use Rattle.command.proofs.Ranges.{commandIn, whole-told, refused-told, decode-range}
 use Rattle.command.proofs.Encoded.{bytes-decode}
 use Rattle.room.specs.Room.{Room, present, head, common, heardCount}
 use Rattle.room.specs.Origin.{origin}
@@ -40,13 +39,14 @@ use Rattle.room.proofs.Sound.{Sound, present-console, facts-sound}
 use Rattle.room.proofs.Moves.{number, slot-other, left-absent, left-sound}
 use Rattle.room.proofs.Accepted.{fork-free, some-descends, leave-accepted, leave-free}
 use Rattle.room.proofs.Steps.{head-named, common-meet}
+use Rattle.room.proofs.Leaving.{left-merge, left-forward}
 use Rattle.store.specs.Layout.{commonAt, commonField, encode, roomIn, holdsStore}
 use Rattle.store.proofs.RoundTrip.{room-encode, holds-encode}
 use Rattle.store.proofs.Joined.{placed}
 use Rattle.store.proofs.Moved.{left-row, left-column}
 use Rattle.store.proofs.Whole.{whole-sound, whole-front}
 use Rattle.update.specs.Commons.{putOthers, putHead}
-use Rattle.update.proofs.CommonsTable.{Clear, table-length, table-kept}
+use Rattle.update.proofs.CommonsTable.{table-length, table-kept}
 use Rattle.update.proofs.MovedStore.{left-store}
 use Rattle.unit.specs.Calls.{Outcome, replied, written, commandTests, stepOutcome, commandOutcome, boardOutcome, heardReply, commonReply, originReply, command}
 use Rattle.unit.specs.Journal.{Journal, afterCommand, afterAccepted, feed}
@@ -251,7 +251,18 @@ module _ (store : List ℕ) (c : ℕ) (a : Accepted store c) where
   unfolding originReply origin
   origins-stay d k cell ne = rw (after-held, after-room, a .held, slot-other r c none d ne .slot)
 
+  -- bytes whose command the room refuses as it did are answered as they were
+  reply-stays : (bytes : List ℕ) → stepRefusal next (commandIn bytes) ≡ stepRefusal r (commandIn bytes)
+      → commandOutcome after bytes .reply ≡ commandOutcome store bytes .reply
+  unfolding commandOutcome stepOutcome
+  reply-stays bytes same = go (decode bytes) refl
+    where
+      go : (d : Decoded) → decode bytes ≡ d → stepOutcome after d .reply ≡ stepOutcome store d .reply
+      go (Refused n) e = refl
+      go (Whole k) e = rw (held-refused after k after-held, after-room, held-refused store k (a .held), ← whole-told bytes k e .1, same)
+
   gone : Gone store c after
+  unfolding kindOf shapeOf operandsOf numberAt
   gone = record {
     sound = after-held;
     sameLength = ap length (sym cleared) ∙ table-length store c (λ k. 0) 0;
@@ -261,6 +272,10 @@ module _ (store : List ℕ) (c : ℕ) (a : Accepted store c) where
     heard = heard-stays;
     commons = commons-stay;
     origins = origins-stay;
+    merges = λ d e dc ec.
+        reply-stays (mergeCommand ∷ d ∷ e ∷ []) (left-merge r s c (a .range .0) (a .other) (record { 0 = d }) (record { 0 = e }) dc ec);
+    fastForwards = λ d e dc ec.
+        reply-stays (fastForwardCommand ∷ d ∷ e ∷ []) (left-forward r s c (a .range .0) (a .other) (record { 0 = d }) (record { 0 = e }) dc ec);
   }
 
 -- a slot that is emptied, whatever list it is in

@@ -10,7 +10,7 @@ use lib.Dec.{eqb}
 use lib.ListN.{length, getD}
 use Rattle.board.specs.Board.{stripCount, cellCount}
 use Rattle.graph.specs.Below.{someBelow}
-use Rattle.command.specs.Code.{consoleCount, forkCommand, leaveCommand}
+use Rattle.command.specs.Code.{consoleCount, forkCommand, mergeCommand, fastForwardCommand, leaveCommand}
 use Rattle.room.specs.Room.{present}
 use Rattle.store.specs.Layout.{commonAt, roomIn, holdsStore}
 use Rattle.unit.specs.Calls.{Outcome, replied, commandOutcome, boardOutcome, heardReply, commonReply, originReply, command}
@@ -59,6 +59,11 @@ pub record Gone (store : List ℕ) (c : ℕ) (after : List ℕ) : Type 0 where
   pub heard : (d : ℕ) → (d ≡ c → ⊥) → heardReply after d ≡ heardReply store d
   pub commons : (d e : ℕ) → (d ≡ c → ⊥) → (e ≡ c → ⊥) → commonReply after d e ≡ commonReply store d e
   pub origins : (d k cell : ℕ) → (d ≡ c → ⊥) → originReply after d k cell ≡ originReply store d k cell
+  -- and can merge and fast-forward as it could
+  pub merges : (d e : ℕ) → (d ≡ c → ⊥) → (e ≡ c → ⊥)
+      → commandOutcome after (mergeCommand ∷ d ∷ e ∷ []) .reply ≡ commandOutcome store (mergeCommand ∷ d ∷ e ∷ []) .reply
+  pub fastForwards : (d e : ℕ) → (d ≡ c → ⊥) → (e ≡ c → ⊥)
+      → commandOutcome after (fastForwardCommand ∷ d ∷ e ∷ []) .reply ≡ commandOutcome store (fastForwardCommand ∷ d ∷ e ∷ []) .reply
 
 -- "and the book of demand 3 no head": what is fed with a leave that answered 0 has no head for the console, and is otherwise as it was
 pub record Dropped (j : Journal) (c : ℕ) (fed : Journal) : Type 0 where
