@@ -5,7 +5,7 @@ use Prim.Native.Nat.{ℕ, _≤_, _<_}
 use mathlib.Core.Path.{_≡_, refl, sym, _∙_, ap}
 use mathlib.Core.Bool.{Bool, true, false, cond}
 use mathlib.Core.List.{List, [], _∷_, _++_, map}
-use mathlib.Core.Option.{Option, none, some}
+use mathlib.Core.Option.{Option, none, some, Option·getD}
 use lib.Dec.{eqb}
 use lib.ListN.{length, drop}
 use lib.Seq.{drop-at}
@@ -13,7 +13,7 @@ use borrow.Author.Tests.{eqb-true, lt-ltb, not-false}
 use Rattle.buffer.specs.Field.{overwrite}
 use Rattle.board.specs.Board.{stripCount, cellCount, cellOf}
 use Rattle.laws.proofs.Logic.{either}
-use Rattle.graph.proofs.Meet.{meet-self}
+use Rattle.graph.specs.Graph.{isSome}
 use Rattle.refusal.specs.Refusal.{firstRefusal}
 use Rattle.command.specs.Code.{consoleCount}
 use Rattle.command.specs.declared.Command.{Command}
@@ -28,7 +28,7 @@ use Rattle.room.specs.Sound.{soundRoom}
 use Rattle.room.specs.Origin.{origin}
 use Rattle.room.specs.Step.{stepRefusal, step}
 use Rattle.room.proofs.Sound.{present-console, sound-facts}
-use Rattle.room.proofs.Steps.{common-meet, step-sound, fresh-sound}
+use Rattle.room.proofs.Steps.{common-self, step-sound, fresh-sound}
 use Rattle.store.specs.Layout.{storeSize, encode}
 use Rattle.store.proofs.RoundTrip.{encode-length, room-encode, holds-encode}
 use Rattle.tape.specs.Tape.{tapeOf}
@@ -98,7 +98,7 @@ module _ (r : Room) (rest : List ℕ) (s : soundRoom r ≡ true) where
   unfolding commonReply firstRefusal
   head-told c l none e = rw (holds-encode r rest s, room-encode r rest s, lt-ltb c consoleCount l, e)
   head-told c l (some v) e =
-      let own : common r c c ≡ v = common-meet r c c (rw e (meet-self (r .versions) v (sound-facts r s .named c v e))) in
+      let own : common r c c ≡ v = common-self r (sound-facts r s) c (ap isSome e) ∙ ap (λ (o : Option ℕ). Option·getD o 0) e in
       rw (holds-encode r rest s, room-encode r rest s, lt-ltb c consoleCount l, own, e)
 
   head-called : (c : ℕ) → c < consoleCount → commonReply (encode r ++ rest) c c ≡ headReply (headOf r c)

@@ -1,4 +1,4 @@
--- What is true of a room where a command on it is accepted: the case of none of its refusals is there. And where a fork and a leave are.
+-- What is true of a room where a command on it is accepted: the case of none of its refusals is there; and when a fork and a leave are accepted.
 -- Assumes nothing.
 use Prim.Native.Nat.{ℕ, _<_}
 use mathlib.Core.Path.{_≡_, refl}
@@ -25,13 +25,13 @@ pub fork-accepted : (r : Room) (new old : Console) → stepRefusal r (Fork new o
 unfolding stepRefusal stateTests
 fork-accepted r new old h =
     let t = none-applies _ refl h in
-    let free : present r (new .0) ≡ false = t .1 .0 in
-    (not-false _ (t .0), λ p. clash p free)
+    let away : present r (new .0) ≡ false = t .1 .0 in
+    (not-false _ (t .0), λ p. clash p away)
 
 -- and the number of an absent console can be forked from any that is present
-pub fork-free : (r : Room) (new old : Console) → present r (new .0) ≡ false → present r (old .0) ≡ true → stepRefusal r (Fork new old) ≡ 0
+pub fork-accepts : (r : Room) (new old : Console) → present r (new .0) ≡ false → present r (old .0) ≡ true → stepRefusal r (Fork new old) ≡ 0
 unfolding stepRefusal stateTests firstRefusal
-fork-free r new old gone here = rw (gone, here)
+fork-accepts r new old away here = rw (away, here)
 
 pub forward-accepted : (r : Room) (a b : Console) → stepRefusal r (FastForward a b) ≡ 0 → MayMove r (a .0) (b .0)
 unfolding stepRefusal stateTests
@@ -54,7 +54,7 @@ pub record MayMerge (r : Room) (a b : ℕ) : Type 0 where
   pub ahead : behind r b a ≡ false
   pub back : behind r a b ≡ false
   pub unsplit : someThirdSplits r a b ≡ false
-  pub left : versionCount (r .versions) < r .settings .capacity
+  pub free : versionCount (r .versions) < r .settings .capacity
 
 pub merge-accepted : (r : Room) (a b : Console) → stepRefusal r (Merge a b) ≡ 0 → MayMerge r (a .0) (b .0)
 unfolding stepRefusal stateTests
@@ -70,14 +70,14 @@ merge-accepted r a b h =
       ahead = fourteen .0;
       back = fifteen .0;
       unsplit = seventeen .0;
-      left = ltb-true _ _ (not-false _ (seventeen .1 .0));
+      free = ltb-true _ _ (not-false _ (seventeen .1 .0));
     }
 
 -- another console whose head descends from that of c: what a leave of c asks for
 pub record Descends (r : Room) (c d : ℕ) : Type 0 where
   pub here : present r d ≡ true
   pub other : d ≡ c → ⊥
-  pub behind : ancestor (r .versions) (head r c) (head r d) ≡ true
+  pub descends : behind r c d ≡ true
 
 pub some-descends : (r : Room) (c : ℕ) → someOtherDescends r c ≡ true → (d : ℕ) × Descends r c d
 some-descends r c h =
@@ -88,7 +88,7 @@ some-descends r c h =
       record {
         here = and-l (present r d) _ two;
         other = eqb-false _ _ (not-e _ (and-r (present r d) _ two));
-        behind = and-r (present r d && not (eqb d c)) _ (found .2);
+        descends = and-r (present r d && not (eqb d c)) _ (found .2);
       },
     )
 
@@ -98,6 +98,6 @@ leave-accepted r c h =
     let t = none-applies _ refl h in
     (not-false _ (t .0), not-false _ (t .1 .0))
 
-pub leave-free : (r : Room) (c : Console) → present r (c .0) ≡ true → someOtherDescends r (c .0) ≡ true → stepRefusal r (Leave c) ≡ 0
+pub leave-accepts : (r : Room) (c : Console) → present r (c .0) ≡ true → someOtherDescends r (c .0) ≡ true → stepRefusal r (Leave c) ≡ 0
 unfolding stepRefusal stateTests firstRefusal
-leave-free r c here other = rw (here, other)
+leave-accepts r c here other = rw (here, other)

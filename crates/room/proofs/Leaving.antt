@@ -81,7 +81,7 @@ module _ (r : Room) (s : Sound r) where
           let still : (j : ℕ) → present r j ≡ true → (j ≡ c → ⊥) → splits r a b j ≡ true → someThirdSplits (moved r c none) a b ≡ true =
           λ j p jc t. some-of consoleCount (splits (moved r c none) a b) j (present-console r j (s .sixteen) p) (splits-same j jc ∙ t) in
           elim (ℕ-discrete (k .0) c) [
-            | yes e ↦ still (d .0) (d .1 .here) (d .1 .other) (descendant-splits c (d .0) (d .1 .here) (d .1 .behind) a b pa pb (rw e at (k .2)))
+            | yes e ↦ still (d .0) (d .1 .here) (d .1 .other) (descendant-splits c (d .0) (d .1 .here) (d .1 .descends) a b pa pb (rw e at (k .2)))
             | no kc ↦ still (k .0) (split-parts r a b (k .0) (k .2) .pd) kc (k .2)
           ]
 

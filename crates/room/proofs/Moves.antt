@@ -55,10 +55,11 @@ module _ (r : Room) (s : Sound r) (c : ℕ) (l : c < consoleCount) (h : Option �
   source : (k : ℕ) → (j : ℕ) × Follows (moved r c h) r k j
   source k = elim (ℕ-discrete k c) [ yes e ↦ (d, record { slot = ap (headOf (moved r c h)) e ∙ slot-self .slot }) | no ne ↦ (k, slot-other r c h k ne) ]
 
-  -- a version behind a head is behind one still, where c's head is, and console 0 is still there
+  -- version v is behind a head of the room after
   abbrev Behind : ℕ → Type 0
   Behind v = (x : ℕ) × (present (moved r c h) x ≡ true) × (ancestor (r .versions) v (head (moved r c h) x) ≡ true)
 
+  -- where c's own head is, and console 0 is there, the room is sound
   module _ (own : present r c ≡ true → Behind (head r c)) (first : present (moved r c h) 0 ≡ true) where
     behind-one : (v k : ℕ) → present r k ≡ true → ancestor (r .versions) v (head r k) ≡ true → Behind v
     behind-one v k p a =
@@ -89,13 +90,12 @@ module _ (r : Room) (s : Sound r) (c : ℕ) (l : c < consoleCount) (h : Option �
     }
 
 -- console c on the head of console d, a present one
-module _ (r : Room) (s : Sound r) (c d : ℕ) (l : c < consoleCount) (q : present r d ≡ true)
-    (b : present r c ≡ true → ancestor (r .versions) (head r c) (head r d) ≡ true) where
-  onto : Follows (moved r c (headOf r d)) r c d
+module _ (r : Room) (s : Sound r) (c d : ℕ) (l : c < consoleCount) where
+  pub onto : Follows (moved r c (headOf r d)) r c d
   onto = slot-self r s c l (headOf r d) d refl
 
-  pub moved-sound : Sound (moved r c (headOf r d))
-  moved-sound =
+  pub moved-sound : present r d ≡ true → (present r c ≡ true → ancestor (r .versions) (head r c) (head r d) ≡ true) → Sound (moved r c (headOf r d))
+  moved-sound q b =
       slot-sound r s c l (headOf r d) d refl
       (λ p. (c, there onto q, ap (ancestor (r .versions) (head r c)) (number onto) ∙ b p))
       (elim (ℕ-discrete 0 c)
@@ -107,11 +107,11 @@ module _ (r : Room) (s : Sound r) (c : ℕ) (l : c < consoleCount) where
   left-absent = ap isSome (head-set r c none (omega (arith, s .sixteen)))
 
   pub left-sound : 0 < c → someOtherDescends r c ≡ true → Sound (moved r c none)
-  left-sound home h =
+  left-sound not-0 h =
       let d = some-descends r c h in
       let f = slot-other r c none (d .0) (d .1 .other) in
       slot-sound r s c l none consoleCount (sym (no-head r consoleCount (s .sixteen) (omega arith)))
-      (λ p. (d .0, there f (d .1 .here), ap (ancestor (r .versions) (head r c)) (number f) ∙ d .1 .behind))
+      (λ p. (d .0, there f (d .1 .here), ap (ancestor (r .versions) (head r c)) (number f) ∙ d .1 .descends))
       (there (slot-other r c none 0 (omega arith)) (s .first))
 
 -- console c on a new version: every other console follows itself
@@ -207,7 +207,7 @@ module _ (r : Room) (s : Sound r) (c : ℕ) (p : present r c ≡ true) (n : Node
 
     pub grown-sound : versionCount (r .versions) < r .settings .capacity → Sound (grown r c n)
     unfolding everyVersion
-    grown-sound left = record {
+    grown-sound free = record {
       lower = and-i (parentsLower (r .versions) n) _ lower (s .lower);
       based = and-i (mergeHasBase (r .versions) n) _ based (s .based);
       sixteen = length-set (r .heads) c (some (versionCount (r .versions))) ∙ s .sixteen;
@@ -216,6 +216,6 @@ module _ (r : Room) (s : Sound r) (c : ℕ) (p : present r c ≡ true) (n : Node
       first = grown-first;
       behind = grown-behind;
       settings = s .settings;
-      fits = left;
+      fits = free;
       ranged = and-i (entryInRange (r .versions) n) _ ranged (s .ranged);
     }

@@ -17,7 +17,7 @@ use Rattle.graph.specs.Below.{everyBelow, someBelow, highestBelow}
 use Rattle.graph.proofs.Below.{at, of, some-at, some-of}
 use Rattle.graph.proofs.Parent.{sole, receiver, giver}
 use Rattle.graph.proofs.Ancestor.{ancestor-above, ancestor-self}
-use Rattle.graph.proofs.Meet.{Meet, meet-found, meet-number, meet-sym, meet-behind}
+use Rattle.graph.proofs.Meet.{Meet, meet-found, meet-number, meet-self, meet-sym, meet-behind}
 use Rattle.graph.specs.declared.Console.{Console}
 use Rattle.command.specs.declared.Command.{Command}
 use Rattle.command.specs.declared.Command.the-variants.{Fork, Entry, Merge, FastForward, Leave}
@@ -51,13 +51,13 @@ leave-sound : (r : Room) → Sound r → (c : Console) → InRange (Leave c) →
 unfolding step
 leave-sound r s c range h = left-sound r s (c .0) (range .0) (range .1) (leave-accepted r c h .1)
 
--- an entry on the head of a present console, where a version is left
+-- an entry on the head of a present console, where a version is free
 pub entry-grown : (r : Room) → Sound r → (c code k x : ℕ) → present r c ≡ true → entryInRange (r .versions) (entry (head r c) code k x) ≡ true
     → versionCount (r .versions) < r .settings .capacity → Sound (grown r c (entry (head r c) code k x))
-entry-grown r s c code k x p range left =
+entry-grown r s c code k x p range free =
     grown-sound r s c p (entry (head r c) code k x) (lt-ltb _ _ (head-named r s c p)) refl range sole
     (λ d q ne. let m = s .meets c d p q in (m .0, entry-meet code k x (head-named r s d q) (m .1)))
-    left
+    free
 
 entry-sound : (r : Room) → Sound r → (c : Console) (code : ℕ) (k : Strip) (x : ℕ) → InRange (Entry c code k x) → stepRefusal r (Entry c code k x) ≡ 0
     → Sound (step r (Entry c code k x))
@@ -70,6 +70,9 @@ entry-sound r s c code k x range h =
 pub common-meet : (r : Room) (c d : ℕ) {m : ℕ} → Meet (r .versions) (head r c) (head r d) m → common r c d ≡ m
 unfolding common
 common-meet r c d b = meet-number b
+
+pub common-self : (r : Room) → Sound r → (c : ℕ) → present r c ≡ true → common r c c ≡ head r c
+common-self r s c p = common-meet r c c (meet-self (r .versions) (head r c) (head-named r s c p))
 
 -- what it says that console d splits two others
 module _ (r : Room) (a b d : ℕ) where
@@ -153,8 +156,8 @@ module _ (r : Room) (s : Sound r) (a b : ℕ) (pa : present r a ≡ true) (pb : 
 
   pub merge-grown : behind r b a ≡ false → behind r a b ≡ false → someThirdSplits r a b ≡ false → versionCount (r .versions) < r .settings .capacity
       → Sound (grown r a (merge (head r a) (head r b)))
-  merge-grown ahead back h left =
-      grown-sound r s a pa (merge (head r a) (head r b)) merge-lower (merge-based ahead back) refl receiver (meeting h) left
+  merge-grown ahead back h free =
+      grown-sound r s a pa (merge (head r a) (head r b)) merge-lower (merge-based ahead back) refl receiver (meeting h) free
 
   -- no third console splits the two exactly when every two consoles have a meet after the merge
   split-none : someThirdSplits r a b ≡ false → headsMeet (grown r a (merge (head r a) (head r b))) ≡ true
@@ -198,7 +201,7 @@ merge-sound : (r : Room) → Sound r → (a b : Console) → InRange (Merge a b)
 unfolding step
 merge-sound r s a b range h =
     let may = merge-accepted r a b h in
-    merge-grown r s (a .0) (b .0) (may .receiver) (may .giver) (may .ahead) (may .back) (may .unsplit) (may .left)
+    merge-grown r s (a .0) (b .0) (may .receiver) (may .giver) (may .ahead) (may .back) (may .unsplit) (may .free)
 
 -- each accepted command takes a sound room to a sound room
 pub step-sound : (r : Room) (c : Command) → soundRoom r ≡ true → InRange c → stepRefusal r c ≡ 0 → soundRoom (step r c) ≡ true

@@ -1,5 +1,5 @@
--- The table of common versions after a console moved (to another's head, to a new entry, to a merge) or left. Where it moved, its fields against the other consoles
--- are the higher of its own and the giver's before, as the later of two common versions has the higher number.
+-- The table of common versions after a console moved (to another's head, to a new entry, to a merge) or left. Where it moved, its fields against
+-- the other consoles are the higher of its own and the giver's before, as the later of two common versions has the higher number.
 -- Assumes nothing.
 use mathlib.Core.Path.{_≡_, refl, sym, _∙_, ap, subst₂}
 use mathlib.Core.Bool.{Bool, true, false}
@@ -17,7 +17,7 @@ use Rattle.command.specs.Code.{consoleCount}
 use Rattle.room.specs.Room.{Room, headOf, present, head}
 use Rattle.room.specs.Step.{behind, someThirdSplits, moved, grown}
 use Rattle.room.proofs.Sound.{Sound}
-use Rattle.room.proofs.Moves.{Follows, there, back, number, slot-self, slot-other, moved-sound, left-absent, new-head, new-number, kept}
+use Rattle.room.proofs.Moves.{Follows, there, back, number, onto, slot-other, moved-sound, left-absent, new-head, new-number, kept}
 use Rattle.room.proofs.NewMeets.{entry-meet, merge-meet-receiver, merge-meet-giver, merge-meet-ordered}
 use Rattle.room.proofs.Steps.{head-named, meeting}
 use Rattle.store.specs.Layout.{commonField}
@@ -76,15 +76,12 @@ module _ (r : Room) (s : Sound r) (c d : ℕ) (l : c < consoleCount) (q : presen
   abbrev after : Room
   after = moved r c (headOf r d)
 
-  onto : Follows after r c d
-  onto = slot-self r s c l (headOf r d) d refl
-
   pub moved-self : commonField after c c ≡ commonField r d d
-  moved-self = sym (field-is (follow-field onto onto (λ u v m w. w) (sound-field r s d d)))
+  moved-self = sym (field-is (follow-field (onto r s c d l) (onto r s c d l) (λ u v m w. w) (sound-field r s d d)))
 
   pub moved-row : (k : ℕ) → (k ≡ c → ⊥) → commonField after c k ≡ max (commonField r c k) (commonField r d k)
   moved-row k ne =
-      let e = field-is (follow-field onto (slot-other r c (headOf r d) k ne) (λ u v m w. w) (sound-field r s d k)) in
+      let e = field-is (follow-field (onto r s c d l) (slot-other r c (headOf r d) k ne) (λ u v m w. w) (sound-field r s d k)) in
       omega (arith, field-behind r s c d k q b)
 
   pub moved-column : (k : ℕ) → (k ≡ c → ⊥) → commonField after k c ≡ max (commonField r c k) (commonField r d k)

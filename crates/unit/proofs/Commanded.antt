@@ -8,12 +8,14 @@ use Rattle.refusal.specs.Refusal.{firstRefusal}
 use Rattle.command.specs.declared.Command.{Command}
 use Rattle.command.specs.declared.Decoded.{Decoded}
 use Rattle.command.specs.declared.Decoded.the-variants.{Whole, Refused}
-use Rattle.command.specs.Decode.{decode, refusalOf}
+use Rattle.command.specs.Decode.{decode, refusalOf, commandBytes}
+use Rattle.command.specs.Decoding.{InRange}
 use Rattle.command.proofs.Ranges.{refused-told}
-use Rattle.room.specs.Step.{stepRefusal}
-use Rattle.store.specs.Layout.{roomIn, holdsStore}
+use Rattle.command.proofs.Encoded.{bytes-decode}
+use Rattle.room.specs.Step.{stepRefusal, step}
+use Rattle.store.specs.Layout.{encode, roomIn, holdsStore}
 use Rattle.step.specs.Outcome.{afterStep}
-use Rattle.unit.specs.Calls.{replied, commandTests, stepOutcome, commandOutcome}
+use Rattle.unit.specs.Calls.{replied, written, commandTests, stepOutcome, commandOutcome}
 use Rattle.unit.proofs.Answered.{Went, written-refused}
 
 -- the reply and the store's bytes are those of the call
@@ -28,6 +30,12 @@ refused-as s d m n found told number = ap Refused (number ∙ ap refusalOf told)
 pub held-refused : (store : List ℕ) (c : Command) → holdsStore store ≡ true → firstRefusal (commandTests store c) ≡ stepRefusal (roomIn store) c
 unfolding firstRefusal stepRefusal
 held-refused store c h = rw h
+
+-- a command in range on bytes that hold a store, which its room does not refuse
+pub carried-out : (store : List ℕ) (c : Command) → InRange c → holdsStore store ≡ true → stepRefusal (roomIn store) c ≡ 0
+    → commandOutcome store (commandBytes c) ≡ written 0 0 (encode (step (roomIn store) c)) store
+unfolding commandOutcome stepOutcome
+carried-out store c range held unrefused = rw (bytes-decode c range, held-refused store c held, unrefused)
 
 module _ (store command : List ℕ) where
   pub undecoded : (n : ℕ) → Refused n ≡ decode command → Answers store command n store

@@ -37,7 +37,7 @@ use Rattle.unit.specs.Convergence.{Common, Origin, Converged, Demand3}
 use Rattle.unit.proofs.Reading.{leads-ancestor, made-node, entered-entry, call-entry}
 use Rattle.unit.proofs.Matched.{journalOf, matched}
 use Rattle.unit.proofs.Answered.{Allowed, pair-answered, Askable, origin-answered}
-use Rattle.unit.proofs.Leaving.{absent-console}
+use Rattle.unit.proofs.Absent.{absent-console}
 
 -- what the journal of a room says is what the room says
 holds-ancestor : (r : Room) (v e : ℕ) → holds (journalOf r) v e ≡ (isEntry (r .versions) e && ancestor (r .versions) e v)

@@ -5,30 +5,25 @@ use Prim.Native.Nat.{ℕ, _+_, _<_}
 use mathlib.Core.Path.{_≡_, refl, sym, _∙_, ap}
 use mathlib.Core.Bool.{true, false, cond, not, _&&_, _||_}
 use mathlib.Core.List.{List, [], _∷_}
-use mathlib.Core.Option.{Option, none}
+use mathlib.Core.Option.{none}
 use mathlib.Core.Logic.{inl, inr}
 use native.Mathlib.Omega.{arith}
-use native.Mathlib.Decide.{decLt}
 use lib.Dec.{eqb}
-use lib.ListN.{length, getD, set, drop, length-set, List·getD-eq-default}
-use lib.Seq.{getD-set-same, getD-set-other}
-use borrow.Author.Tests.{eqb-true, eqb-false, ne-eqb, lt-ltb, not-false}
-use Rattle.laws.proofs.Logic.{clash, decide, refuted, and-i, not-i, or-r, or-split, or-none-l, or-none-r}
+use lib.ListN.{length, getD, drop}
+use borrow.Author.Tests.{eqb-true, eqb-false, ne-eqb, not-false}
+use Rattle.laws.proofs.Logic.{clash, decide, refuted, and-i, not-i, or-split, or-none-l, or-none-r}
 use Rattle.buffer.specs.Field.{word, overwrite}
-use Rattle.board.specs.Board.{stripCount, cellCount}
 use Rattle.graph.specs.Below.{countBelow}
 use Rattle.graph.specs.Graph.{versionCount, ancestor, isEntry}
 use Rattle.graph.proofs.Below.{some-at, some-of}
-use Rattle.graph.proofs.Meet.{meet-self, meet-behind}
-use Rattle.refusal.specs.Refusal.{firstRefusal}
+use Rattle.graph.proofs.Meet.{meet-behind}
 use Rattle.refusal.proofs.Refusals.{none-applies}
 use Rattle.command.specs.declared.Command.{Command}
-use Rattle.command.specs.declared.Command.the-variants.{Fork, Leave}
+use Rattle.command.specs.declared.Command.the-variants.{Leave}
 use Rattle.command.specs.declared.Decoded.{Decoded}
 use Rattle.command.specs.declared.Decoded.the-variants.{Whole, Refused}
-use Rattle.command.specs.Code.{consoleCount, forkCommand, mergeCommand, fastForwardCommand, leaveCommand, kindOf, shapeOf, operandsOf, numberAt}
+use Rattle.command.specs.Code.{consoleCount, mergeCommand, fastForwardCommand, kindOf, shapeOf, operandsOf, numberAt}
 use Rattle.command.specs.Decode.{decode, commandBytes}
-use Rattle.command.specs.Decoding.{InRange}
 use Rattle.command.proofs.Ranges.{commandIn, whole-told, refused-told, decode-range}
 use Rattle.command.proofs.Encoded.{bytes-decode}
 use Rattle.room.specs.Room.{Room, present, head, common, heardCount}
@@ -37,8 +32,8 @@ use Rattle.room.specs.Step.{otherDescends, someOtherDescends, stateTests, stepR
 use Rattle.room.specs.Sound.{soundRoom}
 use Rattle.room.proofs.Sound.{Sound, present-console, facts-sound}
 use Rattle.room.proofs.Moves.{number, slot-other, left-absent, left-sound}
-use Rattle.room.proofs.Accepted.{fork-free, some-descends, leave-accepted, leave-free}
-use Rattle.room.proofs.Steps.{head-named, common-meet}
+use Rattle.room.proofs.Accepted.{some-descends, leave-accepted, leave-accepts}
+use Rattle.room.proofs.Steps.{common-meet, common-self}
 use Rattle.room.proofs.Leaving.{left-merge, left-forward}
 use Rattle.store.specs.Layout.{commonAt, commonField, encode, roomIn, holdsStore}
 use Rattle.store.proofs.RoundTrip.{room-encode, holds-encode}
@@ -48,49 +43,13 @@ use Rattle.store.proofs.Whole.{whole-sound, whole-front}
 use Rattle.update.specs.Commons.{putOthers, putHead}
 use Rattle.update.proofs.CommonsTable.{table-length, table-kept}
 use Rattle.update.proofs.MovedStore.{left-store}
+use Rattle.unit.specs.declared.Reply.{Reply}
 use Rattle.unit.specs.Calls.{Outcome, replied, written, commandTests, stepOutcome, commandOutcome, boardOutcome, heardReply, commonReply, originReply, command}
-use Rattle.unit.specs.Journal.{Journal, afterCommand, afterAccepted, feed}
-use Rattle.unit.specs.Leaving.{leaveOutcome, MayLeave, Absent, inField, inRowOrColumn, Gone, Dropped, ConsolesLeave}
-use Rattle.unit.proofs.Commanded.{held-refused}
-use Rattle.unit.proofs.Answered.{Allowed, pair-answered, pair-told}
-
--- a command in range on bytes that hold a store, which its room does not refuse
-carried-out : (store : List ℕ) (c : Command) → InRange c → holdsStore store ≡ true → stepRefusal (roomIn store) c ≡ 0
-    → commandOutcome store (commandBytes c) ≡ written 0 0 (encode (step (roomIn store) c)) store
-unfolding commandOutcome stepOutcome
-carried-out store c range held free = rw (bytes-decode c range, held-refused store c held, free)
-
--- an absent console
-module _ (store : List ℕ) (held : holdsStore store ≡ true) (c : ℕ) (cl : c < consoleCount) (gone : present (roomIn store) c ≡ false) where
-  no-common : (d : ℕ) → d < consoleCount → (commonReply store c d ≡ replied 12 0) × (commonReply store d c ≡ replied 12 0)
-  unfolding commonReply firstRefusal
-  no-common d dl =
-      let late : not (present (roomIn store) d) || true ≡ true = or-r (not (present (roomIn store) d)) true refl in (
-        rw (lt-ltb c consoleCount cl, lt-ltb d consoleCount dl, held, gone),
-        rw (lt-ltb c consoleCount cl, lt-ltb d consoleCount dl, held, gone, late),
-      )
-
-  no-board : (output : List ℕ) → boardOutcome store c output .reply ≡ replied 12 0
-  unfolding boardOutcome firstRefusal
-  no-board output = rw (lt-ltb c consoleCount cl, held, gone)
-
-  no-heard : heardReply store c ≡ replied 12 0
-  unfolding heardReply firstRefusal
-  no-heard = rw (lt-ltb c consoleCount cl, held, gone)
-
-  no-origin : (k cell : ℕ) → k < stripCount → cell < cellCount → originReply store c k cell ≡ replied 12 0
-  unfolding originReply firstRefusal
-  no-origin k cell kl l = rw (lt-ltb c consoleCount cl, lt-ltb k stripCount kl, lt-ltb cell cellCount l, held, gone)
-
-  forkable : (old : ℕ) → present (roomIn store) old ≡ true → commandOutcome store (forkCommand ∷ c ∷ old ∷ []) .reply ≡ replied 0 0
-  unfolding commandBytes
-  forkable old here =
-      let range : InRange (Fork (record { 0 = c }) (record { 0 = old })) = (cl, present-console (roomIn store) old (whole-sound store held .sixteen) here, λ e. clash (rw (sym e) at here) gone) in
-      ap (λ (o : Outcome). o .reply)
-      (carried-out store (Fork (record { 0 = c }) (record { 0 = old })) range held (fork-free (roomIn store) (record { 0 = c }) (record { 0 = old }) gone here))
-
-  pub absent-console : Absent store c
-  absent-console = record { noCommon = no-common; noBoard = no-board; noHeard = no-heard; noOrigin = no-origin; forkable = forkable }
+use Rattle.unit.specs.Journal.{Journal, moveTo, afterCommand, afterAccepted, feed}
+use Rattle.unit.specs.Leaving.{leaveBytes, leaveOutcome, MayLeave, inField, inRowOrColumn, Gone, ConsolesLeave}
+use Rattle.unit.proofs.Commanded.{held-refused, carried-out}
+use Rattle.unit.proofs.Answered.{Allowed, pair-allowed, pair-answered, pair-told}
+use Rattle.unit.proofs.Absent.{absent-console}
 
 -- what is true where a leave is accepted
 record Accepted (store : List ℕ) (c : ℕ) : Type 0 where
@@ -105,26 +64,26 @@ module _ (store : List ℕ) (c : ℕ) where
 
   accepted-is : Accepted store c → leaveOutcome store c ≡ written 0 0 (encode (moved (roomIn store) c none)) store
   unfolding commandBytes step
-  accepted-is a = carried-out store leaving (a .range) (a .held) (leave-free (roomIn store) (record { 0 = c }) (a .here) (a .other))
+  accepted-is a = carried-out store leaving (a .range) (a .held) (leave-accepts (roomIn store) (record { 0 = c }) (a .here) (a .other))
 
   -- a whole command that begins with these bytes is the leave
-  accepted-whole : decode (leaveCommand ∷ c ∷ []) ≡ Whole leaving → stepOutcome store (Whole leaving) .reply .answer ≡ 0 → Accepted store c
+  accepted-whole : decode (leaveBytes c) ≡ Whole leaving → stepOutcome store (Whole leaving) .reply .answer ≡ 0 → Accepted store c
   unfolding stepOutcome stateTests
   accepted-whole e h =
       let held = not-false _ (none-applies (commandTests store leaving) refl h .0) in
       let may = leave-accepted (roomIn store) (record { 0 = c }) (sym (held-refused store leaving held) ∙ h) in
-      record { range = decode-range (leaveCommand ∷ c ∷ []) leaving e; held = held; here = may .0; other = may .1 }
+      record { range = decode-range (leaveBytes c) leaving e; held = held; here = may .0; other = may .1 }
 
-  accepted-told : (d : Decoded) → decode (leaveCommand ∷ c ∷ []) ≡ d → stepOutcome store d .reply .answer ≡ 0 → Accepted store c
+  accepted-told : (d : Decoded) → decode (leaveBytes c) ≡ d → stepOutcome store d .reply .answer ≡ 0 → Accepted store c
   unfolding stepOutcome kindOf shapeOf operandsOf numberAt
-  accepted-told (Refused n) e h = absurd (omega (arith, refused-told (leaveCommand ∷ c ∷ []) n (sym e)))
+  accepted-told (Refused n) e h = absurd (omega (arith, refused-told (leaveBytes c) n (sym e)))
   accepted-told (Whole k) e h =
-      let same : leaving ≡ k = whole-told (leaveCommand ∷ c ∷ []) k e .1 in
+      let same : leaving ≡ k = whole-told (leaveBytes c) k e .1 in
       accepted-whole (e ∙ ap Whole (sym same)) (ap (λ (x : Command). stepOutcome store (Whole x) .reply .answer) same ∙ h)
 
   accepted : leaveOutcome store c .reply .answer ≡ 0 → Accepted store c
   unfolding commandOutcome
-  accepted h = accepted-told (decode (leaveCommand ∷ c ∷ [])) refl h
+  accepted h = accepted-told (decode (leaveBytes c)) refl h
 
   -- a console whose head is what it has in common with another may leave, and only such a one
   may-leave : Accepted store c → MayLeave store c
@@ -134,33 +93,32 @@ module _ (store : List ℕ) (c : ℕ) where
       let d = some-descends r c (a .other) in
       let asked : (k : ℕ) → present r k ≡ true → Allowed store c k =
       λ k p. record { first = a .range .0; second = present-console r k (s .sixteen) p; held = a .held; here = a .here; there = p } in
+      let own = pair-answered store c c (asked c (a .here)) in
+      let both : common r c (d .0) ≡ common r c c =
+      common-meet r c (d .0) (meet-behind (r .versions) (head r c) (head r (d .0)) (d .1 .descends)) ∙ sym (common-self r s c (a .here)) in
       record {
         notConsole0 = a .range .1;
+        here = ap (λ (x : Reply). x .answer) own;
         other = d .0;
         another = d .1 .other;
-        head = head r c;
-        itsHead = pair-answered store c c (asked c (a .here))
-            ∙ ap (replied 0) (common-meet r c c (meet-self (r .versions) (head r c) (head-named r s c (a .here))));
-        inCommon = pair-answered store c (d .0) (asked (d .0) (d .1 .here))
-            ∙ ap (replied 0) (common-meet r c (d .0) (meet-behind (r .versions) (head r c) (head r (d .0)) (d .1 .behind)));
+        inCommon = pair-answered store c (d .0) (asked (d .0) (d .1 .here)) ∙ ap (replied 0) both ∙ sym own;
       }
 
   may-accept : MayLeave store c → Accepted store c
+  unfolding commonReply
   may-accept m =
       let r = roomIn store in
       let d = m .other in
-      let own = pair-told store c c (m .head) (m .itsHead) in
-      let two = pair-told store c d (m .head) (m .inCommon) in
-      let here = own .0 .here in
+      let own = pair-allowed store c c refl (m .here) in
+      let s = whole-sound store (own .held) in
+      let two = pair-told store c d (common r c c) (m .inCommon ∙ pair-answered store c c own) in
       let there = two .0 .there in
-      let s = whole-sound store (own .0 .held) in
-      let found = s .meets c d here there in
-      let its : common r c c ≡ head r c = common-meet r c c (meet-self (r .versions) (head r c) (head-named r s c here)) in
-      let same : found .0 ≡ head r c = sym (common-meet r c d (found .1)) ∙ two .1 ∙ sym (own .1) ∙ its in
+      let found = s .meets c d (own .here) there in
+      let same : found .0 ≡ head r c = sym (common-meet r c d (found .1)) ∙ two .1 ∙ common-self r s c (own .here) in
       record {
-        range = (own .0 .first, m .notConsole0);
-        held = own .0 .held;
-        here = here;
+        range = (own .first, m .notConsole0);
+        held = own .held;
+        here = own .here;
         other = some-of consoleCount (otherDescends r c) d (two .0 .second)
             (and-i _ _ (and-i _ _ there (not-i _ (ne-eqb d c (m .another)))) (rw same at (found .1 .second)));
       }
@@ -214,8 +172,8 @@ module _ (store : List ℕ) (c : ℕ) (a : Accepted store c) where
         | inr e ↦ field-cleared d c i (found .1) (a .range .0) (left-column r s c (a .range .0) d) e
       ]
 
-  others-kept : (i : ℕ) → inRowOrColumn c i ≡ false → getD after i 0 ≡ getD store i 0
-  others-kept i f =
+  others-stay : (i : ℕ) → inRowOrColumn c i ≡ false → getD after i 0 ≡ getD store i 0
+  others-stay i f =
       let none-of : (d : ℕ) → d < consoleCount → inField c d i || inField d c i ≡ false =
       λ d l. refuted _ (λ t. clash (some-of consoleCount (λ d. inField c d i || inField d c i) d l t) f) in
       ap (λ (t : List ℕ). getD t i 0) (sym cleared)
@@ -225,10 +183,10 @@ module _ (store : List ℕ) (c : ℕ) (a : Accepted store c) where
       let column = outside-field d c i (or-none-r (inField c d i) _ (none-of d l)) in
       (row .0, row .1, column .0, column .1))
 
-  bytes-left : (i : ℕ) → getD after i 0 ≡ cond (inRowOrColumn c i) 0 (getD store i 0)
-  bytes-left i =
+  bytes-after : (i : ℕ) → getD after i 0 ≡ cond (inRowOrColumn c i) 0 (getD store i 0)
+  bytes-after i =
       elim (decide (inRowOrColumn c i))
-      [ inl t ↦ rw t (row-column-cleared i t) | inr f ↦ rw f (others-kept i f) ]
+      [ inl t ↦ rw t (row-column-cleared i t) | inr f ↦ rw f (others-stay i f) ]
 
   boards-stay : (d : ℕ) → (d ≡ c → ⊥) → (output : List ℕ) → boardOutcome after d output ≡ boardOutcome store d output
   unfolding boardOutcome
@@ -266,7 +224,7 @@ module _ (store : List ℕ) (c : ℕ) (a : Accepted store c) where
   gone = record {
     sound = after-held;
     sameLength = ap length (sym cleared) ∙ table-length store c (λ k. 0) 0;
-    bytes = bytes-left;
+    bytes = bytes-after;
     absent = absent-console after after-held c (a .range .0) (rw after-room (left-absent r s c (a .range .0)));
     boards = boards-stay;
     heard = heard-stays;
@@ -278,19 +236,9 @@ module _ (store : List ℕ) (c : ℕ) (a : Accepted store c) where
         reply-stays (fastForwardCommand ∷ d ∷ e ∷ []) (left-forward r s c (a .range .0) (a .other) (record { 0 = d }) (record { 0 = e }) dc ec);
   }
 
--- a slot that is emptied, whatever list it is in
-set-none : (xs : List (Option ℕ)) (c : ℕ) → getD (set xs c none) c none ≡ none
-set-none xs c =
-    elim (decLt c (length xs)) [
-      | yes l ↦ getD-set-same xs c none none l
-      | no ge ↦ List·getD-eq-default (set xs c none) none {n = c} (omega (arith, length-set xs c none))
-    ]
-
-dropped : (c : ℕ) → (c < consoleCount) × (0 < c) → (j : Journal) → Dropped j c (feed j (command (leaveCommand ∷ c ∷ [])) 0)
+dropped : (c : ℕ) → (c < consoleCount) × (0 < c) → (j : Journal) → feed j (command (leaveBytes c)) 0 ≡ moveTo j c none
 unfolding feed afterAccepted afterCommand commandBytes
-dropped c range j =
-    rw (bytes-decode (Leave (record { 0 = c })) range)
-    record { noHead = set-none (j .heads) c; heads = λ d ne. getD-set-other (j .heads) c d none none ne; versions = refl }
+dropped c range j = rw (bytes-decode (Leave (record { 0 = c })) range)
 
 pub consoles-leave : ConsolesLeave
 consoles-leave store c =

@@ -3,6 +3,7 @@ pub mod Commanded
 pub mod Taken
 pub mod Reading
 pub mod Matched
+pub mod Absent
 pub mod Leaving
 pub mod Convergence
 pub mod Traced

@@ -1,5 +1,6 @@
 pub mod Calls
 pub mod Traced
+pub mod Absent
 pub mod Journal
 pub mod Leaving
 pub mod Convergence

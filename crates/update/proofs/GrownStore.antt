@@ -46,7 +46,7 @@ unfolding common
 common-base r c d = refl
 
 -- a store that holds fewer versions than it may
-module _ (s : List ℕ) (t : holdsStore s ≡ true) (left : versionCount (roomIn s .versions) < roomIn s .settings .capacity) where
+module _ (s : List ℕ) (t : holdsStore s ≡ true) (free : versionCount (roomIn s .versions) < roomIn s .settings .capacity) where
   abbrev r : Room
   r = roomIn s
 
@@ -56,17 +56,17 @@ module _ (s : List ℕ) (t : holdsStore s ≡ true) (left : versionCount (roomIn
   abbrev n : ℕ
   n = versionCount g
 
-  pub left-small : versionCount (roomIn s .versions) < maxCapacity
-  left-small = omega (arith, capacity-range (r .settings) (whole-sound s t .settings))
+  pub free-small : versionCount (roomIn s .versions) < maxCapacity
+  free-small = omega (arith, capacity-range (r .settings) (whole-sound s t .settings))
 
-  pub left-fits : blockAt (suc (versionCount (roomIn s .versions))) ≤ length s
-  left-fits = omega (arith, whole-long s t)
+  pub free-fits : blockAt (suc (versionCount (roomIn s .versions))) ≤ length s
+  free-fits = omega (arith, whole-long s t)
 
   parts : Placed s r
   parts = placed r (whole-front s t)
 
-  left-standing : Standing s g
-  left-standing = record { versions = parts .versions; entries = parts .entries }
+  free-standing : Standing s g
+  free-standing = record { versions = parts .versions; entries = parts .entries }
 
   -- a version was appended, and counted
   module _ (a : List ℕ) (m : Node) (grew : Grew s a g m) where
@@ -103,14 +103,14 @@ module _ (s : List ℕ) (t : holdsStore s ≡ true) (left : versionCount (roomIn
     grown-store u c sound long table commons =
         let stays : (k : ℕ) → (countAt ≤ k → k < countAt + 2 → ⊥) → (commonsAt ≤ k → k < commonsEnd → ⊥) → getD u k 0 ≡ getD a k 0 =
         λ k o b. table k b ∙ count-kept k o in
-        let header = left-fits in
+        let header = free-fits in
         let whole = grew .long in
         let wide = rowFrom-length (isEntry (m ∷ g)) 0 rowSize in
         changed-store parts
         (record {
           settings = refl;
           more = omega arith;
-          fits = left;
+          fits = free;
           kept = λ k o. table k (λ x y. o .1 (omega arith) y) ∙ counted-kept k (o .0, λ x y. o .1 x (omega arith), o .2);
           count = stands-kept (put-stands a countAt (suc n) (omega arith)) (λ i x y. table i (omega arith));
           entries = stands-kept (grew .standing .entries) (λ i x y. stays i (omega arith) (omega arith));
@@ -131,7 +131,7 @@ module _ (s : List ℕ) (t : holdsStore s ≡ true) (left : versionCount (roomIn
 
       written-grew : Grew s written g e
       written-grew =
-          entry-grew s g left-standing (whole-sound s t .lower) left-small left-fits (head r c) code strip operand (head-named r (whole-sound s t) c p)
+          entry-grew s g free-standing (whole-sound s t .lower) free-small free-fits (head r c) code strip operand (head-named r (whole-sound s t) c p)
 
       abbrev now-counted : List ℕ
       now-counted = putWord written countAt (suc n)
@@ -149,7 +149,7 @@ module _ (s : List ℕ) (t : holdsStore s ≡ true) (left : versionCount (roomIn
       entry-commons : (j k : ℕ) → j < consoleCount → k < consoleCount → Stands after (commonAt j k) (word (commonField (grown r c e) j k))
       entry-commons j k jl kl =
           let sound = whole-sound s t in
-          let fits = left-fits in
+          let fits = free-fits in
           let long = counted-long written e written-grew in
           elim (ℕ-discrete j c) [
             | yes f ↦
@@ -171,7 +171,7 @@ module _ (s : List ℕ) (t : holdsStore s ≡ true) (left : versionCount (roomIn
           → u ≡ overwrite (encode (grown (roomIn s) c (entry (head (roomIn s) c) code strip operand))) s
       entered-store a b u n h en eh ea eb eu =
           rw (eu, eb, ea, add-one, en, eh)
-          (grown-store written e written-grew (putHead now-counted c (suc (versionCount g))) c (entry-grown r (whole-sound s t) c code strip operand p range left)
+          (grown-store written e written-grew (putHead now-counted c (suc (versionCount g))) c (entry-grown r (whole-sound s t) c code strip operand p range free)
           (put-length now-counted (commonAt c c) (suc (versionCount g)))
           (λ k o. put-other now-counted (commonAt c c) (suc (versionCount g)) k (λ x. o (omega arith) (omega arith)) (λ x. o (omega arith) (omega arith)))
           entry-commons)
@@ -187,14 +187,14 @@ module _ (s : List ℕ) (t : holdsStore s ≡ true) (left : versionCount (roomIn
 
       joined-grew : Grew s joined g m
       joined-grew =
-          merge-grew s g left-standing (whole-sound s t .lower) left-small left-fits (head r c) (head r d) (common r c d)
+          merge-grew s g free-standing (whole-sound s t .lower) free-small free-fits (head r c) (head r d) (common r c d)
           (head-named r (whole-sound s t) c p) (head-named r (whole-sound s t) d q) (common-base r c d)
 
       abbrev joined-counted : List ℕ
       joined-counted = putWord joined countAt (suc n)
 
-      header-left : headerSize ≤ length joined-counted
-      header-left = omega (arith, counted-long joined m joined-grew, whole-header s t)
+      header-fits : headerSize ≤ length joined-counted
+      header-fits = omega (arith, counted-long joined m joined-grew, whole-header s t)
 
       pub merged-store : (a b e u : List ℕ) (n h k l : ℕ) → n ≡ versionCount (roomIn s .versions) → h ≡ head (roomIn s) c → k ≡ head (roomIn s) d
           → l ≡ common (roomIn s) c d → a ≡ withMerge s n h k l → b ≡ putWord a countAt (n + 1) → e ≡ putOthers b c (joinedField b c d) consoleCount
@@ -205,8 +205,8 @@ module _ (s : List ℕ) (t : holdsStore s ≡ true) (left : versionCount (roomIn
           let field = joinedField joined-counted c d in
           let read = counted-read joined m joined-grew in
           rw (eu, ee, eb, ea, add-one, en, eh, ek, el)
-          (grown-store joined m joined-grew (putHead (putOthers joined-counted c field consoleCount) c new) c (merge-grown r sound c d p q ahead back split left)
+          (grown-store joined m joined-grew (putHead (putOthers joined-counted c field consoleCount) c new) c (merge-grown r sound c d p q ahead back split free)
           (table-length joined-counted c field new) (table-outside joined-counted c field new cl)
-          (table-stands joined-counted c field new cl header-left (commonField r) (commonField (grown r c m)) (counted-commons joined m joined-grew) (grown-self r sound c p m)
+          (table-stands joined-counted c field new cl header-fits (commonField r) (commonField (grown r c m)) (counted-commons joined m joined-grew) (grown-self r sound c p m)
           (λ k kl kc. rw (read c k cl kl, read d k dl kl) (merge-row r sound c d p q split k kc))
           (λ k kl kc. rw (read c k cl kl, read d k dl kl) (merge-column r sound c d p q split k kc)) (grown-other r sound c p m)))

@@ -25,12 +25,13 @@ use Rattle.store.proofs.Whole.{whole-sound, whole-front, whole-long, whole-head
 use Rattle.update.specs.Commons.{putOthers, joinedField, putHead}
 use Rattle.update.proofs.CommonsTable.{table-length, table-outside, table-stands}
 
--- console c with slot h, whose fields there are written: of its head x, with each other console what the function says
+-- The fields of console c were written, x for its head and `field k` for each other console k. Where these are its fields in the room in which its
+-- slot is h, the bytes are that room's.
 module _ (s : List ℕ) (t : holdsStore s ≡ true) (c : ℕ) (cl : c < consoleCount) (h : Option ℕ) (field : ℕ → ℕ) (x : ℕ) where
   abbrev next : Room
   next = moved (roomIn s) c h
 
-  pub slot-store : Sound next → commonField next c c ≡ x
+  slot-store : Sound next → commonField next c c ≡ x
       → ((k : ℕ) → k < consoleCount → (k ≡ c → ⊥) → commonField next c k ≡ field k)
       → ((k : ℕ) → k < consoleCount → (k ≡ c → ⊥) → commonField next k c ≡ field k)
       → ((j k : ℕ) → (j ≡ c → ⊥) → (k ≡ c → ⊥) → commonField next j k ≡ commonField (roomIn s) j k)
@@ -70,8 +71,8 @@ module _ (s : List ℕ) (t : holdsStore s ≡ true) (c d : ℕ) (cl : c < consol
 -- a console that left, whose fields were cleared
 pub left-store : (s : List ℕ) → holdsStore s ≡ true → (c : ℕ) → c < consoleCount → 0 < c → someOtherDescends (roomIn s) c ≡ true
     → putHead (putOthers s c (λ k. 0) consoleCount) c 0 ≡ overwrite (encode (moved (roomIn s) c none)) s
-left-store s t c cl home h =
+left-store s t c cl not-0 h =
     let r = roomIn s in
     let sound = whole-sound s t in
-    slot-store s t c cl none (λ k. 0) 0 (left-sound r sound c cl home h) (left-row r sound c cl c)
+    slot-store s t c cl none (λ k. 0) 0 (left-sound r sound c cl not-0 h) (left-row r sound c cl c)
     (λ k _ _. left-row r sound c cl k) (λ k _ _. left-column r sound c cl k) (moved-other r sound c none)

@@ -1,5 +1,5 @@
 -- What the code writes into the table of common versions for one console. That this gives the encoding of the room in which the console
--- has moved is a theorem, so a reader need not believe this file.
+-- has moved or left is a theorem, so a reader need not believe this file.
 use Prim.Native.Nat.{ℕ, zero, suc, max}
 use mathlib.Core.Bool.{cond}
 use mathlib.Core.List.{List}

@@ -4,7 +4,7 @@ use borrow.Author.Tests.{lt-ltb}
 use denote.Ref.{now}
 use Rattle.laws.proofs.Logic.{and-i}
 use Rattle.store.proofs.Whole.{whole-header}
-use Rattle.update.proofs.GrownStore.{entry-in-range, left-small, left-fits, entered-store}
+use Rattle.update.proofs.GrownStore.{entry-in-range, free-small, free-fits, entered-store}
 use native.Mathlib.Omega.{arith}
 use borrow.Author.Needs.{needs}
 use Rattle.update.proofs.new_version.enter.Statement.{statement}
@@ -16,12 +16,12 @@ append-version-requires c κs =
     let a = start .args in
     let s = now (a .s) in
     let rest = start .pre .1 in
-    let left = rest .1 .1 .1 in
+    let free = rest .1 .1 .1 in
     let range = entry-in-range (a .code) (a .strip .0) (a .operand) (rest .1 .0 .0) (rest .0 .1) (rest .1 .0 .1) in
     let parent = c .before .head-of .result .0 in
     let number = c .before .before .before .version-count .result in
-    let small = left-small s (start .pre .0) left in
-    let fits = left-fits s (start .pre .0) left in
+    let small = free-small s (start .pre .0) free in
+    let fits = free-fits s (start .pre .0) free in
     (omega arith, (and-i _ _ range (lt-ltb parent number (omega arith)), omega arith))
 
 put-word-requires : tie.Need-put-word-requires

@@ -4,7 +4,7 @@ use borrow.Author.Tests.{lt-ltb}
 use denote.Ref.{now}
 use Rattle.laws.proofs.Logic.{and-i}
 use Rattle.store.proofs.Whole.{whole-header}
-use Rattle.update.proofs.GrownStore.{left-small, left-fits, merged-store}
+use Rattle.update.proofs.GrownStore.{free-small, free-fits, merged-store}
 use native.Mathlib.Omega.{arith}
 use borrow.Author.Needs.{needs}
 use Rattle.update.proofs.new_version.merge.Statement.{statement}
@@ -14,12 +14,12 @@ append-version-requires : tie.Need-append-version-requires
 append-version-requires c κs =
     let start = c .before .before .before .before .before .before .before .before .before .before in
     let s = now (start .args .s) in
-    let left = start .pre .1 .1 .1 .1 .1 in
+    let free = start .pre .1 .1 .1 .1 .1 in
     let number = c .before .before .before .before .before .before .before .version-count .result in
     let mine = c .before .before .before .before .before .head-of .result .0 in
     let given = c .before .before .before .head-of2 .result .0 in
-    let small = left-small s (start .pre .0) left in
-    let fits = left-fits s (start .pre .0) left in
+    let small = free-small s (start .pre .0) free in
+    let fits = free-fits s (start .pre .0) free in
     (omega arith, (and-i _ _ (lt-ltb mine number (omega arith)) (lt-ltb given number (omega arith)), omega arith))
 
 put-word-requires : tie.Need-put-word-requires

@@ -1,0 +1,19 @@
+-- A console that is absent, before it is forked and after it left, in terms of the calls: "the store has no common for it", nor a board, a heard
+-- count or an origin, and "its number may then be forked".
+use Prim.Native.Nat.{ℕ, _<_}
+use mathlib.Core.Path.{_≡_}
+use mathlib.Core.Bool.{true}
+use mathlib.Core.List.{List, [], _∷_}
+use Rattle.board.specs.Board.{stripCount, cellCount}
+use Rattle.command.specs.Code.{consoleCount, forkCommand}
+use Rattle.room.specs.Room.{present}
+use Rattle.store.specs.Layout.{roomIn}
+use Rattle.unit.specs.Calls.{replied, commandOutcome, boardOutcome, heardReply, commonReply, originReply}
+
+pub record Absent (store : List ℕ) (c : ℕ) : Type 0 where
+  pub noCommon : (d : ℕ) → d < consoleCount → (commonReply store c d ≡ replied 12 0) × (commonReply store d c ≡ replied 12 0)
+  pub noBoard : (output : List ℕ) → boardOutcome store c output .reply ≡ replied 12 0
+  pub noHeard : heardReply store c ≡ replied 12 0
+  pub noOrigin : (k cell : ℕ) → k < stripCount → cell < cellCount → originReply store c k cell ≡ replied 12 0
+  -- from any console that is present
+  pub forkable : (old : ℕ) → present (roomIn store) old ≡ true → commandOutcome store (forkCommand ∷ c ∷ old ∷ []) .reply ≡ replied 0 0
