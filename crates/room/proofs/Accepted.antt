@@ -6,7 +6,7 @@ use mathlib.Core.Bool.{true, false, not, _&&_}
 use borrow.Author.Tests.{eqb-false, ltb-true, not-false}
 use lib.Dec.{eqb}
 use Rattle.laws.proofs.Logic.{clash, and-l, and-r, not-e, or-none-l, or-none-r}
-use Rattle.graph.specs.Graph.{versionCount, ancestor}
+use Rattle.graph.specs.Graph.{versionCount}
 use Rattle.graph.proofs.Below.{some-at}
 use Rattle.command.specs.Code.{consoleCount}
 use Rattle.graph.specs.declared.Strip.{Strip}
@@ -14,7 +14,7 @@ use Rattle.graph.specs.declared.Console.{Console}
 use Rattle.command.specs.declared.Command.the-variants.{Fork, Entry, Merge, FastForward, Leave}
 use Rattle.refusal.specs.Refusal.{firstRefusal}
 use Rattle.refusal.proofs.Refusals.{none-applies}
-use Rattle.room.specs.Room.{Room, present, head}
+use Rattle.room.specs.Room.{Room, present}
 use Rattle.room.specs.Step.{absent, behind, someThirdSplits, otherDescends, someOtherDescends, stateTests, stepRefusal}
 
 -- console d is present, and c, where it is, is behind d: what a move of c to the head of d asks for
