@@ -8,9 +8,21 @@ use std::fmt;
 const CONSOLES: usize = 16;
 const STRIPS: u8 = 32;
 const STRIP_BYTES: usize = 12;
-const CALLS_AT: usize = 6;
-const CALL_COUNTED: u8 = 0x06;
 const ABSENT: u32 = 12;
+
+/// What an output holds before a call.
+const FILLER: u8 = 0xA5;
+
+/// Places on a strip, and the codes of the entries that write there.
+const LEVEL_AT: usize = 0;
+const HEADING_AT: usize = 2;
+const CALLS_AT: usize = 6;
+const LEVEL: u8 = 0x02;
+const HEADING: u8 = 0x03;
+const CALL_COUNTED: u8 = 0x06;
+
+/// The cells that have an origin: the number in the question, the code of the entries that write the cell, and its place on a strip.
+const CELLS: [(u32, u8, usize); 2] = [(0, LEVEL, LEVEL_AT), (1, HEADING, HEADING_AT)];
 
 /// The strips whose origins are compared: those that most entries are on.
 const STRIPS_OF_ORIGINS: u8 = 8;
@@ -143,24 +155,28 @@ impl Answers<'_> {
         usize::from(u16::from_be_bytes([self.store[2], self.store[3]]))
     }
 
-    fn heard(&self, console: u32) -> Reply {
-        (self.calls.heard)(self.store, console)
+    fn heard(&self, console: u8) -> Reply {
+        (self.calls.heard)(self.store, console.into())
     }
 
-    fn common(&self, first: u32, second: u32) -> Reply {
-        (self.calls.common)(self.store, first, second)
+    fn common(&self, first: u8, second: u8) -> Reply {
+        (self.calls.common)(self.store, first.into(), second.into())
     }
 
-    fn origin(&self, console: u32, strip: u8, cell: u32) -> Reply {
-        (self.calls.origin)(self.store, console, strip.into(), cell)
+    fn origin(&self, console: u8, strip: u8, cell: u32) -> Reply {
+        (self.calls.origin)(self.store, console.into(), strip.into(), cell)
     }
 
-    fn board(&self, console: u32) -> Result<Board, String> {
-        let mut board = [0; BOARD_BYTES];
-        let reply = (self.calls.board)(self.store, console, &mut board);
-        let what = format_args!("copying the board of {console}");
-        agree(what, Reply::of(Ok(BOARD_BYTES)), reply)?;
-        Ok(board)
+    /// The reply, and what an output of filler holds after the call.
+    fn board(&self, console: u8) -> (Reply, Board) {
+        let mut board = [FILLER; BOARD_BYTES];
+        let reply = (self.calls.board)(self.store, console.into(), &mut board);
+        (reply, board)
+    }
+
+    /// The reply to a fork, in a copy of the store.
+    fn fork(&self, new: u8, old: u8) -> Reply {
+        (self.calls.command)(&mut self.store.to_vec(), &[0x01, new, old])
     }
 }
 
@@ -186,7 +202,7 @@ fn agree<T: PartialEq + fmt::Debug>(what: fmt::Arguments, due: T, found: T) -> R
 /// A present console: its head, for every version whether it leads there, the entries that it has heard, by the book; and the board
 /// that it shows.
 struct Present {
-    console: u32,
+    console: u8,
     head: usize,
     leading: Vec<bool>,
     heard: Vec<(usize, Entry)>,
@@ -194,8 +210,9 @@ struct Present {
 }
 
 impl Book {
-    /// Compares all that demand 3 says, and the origins as far as the book knows them, with what the calls answer of this store. The
-    /// first difference in words, or how many pairs of consoles, in both orders, have heard the same entries.
+    /// Compares all that demand 3 says, of present and of absent consoles, and the origins as far as the book knows them, with what the
+    /// calls answer of this store. The first difference in words, or how many pairs of consoles, in both orders, have heard the same
+    /// entries.
     pub fn check(&self, calls: &Calls, store: &[u8]) -> Result<usize, String> {
         let answers = &Answers { calls, store };
         let count = self.versions.len();
@@ -213,25 +230,39 @@ impl Book {
         Ok(alike)
     }
 
-    /// The present consoles, which must be the store's, and on the same heads.
+    /// The present consoles, which must be the store's, and on the same heads; the others must be absent from it.
     fn present(&self, answers: &Answers) -> Result<Vec<Present>, String> {
         let mut present = Vec::new();
         for (console, head) in (0..).zip(self.heads) {
-            let due = Reply::of(head.ok_or(ABSENT));
-            let found = answers.common(console, console);
-            agree(format_args!("the head of {console}"), due, found)?;
-            if let Some(head) = head {
-                let leading = self.leading_to(head);
-                present.push(Present {
-                    console,
-                    head,
-                    heard: self.entries_of(&leading),
-                    leading,
-                    board: answers.board(console)?,
-                });
+            match head {
+                Some(head) => present.push(self.check_present(answers, console, head)?),
+                None => check_absent(answers, console)?,
             }
         }
         Ok(present)
+    }
+
+    /// A console that has a head in the book is on it in the store, and shows a board.
+    fn check_present(
+        &self,
+        answers: &Answers,
+        console: u8,
+        head: usize,
+    ) -> Result<Present, String> {
+        let due = Reply::of(Ok(head));
+        let found = answers.common(console, console);
+        agree(format_args!("the head of {console}"), due, found)?;
+        let due = Reply::of(Ok(BOARD_BYTES));
+        let (found, board) = answers.board(console);
+        agree(format_args!("copying the board of {console}"), due, found)?;
+        let leading = self.leading_to(head);
+        Ok(Present {
+            console,
+            head,
+            heard: self.entries_of(&leading),
+            leading,
+            board,
+        })
     }
 
     /// The common version leads to both heads, and every version common to both leads to it.
@@ -252,6 +283,30 @@ impl Book {
         let what = format_args!("{reply:?} is the common of {first} and {second}");
         agree(what, true, is_right)
     }
+}
+
+/// A console that has no head in the book is absent from the store: each question about it is refused, and it can be forked.
+fn check_absent(answers: &Answers, console: u8) -> Result<(), String> {
+    let absent = Reply::of(Err(ABSENT));
+    let what = format_args!("the entries heard by {console}, who is absent");
+    agree(what, absent, answers.heard(console))?;
+    let what = format_args!("the board of {console}, who is absent");
+    let untouched = [FILLER; BOARD_BYTES];
+    agree(what, (absent, untouched), answers.board(console))?;
+    for (cell, ..) in CELLS {
+        let what = format_args!("the origin of 0, {cell} with {console}, who is absent");
+        agree(what, absent, answers.origin(console, 0, cell))?;
+    }
+    for other in 0..CONSOLES as u8 {
+        let found = [
+            answers.common(console, other),
+            answers.common(other, console),
+        ];
+        let what = format_args!("the commons of {console}, who is absent, and {other}");
+        agree(what, [absent; 2], found)?;
+    }
+    let what = format_args!("a fork of 0 to {console}, who is absent");
+    agree(what, Reply::of(Ok(0)), answers.fork(console, 0))
 }
 
 /// Every two different consoles, in both orders.
@@ -280,12 +335,11 @@ fn check_heard(answers: &Answers, one: &Present) -> Result<(), String> {
 /// Where an origin is above 0, it is an entry that the console has heard and that writes this cell; else the cell shows 0.
 fn check_origins(answers: &Answers, one: &Present) -> Result<(), String> {
     let console = one.console;
-    let cells = (0..STRIPS_OF_ORIGINS).flat_map(|strip| [(strip, 0), (strip, 1)]);
-    for (strip, cell) in cells {
+    let cells = (0..STRIPS_OF_ORIGINS).flat_map(|strip| CELLS.map(|cell| (strip, cell)));
+    for (strip, (cell, writing_code, place)) in cells {
         let reply = answers.origin(console, strip, cell);
-        let writing_code = 0x02 + cell as u8;
         let origin = (reply.count as usize, (writing_code, strip));
-        let is_none = reply.count == 0 && cell_of(&one.board, strip, 2 * cell as usize) == 0;
+        let is_none = reply.count == 0 && cell_of(&one.board, strip, place) == 0;
         let is_right = reply.answer == 0 && (is_none || one.heard.contains(&origin));
         let what = format_args!("{reply:?} is the origin of {strip}, {cell} with {console}");
         agree(what, true, is_right)?;

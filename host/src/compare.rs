@@ -209,14 +209,22 @@ enum Figure {
     HeardTheSame,
 }
 
-/// The figures in this order, each with the least that a run must have of it for each of its rounds.
-const FIGURES: [(&str, u64); 6] = [
-    ("origins of no entry", 1),
-    ("origins of an entry", 1),
-    ("leaves accepted", 100),
-    ("numbers forked again after a leave", 60),
-    ("rooms resumed after a leave", 40),
-    ("pairs of consoles that heard the same", 300),
+/// The figures, each with its name and the least that a run must have of it for each of its rounds.
+const FIGURES: [(Figure, &str, u64); 6] = [
+    (Figure::OriginOfNoEntry, "origins of no entry", 1),
+    (Figure::OriginOfAnEntry, "origins of an entry", 1),
+    (Figure::Leave, "leaves accepted", 100),
+    (
+        Figure::ForkedAgain,
+        "numbers forked again after a leave",
+        60,
+    ),
+    (Figure::ResumedAfterLeave, "rooms resumed after a leave", 40),
+    (
+        Figure::HeardTheSame,
+        "pairs of consoles that heard the same",
+        300,
+    ),
 ];
 
 /// How often each call gave each answer, and the figures.
@@ -266,9 +274,10 @@ impl Tally {
     }
 
     /// The figures: what, how often it was met, and how often a round must meet it.
-    fn figures(&self) -> impl Iterator<Item = (&'static str, u64, u64)> {
-        let named = FIGURES.into_iter().zip(self.figures);
-        named.map(|((name, least), met)| (name, met, least))
+    fn figures(&self) -> impl Iterator<Item = (&'static str, u64, u64)> + '_ {
+        FIGURES
+            .into_iter()
+            .map(|(figure, name, least)| (name, self.figures[figure as usize], least))
     }
 
     /// The listed pairs that were never met, and the figures that are too low for so many rounds.
@@ -535,8 +544,8 @@ struct Session<'a> {
 /// The steps of a session with turnover from one look at the book to the next.
 const STEPS_TO_THE_BOOK: usize = 30;
 
-impl Session<'_> {
-    fn new<'a>(
+impl<'a> Session<'a> {
+    fn new(
         comparison: &'a mut Comparison,
         rng: &mut Rng,
         pair: Pair,
@@ -557,15 +566,15 @@ impl Session<'_> {
         (0..steps).try_for_each(|_| self.step())
     }
 
-    /// Steps in most of which consoles come and go; now and then the store is compared with the book.
+    /// Steps in most of which consoles come and go; now and then, and at the end, the store is compared with the book.
     fn run_turnover(&mut self, steps: usize) -> Outcome<()> {
         for step in 0..steps {
-            self.turnover_step(step)?;
-            if (step + 1) % STEPS_TO_THE_BOOK == 0 {
+            if step % STEPS_TO_THE_BOOK == 0 {
                 self.check_book()?;
             }
+            self.turnover_step(step)?;
         }
-        Ok(())
+        self.check_book()
     }
 
     fn turnover_step(&mut self, step: usize) -> Outcome<()> {
@@ -1029,7 +1038,7 @@ fn compare_long_walks(comparison: &mut Comparison) -> Outcome<()> {
 
 // ---------------------------------------------------------------- the paper's rooms
 
-/// The paper's rooms as commands, each with its capacity; forks, merges and fast-forwards in them meet the rare refusals.
+/// The paper's rooms as commands, each with its capacity; commands in them meet the rare refusals.
 const PAPER_ROOMS: [(u32, &[&[u8]]); 4] = [
     (
         64,

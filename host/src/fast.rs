@@ -678,13 +678,13 @@ fn follow(header: &mut Header, console: usize, leader: usize) {
     put_common_field(header, console, console, head);
 }
 
-/// Another head descends from the console's exactly where that head is their common version, so its row of the table tells.
+/// Another head descends from the console's head exactly where the two have the console's head in common: its row of the table tells.
 fn leave(header: &mut Header, console: usize) -> Result<(), u32> {
     let head = head_of(header, console)?;
-    let is_behind =
+    let descends =
         |other: usize| other != console && common_field(header, console, other) == head + 1;
     refuse_if(
-        !(0..CONSOLES).any(is_behind),
+        !(0..CONSOLES).any(descends),
         refusal::NO_OTHER_HEAD_DESCENDS,
     )?;
     for other in 0..CONSOLES {

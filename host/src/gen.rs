@@ -260,7 +260,7 @@ fn room_of_all_consoles(capacity: usize) -> Room {
     room
 }
 
-/// The room after an entry on some console; the same room where no version is left.
+/// The room after an entry on some console; the same room where no version is free.
 fn with_entry(rng: &mut Rng, room: &Room) -> Room {
     let bytes = entry_anywhere(rng, room);
     after(room, &bytes).unwrap_or_else(|| room.clone())

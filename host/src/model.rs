@@ -746,6 +746,21 @@ fn merge(room: &Room, receiver: usize, giver: usize) -> Result<Room, u32> {
     make_version(room, receiver, merged)
 }
 
+/// The console goes home, provided that its head is an ancestor of another present head.
+fn leave(room: &Room, console: usize) -> Result<Room, u32> {
+    let head = named_head(room, console)?;
+    let without = with_head(room, console, None);
+    let ancestry = Ancestry::new(room);
+    let other_heads = without.present_heads();
+    refuse_if(
+        !other_heads
+            .iter()
+            .any(|&other| ancestry.is_ancestor(head, other)),
+        refusal::NO_OTHER_HEAD_DESCENDS,
+    )?;
+    Ok(without)
+}
+
 /// For some third console, its common versions with receiver and giver are neither an ancestor of the other.
 fn some_third_console_is_torn(
     room: &Room,
@@ -775,21 +790,6 @@ fn make_version(room: &Room, console: usize, version: Version) -> Result<Room, u
     let mut changed = with_head(room, console, Some(number));
     changed.versions.push(version);
     Ok(changed)
-}
-
-/// The console goes home, provided that its head is an ancestor of another present head.
-fn leave(room: &Room, console: usize) -> Result<Room, u32> {
-    let head = named_head(room, console)?;
-    let without = with_head(room, console, None);
-    let ancestry = Ancestry::new(room);
-    let other_heads = without.present_heads();
-    refuse_if(
-        !other_heads
-            .iter()
-            .any(|&other| ancestry.is_ancestor(head, other)),
-        refusal::NO_OTHER_HEAD_DESCENDS,
-    )?;
-    Ok(without)
 }
 
 /// The room with another head of this console, or with none.

@@ -339,7 +339,7 @@ fn busy_room() -> (Room, [(&'static str, Vec<u8>); 5]) {
     let follower = leaving_console(&mut room);
     room = after(&room, &[code::FORK, follower, 0]).expect("the console has left");
     while room.versions.len() < 1000 {
-        room = after(&room, &[code::CALL_COUNTED, 0, 5]).expect("there are versions left");
+        room = after(&room, &[code::CALL_COUNTED, 0, 5]).expect("there are versions free");
     }
     let merge = accepted_merge(&room);
     let commands = [
