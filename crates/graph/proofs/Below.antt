@@ -7,7 +7,6 @@ use mathlib.Core.Bool.{Bool, true, false, cond, _&&_, _||_}
 use mathlib.Core.Option.{some, Option·getD}
 use native.Mathlib.Omega.{arith}
 use native.Mathlib.Decide.{ℕ-discrete}
-use native.Mathlib.Numerals.{add-one}
 use Rattle.laws.proofs.Logic.{clash, decide, and-l, and-r, and-i, or-l, or-r, or-split}
 use Rattle.graph.specs.Below.{everyBelow, someBelow, countBelow, highestBelow}
 
@@ -42,15 +41,6 @@ some-of (suc n) f k l t =
       | yes e ↦ or-r (someBelow n f) (f n) (cc)
       | no d ↦ or-l (someBelow n f) (f n) (some-of n f k (omega arith) t)
     ]
-
--- none below 0, and one number more
-pub some-none : (f : ℕ → Bool) → someBelow 0 f ≡ false
-unfolding someBelow
-some-none f = refl
-
-pub some-more : (n : ℕ) (f : ℕ → Bool) → someBelow (n + 1) f ≡ (someBelow n f || f n)
-unfolding someBelow
-some-more n f = rw add-one
 
 -- the highest number below the bound that passes
 pub highest-some : (n : ℕ) (f : ℕ → Bool) (m : ℕ) → highestBelow n f ≡ some m → (m < n) × (f m ≡ true) × ((k : ℕ) → m < k → k < n → f k ≡ false)

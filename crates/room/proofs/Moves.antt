@@ -49,7 +49,7 @@ slot-other r c h k ne = record { slot = head-kept r c h k ne }
 
 -- and it follows the number d whose slot that is; one that leaves has the slot of a number that no console has
 module _ (r : Room) (s : Sound r) (c : ℕ) (l : c < consoleCount) (h : Option ℕ) (d : ℕ) (from : h ≡ headOf r d) where
-  pub slot-self : Follows (moved r c h) r c d
+  slot-self : Follows (moved r c h) r c d
   slot-self = record { slot = head-set r c h (omega (arith, s .sixteen)) ∙ from }
 
   source : (k : ℕ) → (j : ℕ) × Follows (moved r c h) r k j

@@ -1,3 +1,4 @@
+pub mod Search
 pub mod Thirds
 pub mod Groups
 pub mod After

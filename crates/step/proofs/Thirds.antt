@@ -1,11 +1,9 @@
--- Consoles that do not split two others, and the consoles one after the other: one more that does not.
+-- Consoles that do not split two others: one of the two, and one that is absent.
 -- Assumes nothing.
-use mathlib.Core.Path.{_≡_, _∙_}
-use mathlib.Core.Bool.{Bool, false}
-use Prim.Native.Nat.{ℕ, _+_}
-use Rattle.laws.proofs.Logic.{clash, refuted, or-none}
-use Rattle.graph.specs.Below.{someBelow}
-use Rattle.graph.proofs.Below.{some-more}
+use mathlib.Core.Path.{_≡_}
+use mathlib.Core.Bool.{false}
+use Prim.Native.Nat.{ℕ}
+use Rattle.laws.proofs.Logic.{clash, refuted}
 use Rattle.room.specs.Room.{Room, present}
 use Rattle.room.specs.Step.{splits}
 use Rattle.room.proofs.Steps.{split-parts}
@@ -19,6 +17,3 @@ module _ (r : Room) (c d k : ℕ) where
 
   pub absent-splits-not : present r k ≡ false → splits r c d k ≡ false
   absent-splits-not f = refuted _ (λ t. clash (split-parts r c d k t .pd) f)
-
-pub some-none-more : (f : ℕ → Bool) (k : ℕ) → someBelow k f ≡ false → f k ≡ false → someBelow (k + 1) f ≡ false
-some-none-more f k h e = some-more k f ∙ or-none (someBelow k f) (f k) h e

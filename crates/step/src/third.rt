@@ -59,10 +59,9 @@ pub fn some_third_splits(s: &[u8], c: Console, d: Console) -> bool
     requires { ⌜ (present (roomIn (now s)) (c .0) ≡ true) × (present (roomIn (now s)) (d .0) ≡ true) ⌝ }
     ensures { λ r. ⌜ r ≡ someThirdSplits (roomIn (now (s .entry))) (c .0) (d .0) ⌝ }
 {
+    let mut found = false;
     for k in 0..CONSOLES {
-        if splits_at(s, c, d, k) {
-            return true;
-        }
+        found = found | splits_at(s, c, d, k);
     }
-    false
+    found
 }

@@ -30,7 +30,7 @@ module _ (store : List ℕ) (held : holdsStore store ≡ true) (c : ℕ) (cl : c
         rw (lt-ltb c consoleCount cl, lt-ltb d consoleCount dl, held, away, late),
       )
 
-  no-board : (output : List ℕ) → boardOutcome store c output .reply ≡ replied 12 0
+  no-board : (output : List ℕ) → boardOutcome store c output ≡ record { reply = replied 12 0; buffer = output }
   unfolding boardOutcome firstRefusal
   no-board output = rw (lt-ltb c consoleCount cl, held, away)
 

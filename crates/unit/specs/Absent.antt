@@ -1,5 +1,5 @@
 -- A console that is absent, before it is forked and after it left, in terms of the calls: "the store has no common for it", nor a board, a heard
--- count or an origin, and "its number may then be forked".
+-- count or an origin, and its number can be forked.
 use Prim.Native.Nat.{ℕ, _<_}
 use mathlib.Core.Path.{_≡_}
 use mathlib.Core.Bool.{true}
@@ -12,7 +12,7 @@ use Rattle.unit.specs.Calls.{replied, commandOutcome, boardOutcome, hear
 
 pub record Absent (store : List ℕ) (c : ℕ) : Type 0 where
   pub noCommon : (d : ℕ) → d < consoleCount → (commonReply store c d ≡ replied 12 0) × (commonReply store d c ≡ replied 12 0)
-  pub noBoard : (output : List ℕ) → boardOutcome store c output .reply ≡ replied 12 0
+  pub noBoard : (output : List ℕ) → boardOutcome store c output ≡ record { reply = replied 12 0; buffer = output }
   pub noHeard : heardReply store c ≡ replied 12 0
   pub noOrigin : (k cell : ℕ) → k < stripCount → cell < cellCount → originReply store c k cell ≡ replied 12 0
   -- from any console that is present
