@@ -35,51 +35,51 @@ pub value-empty : (cell : Cell) (k : ℕ) → k < stripCount → valueIn cell k 
 value-empty cell k h = empty-word (cellAt cell k) (cell-inside cell k h)
 
 -- a byte of a merged board is a byte of the merged strip
-strips-at : (l a b : List ℕ) (n k i : ℕ) → k < n → i < stripSize → getD (mergeStrips l a b n) (stripSize * k + i) 0 ≡ getD (mergeStrip l a b k) i 0
+strips-at : (l a b : List ℕ) (n k i : ℕ) → k < n → i < stripSize → getD (mergeStrips l a b n .bytes) (stripSize * k + i) 0 ≡ getD (mergeStrip l a b k .bytes) i 0
 unfolding mergeStrips
 strips-at l a b zero k i kn is = absurd (omega arith)
 strips-at l a b (suc n) k i kn is =
     elim (decLt k n) [
-      | yes lt ↦ List·getD-append (mergeStrips l a b n) (mergeStrip l a b n) 0 (stripSize * k + i) (omega (arith, mergeStrips-length l a b n)) ∙ strips-at l a b n k i lt is
+      | yes lt ↦ List·getD-append (mergeStrips l a b n .bytes) (mergeStrip l a b n .bytes) 0 (stripSize * k + i) (omega (arith, mergeStrips-length l a b n)) ∙ strips-at l a b n k i lt is
       | no ge ↦
           let e : k ≡ n = omega arith in
-          let at : stripSize * k + i ≡ length (mergeStrips l a b n) + i = omega (arith, mergeStrips-length l a b n) in
-          ap (λ (j : ℕ). getD (mergeStrips l a b n ++ mergeStrip l a b n) j 0) at
-          ∙ getD-append-add (mergeStrips l a b n) (mergeStrip l a b n) i 0
-          ∙ ap (λ (j : ℕ). getD (mergeStrip l a b j) i 0) (sym e)
+          let at : stripSize * k + i ≡ length (mergeStrips l a b n .bytes) + i = omega (arith, mergeStrips-length l a b n) in
+          ap (λ (j : ℕ). getD (mergeStrips l a b n .bytes ++ mergeStrip l a b n .bytes) j 0) at
+          ∙ getD-append-add (mergeStrips l a b n .bytes) (mergeStrip l a b n .bytes) i 0
+          ∙ ap (λ (j : ℕ). getD (mergeStrip l a b j .bytes) i 0) (sym e)
     ]
 
 module _ (l a b : List ℕ) (k : ℕ) (h : k < stripCount) where
-  board-at : (i j : ℕ) → i < stripSize → j ≡ stripSize * k + i → getD (mergeBoard l a b) j 0 ≡ getD (mergeStrip l a b k) i 0
-  board-at i j is e = ap (λ (m : ℕ). getD (mergeBoard l a b) m 0) e ∙ strips-at l a b stripCount k i h is
+  board-at : (i j : ℕ) → i < stripSize → j ≡ stripSize * k + i → getD (mergeBoard l a b .bytes) j 0 ≡ getD (mergeStrip l a b k .bytes) i 0
+  board-at i j is e = ap (λ (m : ℕ). getD (mergeBoard l a b .bytes) m 0) e ∙ strips-at l a b stripCount k i h is
 
   -- the 16 bits at an offset of a merged strip
-  board-word : (o : ℕ) → o + 1 < stripSize → wordAt (mergeBoard l a b) (stripSize * k + o) ≡ wordAt (mergeStrip l a b k) o
+  board-word : (o : ℕ) → o + 1 < stripSize → wordAt (mergeBoard l a b .bytes) (stripSize * k + o) ≡ wordAt (mergeStrip l a b k .bytes) o
   board-word o os =
-      let hi : getD (mergeBoard l a b) (stripSize * k + o) 0 ≡ getD (mergeStrip l a b k) o 0 = board-at o (stripSize * k + o) (omega arith) refl in
-      let lo : getD (mergeBoard l a b) (stripSize * k + o + 1) 0 ≡ getD (mergeStrip l a b k) (o + 1) 0 = board-at (o + 1) (stripSize * k + o + 1) (omega arith) (omega arith) in
+      let hi : getD (mergeBoard l a b .bytes) (stripSize * k + o) 0 ≡ getD (mergeStrip l a b k .bytes) o 0 = board-at o (stripSize * k + o) (omega arith) refl in
+      let lo : getD (mergeBoard l a b .bytes) (stripSize * k + o + 1) 0 ≡ getD (mergeStrip l a b k .bytes) (o + 1) 0 = board-at (o + 1) (stripSize * k + o + 1) (omega arith) (omega arith) in
       cc
 
   -- "calls and alert count: a + b − l", where that fits 16 bits
   pub calls-merged : wordAt a (callsAt k) + wordAt b (callsAt k) - wordAt l (callsAt k) < 65536
-      → wordAt (mergeBoard l a b) (callsAt k) ≡ wordAt a (callsAt k) + wordAt b (callsAt k) - wordAt l (callsAt k)
+      → wordAt (mergeBoard l a b .bytes) (callsAt k) ≡ wordAt a (callsAt k) + wordAt b (callsAt k) - wordAt l (callsAt k)
   unfolding mergeStrip
   calls-merged small = board-word 6 (omega arith) ∙ bytes-word _ small
 
   pub alerts-merged : wordAt a (alertsAt k) + wordAt b (alertsAt k) - wordAt l (alertsAt k) < 65536
-      → wordAt (mergeBoard l a b) (alertsAt k) ≡ wordAt a (alertsAt k) + wordAt b (alertsAt k) - wordAt l (alertsAt k)
+      → wordAt (mergeBoard l a b .bytes) (alertsAt k) ≡ wordAt a (alertsAt k) + wordAt b (alertsAt k) - wordAt l (alertsAt k)
   unfolding mergeStrip
   alerts-merged small = board-word 8 (omega arith) ∙ bytes-word _ small
 
   -- "level and heading, each alone: b if a = l, else a.", where that fits 16 bits
-  pub value-merged : (cell : Cell) → mergeValue (valueIn cell k l) (valueIn cell k a) (valueIn cell k b) < 65536
-      → valueIn cell k (mergeBoard l a b) ≡ mergeValue (valueIn cell k l) (valueIn cell k a) (valueIn cell k b)
+  pub value-merged : (cell : Cell) → mergeValue (valueIn cell k l) (valueIn cell k a) (valueIn cell k b) .value < 65536
+      → valueIn cell k (mergeBoard l a b .bytes) ≡ mergeValue (valueIn cell k l) (valueIn cell k a) (valueIn cell k b) .value
   unfolding mergeStrip
-  value-merged Level small = ap (wordAt (mergeBoard l a b)) (omega arith) ∙ board-word 0 (omega arith) ∙ bytes-word _ small
+  value-merged Level small = ap (wordAt (mergeBoard l a b .bytes)) (omega arith) ∙ board-word 0 (omega arith) ∙ bytes-word _ small
   value-merged Heading small = board-word 2 (omega arith) ∙ bytes-word _ small
 
 -- the value of a merge is that of the side taken
-pub side-taken : (value : ℕ → ℕ) (l p q : ℕ) → mergeValue l (value p) (value q) ≡ value (cond (followsGiver l (value p) (value q)) q p)
+pub side-taken : (value : ℕ → ℕ) (l p q : ℕ) → mergeValue l (value p) (value q) .value ≡ value (cond (followsGiver l (value p) (value q)) q p)
 side-taken value l p q = go (eqb (value p) l) (eqb (value q) l) refl refl
   where
     go : (s t : Bool) → eqb (value p) l ≡ s → eqb (value q) l ≡ t → cond s (value q) (value p) ≡ value (cond (s && not t) q p)

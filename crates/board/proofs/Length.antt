@@ -9,17 +9,17 @@ use lib.ListN.{length, length-set, length-append}
 use Rattle.buffer.proofs.Writes.{put-length}
 use Rattle.board.specs.Board.{boardSize, stripSize, stripCount, mergeStrip, mergeStrips, mergeBoard, enter}
 
-pub mergeStrip-length : (l a b : List ℕ) (k : ℕ) → length (mergeStrip l a b k) ≡ stripSize
+pub mergeStrip-length : (l a b : List ℕ) (k : ℕ) → length (mergeStrip l a b k .bytes) ≡ stripSize
 unfolding mergeStrip
 mergeStrip-length l a b k = refl
 
-pub mergeStrips-length : (l a b : List ℕ) (n : ℕ) → length (mergeStrips l a b n) ≡ stripSize * n
+pub mergeStrips-length : (l a b : List ℕ) (n : ℕ) → length (mergeStrips l a b n .bytes) ≡ stripSize * n
 unfolding mergeStrips
 mergeStrips-length l a b zero = refl
 mergeStrips-length l a b (suc n) =
     rw (length-append, mergeStrips-length l a b n, mergeStrip-length l a b n) (omega arith)
 
-pub mergeBoard-length : (l a b : List ℕ) → length (mergeBoard l a b) ≡ boardSize
+pub mergeBoard-length : (l a b : List ℕ) → length (mergeBoard l a b .bytes) ≡ boardSize
 mergeBoard-length l a b = mergeStrips-length l a b stripCount
 
 -- a choice between two of one length

@@ -1,5 +1,6 @@
 pub mod Length
 pub mod Cells
+pub mod Clashes
 pub mod Marks
 pub mod LittleEndian
 pub mod Strips

@@ -46,9 +46,12 @@ choice-swapped : (t : Bool) (x y : ℕ) → cond t (swapped x) (swapped y) ≡ s
 choice-swapped true x y = refl
 choice-swapped false x y = refl
 
-setting-swapped : (l a b : ℕ) → l < 65536 → a < 65536 → mergeValue (swapped l) (swapped a) (swapped b) ≡ swapped (mergeValue l a b)
-setting-swapped l a b p q =
+value-swapped : (l a b : ℕ) → l < 65536 → a < 65536 → mergeValue (swapped l) (swapped a) (swapped b) .value ≡ swapped (mergeValue l a b .value)
+value-swapped l a b p q =
     ap (λ (t : Bool). cond t (swapped b) (swapped a)) (eqb-swapped a l q p) ∙ choice-swapped (eqb a l) b a
+
+pub clash-swapped : (l a b : ℕ) → l < 65536 → a < 65536 → b < 65536 → mergeValue (swapped l) (swapped a) (swapped b) .clash ≡ mergeValue l a b .clash
+clash-swapped l a b p q r = rw (eqb-swapped a l q p, eqb-swapped b l r p, eqb-swapped a b q r)
 
 -- the marks of the high bytes and those of the low ones, in either order
 marks-swapped : (l a b : ℕ) → l < 65536 → a < 65536 → b < 65536 → mergeMarks (swapped l) (swapped a) (swapped b) ≡ swapped (mergeMarks l a b)
@@ -67,9 +70,9 @@ marks-swapped l a b p q r =
 
 -- fields that were read low byte first, merged and written so
 module _ (s l a b : List ℕ) (at : ℕ) (p : wordAt l at < 65536) (q : wordAt a at < 65536) where
-  pub put-setting : putWord s at (swapped (mergeValue (swapped (wordAt l at)) (swapped (wordAt a at)) (swapped (wordAt b at))))
-      ≡ putWord s at (mergeValue (wordAt l at) (wordAt a at) (wordAt b at))
-  put-setting = rw (setting-swapped (wordAt l at) (wordAt a at) (wordAt b at) p q) (put-swapped-twice s at _)
+  pub put-value : putWord s at (swapped (mergeValue (swapped (wordAt l at)) (swapped (wordAt a at)) (swapped (wordAt b at)) .value))
+      ≡ putWord s at (mergeValue (wordAt l at) (wordAt a at) (wordAt b at) .value)
+  put-value = rw (value-swapped (wordAt l at) (wordAt a at) (wordAt b at) p q) (put-swapped-twice s at _)
 
   pub put-marks : wordAt b at < 65536 → putWord s at (swapped (mergeMarks (swapped (wordAt l at)) (swapped (wordAt a at)) (swapped (wordAt b at))))
       ≡ putWord s at (mergeMarks (wordAt l at) (wordAt a at) (wordAt b at))

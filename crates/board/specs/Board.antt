@@ -10,6 +10,7 @@ use Rattle.buffer.specs.Field.{word, wordAt, putWord, zeros}
 use Rattle.buffer.specs.Row.{bit}
 use Rattle.board.specs.declared.Cell.{Cell}
 use Rattle.board.specs.declared.Cell.the-variants.{Level, Heading}
+use Rattle.board.specs.declared.MergedValue.{MergedValue}
 
 abbrev pub stripSize : ℕ
 stripSize = 12
@@ -44,6 +45,14 @@ alertsAt k = stripSize * k + 8
 abbrev pub flagAt : ℕ → ℕ
 flagAt k = stripSize * k + 10
 
+-- a level or a heading: its place in strip k, and the value that a board has there
+abbrev pub cellAt : Cell → ℕ → ℕ
+cellAt Level k = levelAt k
+cellAt Heading k = headingAt k
+
+abbrev pub valueIn : Cell → ℕ → List ℕ → ℕ
+valueIn cell k s = wordAt s (cellAt cell k)
+
 -- "mark k is the bit worth 2 to the k, k from 0 to 15"
 abbrev pub markCount : ℕ
 markCount = 16
@@ -61,9 +70,10 @@ flagOn s k = eqb (getD s (flagAt k) 0) 1
 abbrev pub without : ℕ → ℕ → ℕ
 without a l = a - bitAnd a l
 
--- "level and heading, each alone: b if a = l, else a."
-abbrev pub mergeValue : ℕ → ℕ → ℕ → ℕ
-mergeValue l a b = cond (eqb a l) b a
+-- "level and heading, each alone: b if a = l, else a." "Working out one cell now also says whether base, receiver and giver all differ":
+-- there it clashes, and the receiver's value stays.
+abbrev pub mergeValue : ℕ → ℕ → ℕ → MergedValue
+mergeValue l a b = record { value = cond (eqb a l) b a; clash = not (eqb a l) && not (eqb b l) && not (eqb a b) }
 
 -- "marks: (a and b) or (a without l) or (b without l)."
 abbrev pub mergeMarks : ℕ → ℕ → ℕ → ℕ
@@ -81,22 +91,41 @@ mergeFlag false false l a b = false
 mergeFlag true false l a b = ltb l a
 mergeFlag false true l a b = ltb l b
 
+-- what a merge makes: bytes, and how many levels and headings clash there
+pub record Merged : Type 0 where
+  pub bytes : List ℕ
+  pub clashes : ℕ
+
+-- a level or a heading of strip k of three boards
+abbrev pub mergeCell : Cell → ℕ → List ℕ → List ℕ → List ℕ → MergedValue
+mergeCell cell k l a b = mergeValue (valueIn cell k l) (valueIn cell k a) (valueIn cell k b)
+
 -- "Merging base l, receiver a, giver b, strip by strip": strip k of the three boards
-unfoldable pub mergeStrip : List ℕ → List ℕ → List ℕ → ℕ → List ℕ
+unfoldable pub mergeStrip : List ℕ → List ℕ → List ℕ → ℕ → Merged
 mergeStrip l a b k =
-    word (mergeValue (wordAt l (levelAt k)) (wordAt a (levelAt k)) (wordAt b (levelAt k)))
-    ++ word (mergeValue (wordAt l (headingAt k)) (wordAt a (headingAt k)) (wordAt b (headingAt k)))
-    ++ word (mergeMarks (wordAt l (marksAt k)) (wordAt a (marksAt k)) (wordAt b (marksAt k)))
-    ++ word (mergeCount (wordAt l (callsAt k)) (wordAt a (callsAt k)) (wordAt b (callsAt k)))
-    ++ word (mergeCount (wordAt l (alertsAt k)) (wordAt a (alertsAt k)) (wordAt b (alertsAt k)))
-    ++ (bit (mergeFlag (flagOn a k) (flagOn b k) (wordAt l (alertsAt k)) (wordAt a (alertsAt k)) (wordAt b (alertsAt k))) ∷ 0 ∷ [])
+    let level : MergedValue = mergeCell Level k l a b in
+    let heading : MergedValue = mergeCell Heading k l a b in
+    record {
+      bytes =
+          word (level .value)
+          ++ word (heading .value)
+          ++ word (mergeMarks (wordAt l (marksAt k)) (wordAt a (marksAt k)) (wordAt b (marksAt k)))
+          ++ word (mergeCount (wordAt l (callsAt k)) (wordAt a (callsAt k)) (wordAt b (callsAt k)))
+          ++ word (mergeCount (wordAt l (alertsAt k)) (wordAt a (alertsAt k)) (wordAt b (alertsAt k)))
+          ++ (bit (mergeFlag (flagOn a k) (flagOn b k) (wordAt l (alertsAt k)) (wordAt a (alertsAt k)) (wordAt b (alertsAt k))) ∷ 0 ∷ []);
+      clashes = bit (level .clash) + bit (heading .clash);
+    }
 
 -- the first n strips
-unfoldable pub mergeStrips : List ℕ → List ℕ → List ℕ → ℕ → List ℕ
-mergeStrips l a b zero = []
-mergeStrips l a b (suc n) = mergeStrips l a b n ++ mergeStrip l a b n
+unfoldable pub mergeStrips : List ℕ → List ℕ → List ℕ → ℕ → Merged
+mergeStrips l a b zero = record { bytes = []; clashes = 0 }
+mergeStrips l a b (suc n) =
+    let before : Merged = mergeStrips l a b n in
+    let strip : Merged = mergeStrip l a b n in
+    record { bytes = before .bytes ++ strip .bytes; clashes = before .clashes + strip .clashes }
 
-abbrev pub mergeBoard : List ℕ → List ℕ → List ℕ → List ℕ
+-- all of them, with "the number, 0 to 64"
+abbrev pub mergeBoard : List ℕ → List ℕ → List ℕ → Merged
 mergeBoard l a b = mergeStrips l a b stripCount
 
 -- The codes of entries: "02 level", "03 heading", "04 mark put, 05 mark taken", "06 call counted", "07 alert on, 08 alert off".
@@ -145,14 +174,6 @@ cellNumber Heading = 1
 abbrev pub cellOf : ℕ → Cell
 cellOf zero = Level
 cellOf (suc n) = Heading
-
--- the place of such a cell of strip k, and the value that a board has there
-abbrev pub cellAt : Cell → ℕ → ℕ
-cellAt Level k = levelAt k
-cellAt Heading k = headingAt k
-
-abbrev pub valueIn : Cell → ℕ → List ℕ → ℕ
-valueIn cell k s = wordAt s (cellAt cell k)
 
 -- the code of the entries that write it
 abbrev pub writingCode : Cell → ℕ

@@ -63,11 +63,26 @@ pub const ALERT_ON_ENTRY: usize = 0x07;
 
 pub const ALERT_OFF_ENTRY: usize = 0x08;
 
-// A level or a heading of a merge: the giver's where the receiver kept the base's.
-fn merge_value(l: usize, a: usize, b: usize) -> usize
+// A level or a heading of a merge, and whether it clashes.
+pub struct MergedValue {
+    pub value: usize,
+    pub clash: bool,
+}
+
+// A level or a heading of a merge: the giver's where the receiver kept the base's. It clashes where all three differ.
+fn merge_value(l: usize, a: usize, b: usize) -> MergedValue
     ensures { λ r. ⌜ r ≡ mergeValue l a b ⌝ }
 {
-    if a == l { b } else { a }
+    if a == l {
+        return MergedValue {
+            value: b,
+            clash: false,
+        };
+    }
+    MergedValue {
+        value: a,
+        clash: !(b == l) & !(a == b),
+    }
 }
 
 // The number that has one mark alone.
@@ -126,16 +141,14 @@ fn put_le_word(s: &mut [u8], at: usize, x: usize)
     s[at + 1] = (x / 256 % 256) as u8;
 }
 
-// Writes a merged level or heading into a strip. The rule is the same whichever byte is first.
-fn merge_value_at(s: &mut [u8], l: &[u8], a: &[u8], b: &[u8], at: usize)
+// Writes a merged level or heading into a strip, and answers whether it clashes. The rule is the same whichever byte is first.
+fn merge_value_at(s: &mut [u8], l: &[u8], a: &[u8], b: &[u8], at: usize) -> bool
     requires { ⌜ (at + 1 < length (now s)) × (at + 1 < length (now l)) × (at + 1 < length (now a)) × (at + 1 < length (now b)) ⌝ }
-    ensures { λ _. ⌜ now (s .exit) ≡ putWord (now (s .entry)) at (mergeValue (wordAt (now (l .entry)) at) (wordAt (now (a .entry)) at) (wordAt (now (b .entry)) at)) ⌝ }
+    ensures { λ r. ⌜ (now (s .exit) ≡ putWord (now (s .entry)) at (mergeValue (wordAt (now (l .entry)) at) (wordAt (now (a .entry)) at) (wordAt (now (b .entry)) at) .value)) × (r ≡ mergeValue (wordAt (now (l .entry)) at) (wordAt (now (a .entry)) at) (wordAt (now (b .entry)) at) .clash) ⌝ }
 {
-    put_le_word(
-        s,
-        at,
-        merge_value(le_word_at(l, at), le_word_at(a, at), le_word_at(b, at)),
-    );
+    let merged = merge_value(le_word_at(l, at), le_word_at(a, at), le_word_at(b, at));
+    put_le_word(s, at, merged.value);
+    merged.clash
 }
 
 // Writes merged marks into a strip. The rule is the same whichever byte is first.
@@ -175,16 +188,17 @@ fn merge_alerts(s: &mut [u8], l: &[u8], a: &[u8], b: &[u8])
     s[REST] = 0;
 }
 
-// Writes a merged strip from three strips.
-fn merge_strip(s: &mut [u8], l: &[u8], a: &[u8], b: &[u8])
+// Writes a merged strip from three strips, and counts its clashes.
+fn merge_strip(s: &mut [u8], l: &[u8], a: &[u8], b: &[u8]) -> usize
     requires { ⌜ (length (now s) ≡ stripSize) × (length (now l) ≡ stripSize) × (length (now a) ≡ stripSize) × (length (now b) ≡ stripSize) ⌝ }
-    ensures { λ _. ⌜ now (s .exit) ≡ mergeStrip (now (l .entry)) (now (a .entry)) (now (b .entry)) 0 ⌝ }
+    ensures { λ r. ⌜ (now (s .exit) ≡ mergeStrip (now (l .entry)) (now (a .entry)) (now (b .entry)) 0 .bytes) × (r ≡ mergeStrip (now (l .entry)) (now (a .entry)) (now (b .entry)) 0 .clashes) ⌝ }
 {
-    merge_value_at(s, l, a, b, LEVEL);
-    merge_value_at(s, l, a, b, HEADING);
+    let level_clashes = merge_value_at(s, l, a, b, LEVEL);
+    let heading_clashes = merge_value_at(s, l, a, b, HEADING);
     merge_marks_at(s, l, a, b, MARKS);
     merge_count_at(s, l, a, b, CALLS);
     merge_alerts(s, l, a, b);
+    level_clashes as usize + heading_clashes as usize
 }
 
 // A strip of a board.
@@ -195,27 +209,31 @@ fn strip_of(board: &[u8], k: usize) -> &[u8]
     part_of(board, STRIP_SIZE * k, STRIP_SIZE)
 }
 
-// Writes the merge of three boards, strip by strip.
-pub fn merge_board(board: &mut [u8], l: &[u8], a: &[u8], b: &[u8])
+// Writes the merge of three boards, strip by strip, and counts its clashes.
+pub fn merge_board(board: &mut [u8], l: &[u8], a: &[u8], b: &[u8]) -> usize
     requires { ⌜ (length (now board) ≡ boardSize) × (length (now l) ≡ boardSize) × (length (now a) ≡ boardSize) × (length (now b) ≡ boardSize) ⌝ }
-    ensures { λ _. ⌜ now (board .exit) ≡ mergeBoard (now (l .entry)) (now (a .entry)) (now (b .entry)) ⌝ }
+    ensures { λ r. ⌜ (now (board .exit) ≡ mergeBoard (now (l .entry)) (now (a .entry)) (now (b .entry)) .bytes) × (r ≡ mergeBoard (now (l .entry)) (now (a .entry)) (now (b .entry)) .clashes) ⌝ }
 {
+    let mut clashes = 0;
     for k in 0..STRIP_COUNT {
         let at = STRIP_SIZE * k;
         let end = at + STRIP_SIZE;
-        merge_strip(
-            &mut board[at..end],
-            strip_of(l, k),
-            strip_of(a, k),
-            strip_of(b, k),
-        );
+        clashes = clashes
+            + merge_strip(
+                &mut board[at..end],
+                strip_of(l, k),
+                strip_of(a, k),
+                strip_of(b, k),
+            );
     }
+    clashes
 }
 
-// A board is the merge of three boards. The board that it should be is made and compared whole, which runs on many bytes at a time.
+// A board is the merge of three boards. The board that it should be is made and compared whole, which runs on many bytes at a time; its
+// clashes are let go.
 pub fn is_merged(board: &[u8], l: &[u8], a: &[u8], b: &[u8]) -> bool
     requires { ⌜ (length (now board) ≡ boardSize) × (length (now l) ≡ boardSize) × (length (now a) ≡ boardSize) × (length (now b) ≡ boardSize) ⌝ }
-    ensures { λ r. ⌜ r ≡ same (now (board .entry)) (mergeBoard (now (l .entry)) (now (a .entry)) (now (b .entry))) ⌝ }
+    ensures { λ r. ⌜ r ≡ same (now (board .entry)) (mergeBoard (now (l .entry)) (now (a .entry)) (now (b .entry)) .bytes) ⌝ }
 {
     let mut merged = [0u8; BOARD_SIZE];
     merge_board(&mut merged, l, a, b);

@@ -26,7 +26,7 @@ use Rattle.graph.proofs.Parent.{parent-lower, sole, receiver, giver}
 use Rattle.graph.proofs.Meet.{meet-number}
 use Rattle.graph.proofs.Growth.{WellFormed, wellFormed-old, merge-base}
 use Rattle.graph.proofs.Counting.{held, held-old, held-entry, held-merge, held-bound}
-use Rattle.room.specs.Boards.{boardMade, boardOf}
+use Rattle.room.specs.Boards.{mergeOf, boardMade, boardOf}
 use Rattle.room.proofs.Lengths.{boardOf-length}
 
 -- an entry of this code on strip k
@@ -59,7 +59,7 @@ module _ (w : ℕ) (place : ℕ → ℕ)
     (kept : (code j x : ℕ) (s : List ℕ) (k : ℕ) → eqb code w && eqb k j ≡ false → wordAt (enter code j x s) (place k) ≡ wordAt s (place k))
     (counted : (k x : ℕ) (s : List ℕ) → alertsAt k + 1 < length s → wordAt s (place k) + 1 < 65536 → wordAt (enter w k x s) (place k) ≡ wordAt s (place k) + 1)
     (merged : (l a b : List ℕ) (k : ℕ) → k < stripCount → mergeCount (wordAt l (place k)) (wordAt a (place k)) (wordAt b (place k)) < 65536
-    → wordAt (mergeBoard l a b) (place k) ≡ mergeCount (wordAt l (place k)) (wordAt a (place k)) (wordAt b (place k)))
+    → wordAt (mergeBoard l a b .bytes) (place k) ≡ mergeCount (wordAt l (place k)) (wordAt a (place k)) (wordAt b (place k)))
     (k : ℕ) (inside : k < stripCount) where
   Counts : Graph → ℕ → Type 0
   Counts g v = wordAt (boardOf g v) (place k) ≡ tally w k g v
@@ -86,7 +86,7 @@ module _ (w : ℕ) (place : ℕ → ℕ)
       ]
 
   at-merge : (p q : ℕ) (g : Graph) → WellFormed (merge p q ∷ g) → length g < 65535 → ((v : ℕ) → v < versionCount g → Counts g v)
-      → wordAt (mergeBoard (boardOf g (meetNumber g p q)) (boardOf g p) (boardOf g q)) (place k) ≡ tally w k (merge p q ∷ g) (versionCount g)
+      → wordAt (mergeOf (boardOf g) (meetNumber g) p q .bytes) (place k) ≡ tally w k (merge p q ∷ g) (versionCount g)
   unfolding Counts
   at-merge p q g wf small ih =
       let base = merge-base wf in
@@ -102,7 +102,7 @@ module _ (w : ℕ) (place : ℕ → ℕ)
       let ip = ih p pl in
       let iq = ih q ql in
       let il = ih (base .0) bl in
-      let cell : wordAt (mergeBoard (boardOf g (base .0)) (boardOf g p) (boardOf g q)) (place k) ≡ tally w k (merge p q ∷ g) (versionCount g) =
+      let cell : wordAt (mergeBoard (boardOf g (base .0)) (boardOf g p) (boardOf g q) .bytes) (place k) ≡ tally w k (merge p q ∷ g) (versionCount g) =
       merged (boardOf g (base .0)) (boardOf g p) (boardOf g q) k inside (omega (arith, small-tally (merge p q ∷ g) (versionCount g))) ∙ omega arith in
       rw l cell
 

@@ -1,7 +1,8 @@
--- When a console leaves, the merges and fast-forwards of the others are refused as they were: where it split two of them, another does.
+-- When a console leaves, the merges and fast-forwards of the others are refused and counted as they were: where it split two of them, another
+-- does.
 -- Assumes nothing.
 use Prim.Native.Nat.{ℕ, _<_}
-use mathlib.Core.Path.{_≡_, sym, _∙_}
+use mathlib.Core.Path.{_≡_, sym, _∙_, ap₂}
 use mathlib.Core.Bool.{Bool, true, false, not, _||_}
 use mathlib.Core.Option.{none}
 use mathlib.Core.Logic.{inl, inr}
@@ -9,7 +10,7 @@ use native.Mathlib.Decide.{ℕ-discrete}
 use borrow.Author.Tests.{not-false}
 use Rattle.laws.proofs.Logic.{clash, decide, refuted, and-l, and-r, and-i, not-e, not-i, or-none-l, or-none-r, bool-ext}
 use Rattle.graph.specs.declared.Console.{Console}
-use Rattle.graph.specs.Graph.{Graph, ancestor}
+use Rattle.graph.specs.Graph.{Graph, ancestor, baseOf}
 use Rattle.graph.proofs.Below.{some-at, some-of}
 use Rattle.graph.proofs.Ancestor.{ancestor-trans}
 use Rattle.graph.proofs.Meet.{Meet}
@@ -17,10 +18,11 @@ use Rattle.refusal.specs.Refusal.{firstRefusal}
 use Rattle.command.specs.declared.Command.the-variants.{Merge, FastForward}
 use Rattle.command.specs.Code.{consoleCount}
 use Rattle.room.specs.Room.{Room, headOf, present, head, common}
-use Rattle.room.specs.Step.{absent, behind, splits, someThirdSplits, someOtherDescends, stateTests, stepRefusal, moved}
+use Rattle.room.specs.Boards.{mergeOf, boardOf}
+use Rattle.room.specs.Step.{absent, behind, splits, someThirdSplits, someOtherDescends, stateTests, stepRefusal, moved, clashCount}
 use Rattle.room.proofs.Accepted.{some-descends}
 use Rattle.room.proofs.Sound.{Sound, present-console}
-use Rattle.room.proofs.Moves.{slot-other, left-absent}
+use Rattle.room.proofs.Moves.{number, slot-other, left-absent}
 use Rattle.room.proofs.Steps.{common-meet, split-parts, third-splits}
 
 -- where the meets of a version with two others are in order, those of a version behind it are
@@ -99,6 +101,12 @@ module _ (r : Room) (s : Sound r) where
                 let pb = not-false _ (or-none-r (absent r (a .0)) _ f) in
                 rw (left-splits (a .0) (b .0) ac bc pa pb, slot (a .0) ac, slot (b .0) bc)
           ]
+
+      pub left-clashes : clashCount (moved r c none) (Merge a b) ≡ clashCount r (Merge a b)
+      unfolding clashCount
+      left-clashes =
+          ap₂ (λ (p q : ℕ). mergeOf (boardOf (r .versions)) (baseOf (r .versions)) p q .clashes)
+          (number (slot-other r c none (a .0) ac)) (number (slot-other r c none (b .0) bc))
 
       pub left-forward : stepRefusal (moved r c none) (FastForward a b) ≡ stepRefusal r (FastForward a b)
       unfolding stepRefusal stateTests

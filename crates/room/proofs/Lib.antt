@@ -8,3 +8,4 @@ pub mod Steps
 pub mod Counters
 pub mod Origins
 pub mod Leaving
+pub mod Clashes

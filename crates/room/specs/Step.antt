@@ -1,4 +1,4 @@
--- What each command does to a room, and the refusals 12 to 18 and 21 in their order.
+-- What each command does to a room, the refusals 12 to 18 and 21 in their order, and the clashes of a merge.
 use Prim.Native.Nat.{ℕ}
 use mathlib.Core.Bool.{Bool, not, _&&_, _||_}
 use mathlib.Core.List.{List, [], _∷_, _++_}
@@ -7,12 +7,13 @@ use lib.Dec.{eqb, ltb}
 use lib.ListN.{set}
 use Rattle.graph.specs.Below.{someBelow}
 use Rattle.graph.specs.declared.Node.{Node}
-use Rattle.graph.specs.Graph.{entry, merge, versionCount, ancestor}
+use Rattle.graph.specs.Graph.{entry, merge, versionCount, ancestor, baseOf}
 use Rattle.command.specs.declared.Command.{Command}
 use Rattle.command.specs.declared.Command.the-variants.{Fork, Entry, Merge, FastForward, Leave}
 use Rattle.refusal.specs.Refusal.{_when_, firstRefusal}
 use Rattle.command.specs.Code.{consoleCount}
 use Rattle.room.specs.Room.{Room, headOf, present, head, common}
+use Rattle.room.specs.Boards.{mergeOf, boardOf}
 
 abbrev pub absent : Room → ℕ → Bool
 absent r c = not (present r c)
@@ -114,3 +115,13 @@ step r (Entry console code strip operand) =
 step r (Merge receiver giver) = grown r (receiver .0) (merge (head r (receiver .0)) (head r (giver .0)))
 step r (FastForward receiver giver) = moved r (receiver .0) (headOf r (giver .0))
 step r (Leave console) = moved r (console .0) none
+
+-- "An accepted merge reports the number, 0 to 64; all other commands report 0.": of the merge whose board the new version has. What a command
+-- counts where it is not refused.
+unfoldable pub clashCount : Room → Command → ℕ
+clashCount r (Fork new old) = 0
+clashCount r (Entry console code strip operand) = 0
+clashCount r (Merge receiver giver) =
+    mergeOf (boardOf (r .versions)) (baseOf (r .versions)) (head r (receiver .0)) (head r (giver .0)) .clashes
+clashCount r (FastForward receiver giver) = 0
+clashCount r (Leave console) = 0

@@ -1,4 +1,3 @@
 pub mod Search
 pub mod Thirds
 pub mod Groups
-pub mod After

@@ -1,6 +1,5 @@
 // Commands on a store: the refusals by the state in their order, and what an accepted command changes.
-mod changes;
-pub mod commands;
+pub mod changes;
 mod descends;
-mod refusals;
+pub mod refusals;
 mod third;

@@ -67,7 +67,7 @@ module _ (s : List ℕ) (g : Graph) (small : versionCount g < maxCapacity) (h : 
   merge-line : p < v → q < v → withMember (union (rowPart s p) (rowPart s q)) v ≡ made g (mergeIn s v) .line
   merge-line a b = rw (h .told p a .line, h .told q b .line) (merge-lineage g p q v small)
 
-  merge-board : p < v → q < v → Meet g p q l → mergeBoard (boardPart s l) (boardPart s p) (boardPart s q) ≡ made g (mergeIn s v) .board
+  merge-board : p < v → q < v → Meet g p q l → mergeBoard (boardPart s l) (boardPart s p) (boardPart s q) .bytes ≡ made g (mergeIn s v) .board
   unfolding boardMade
   merge-board a b m =
       rw (h .told l (ancestor-below g l p (m .first)) .board, h .told p a .board, h .told q b .board, meet-number m)
@@ -115,7 +115,7 @@ module _ (s : List ℕ) (g : Graph) (small : versionCount g < maxCapacity) (h : 
         told = record {
           node = zero-merge s v g b nine (sym (meet-number m)) (search (and-l, and-r) depth 12) (search (and-l, and-r) depth 12);
           line = same-true (rowPart s v) (withMember (union (rowPart s p) (rowPart s q)) v) (search (and-l, and-r) depth 12) ∙ merge-line first second;
-          board = same-true (boardPart s v) (mergeBoard (boardPart s l) (boardPart s p) (boardPart s q)) (search (and-l, and-r) depth 12) ∙ merge-board first second m;
+          board = same-true (boardPart s v) (mergeBoard (boardPart s l) (boardPart s p) (boardPart s q) .bytes) (search (and-l, and-r) depth 12) ∙ merge-board first second m;
           listed = not-e (member (entriesPart s) v) (search (and-l, and-r) depth 12);
         };
       }

@@ -53,7 +53,7 @@ mergeParts s v p q l =
     allZero (part s (nodeStripAt v) 3)
     && allZero (part s (nodeBaseAt v + 2) (nodeSize - 10))
     && mergeRows s v p q l
-    && same (boardPart s v) (mergeBoard (boardPart s l) (boardPart s p) (boardPart s q))
+    && same (boardPart s v) (mergeBoard (boardPart s l) (boardPart s p) (boardPart s q) .bytes)
     && not (member (entriesPart s) v)
 
 -- the parts of version v, as its node says; a base must be below it

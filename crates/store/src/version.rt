@@ -95,7 +95,7 @@ fn merge_rows_right(s: &[u8], v: Version, p: Version, q: Version, l: Version) ->
 // Whether a version's board is the merge of its parents' over the base's.
 fn merge_board_right(s: &[u8], v: Version, p: Version, q: Version, l: Version) -> bool
     requires { ⌜ (p .0 < v .0) × (q .0 < v .0) × (l .0 < v .0) × (v .0 < maxCapacity) × (blockAt (suc (v .0)) ≤ length (now s)) ⌝ }
-    ensures { λ r. ⌜ r ≡ same (boardPart (now (s .entry)) (v .0)) (mergeBoard (boardPart (now (s .entry)) (l .0)) (boardPart (now (s .entry)) (p .0)) (boardPart (now (s .entry)) (q .0))) ⌝ }
+    ensures { λ r. ⌜ r ≡ same (boardPart (now (s .entry)) (v .0)) (mergeBoard (boardPart (now (s .entry)) (l .0)) (boardPart (now (s .entry)) (p .0)) (boardPart (now (s .entry)) (q .0)) .bytes) ⌝ }
 {
     is_merged(
         board_part(s, v),

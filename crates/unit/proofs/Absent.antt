@@ -12,6 +12,7 @@ use Rattle.command.specs.declared.Command.the-variants.{Fork}
 use Rattle.command.specs.Code.{consoleCount, forkCommand}
 use Rattle.command.specs.Decode.{commandBytes}
 use Rattle.command.specs.Decoding.{InRange}
+use Rattle.room.specs.Step.{clashCount}
 use Rattle.room.specs.Room.{present}
 use Rattle.room.proofs.Sound.{present-console}
 use Rattle.room.proofs.Accepted.{fork-accepts}
@@ -43,7 +44,7 @@ module _ (store : List ℕ) (held : holdsStore store ≡ true) (c : ℕ) (cl : c
   no-origin k cell kl l = rw (lt-ltb c consoleCount cl, lt-ltb k stripCount kl, lt-ltb cell cellCount l, held, away)
 
   forkable : (old : ℕ) → present (roomIn store) old ≡ true → commandOutcome store (forkCommand ∷ c ∷ old ∷ []) .reply ≡ replied 0 0
-  unfolding commandBytes
+  unfolding commandBytes clashCount
   forkable old here =
       let range : InRange (Fork (record { 0 = c }) (record { 0 = old })) = (cl, present-console (roomIn store) old (whole-sound store held .sixteen) here, λ e. clash (rw (sym e) at here) away) in
       ap (λ (o : Outcome). o .reply)

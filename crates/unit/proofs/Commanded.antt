@@ -1,22 +1,23 @@
 -- What the call of a command answers: where it is not decoded, where the bytes hold no store, and where it comes to the store.
 -- Assumes nothing.
-use Prim.Native.Nat.{ℕ}
+use Prim.Native.Nat.{ℕ, _<_}
 use mathlib.Core.Path.{_≡_, refl, sym, _∙_, ap}
-use mathlib.Core.Bool.{true, false}
+use mathlib.Core.Bool.{Bool, true, false, not}
 use mathlib.Core.List.{List, []}
+use borrow.Author.Tests.{not-true, not-false}
+use Rattle.buffer.specs.Field.{overwrite}
 use Rattle.refusal.specs.Refusal.{firstRefusal}
 use Rattle.command.specs.declared.Command.{Command}
 use Rattle.command.specs.declared.Decoded.{Decoded}
 use Rattle.command.specs.declared.Decoded.the-variants.{Whole, Refused}
 use Rattle.command.specs.Decode.{decode, refusalOf, commandBytes}
 use Rattle.command.specs.Decoding.{InRange}
-use Rattle.command.proofs.Ranges.{refused-told}
+use Rattle.command.proofs.Ranges.{refused-told, decode-range}
 use Rattle.command.proofs.Encoded.{bytes-decode}
-use Rattle.room.specs.Step.{stepRefusal, step}
+use Rattle.room.specs.Step.{versionFree, stateTests, stepRefusal, step, clashCount}
 use Rattle.store.specs.Layout.{encode, roomIn, holdsStore}
-use Rattle.step.specs.Outcome.{afterStep}
 use Rattle.unit.specs.Calls.{replied, written, commandTests, stepOutcome, commandOutcome}
-use Rattle.unit.proofs.Answered.{Went, written-refused}
+use Rattle.unit.proofs.Answered.{Went, written-refused, written-done}
 
 -- the reply and the store's bytes are those of the call
 abbrev pub Answers : List ℕ → List ℕ → ℕ → List ℕ → Type 0
@@ -33,20 +34,49 @@ held-refused store c h = rw h
 
 -- a command in range on bytes that hold a store, which its room does not refuse
 pub carried-out : (store : List ℕ) (c : Command) → InRange c → holdsStore store ≡ true → stepRefusal (roomIn store) c ≡ 0
-    → commandOutcome store (commandBytes c) ≡ written 0 0 (encode (step (roomIn store) c)) store
+    → commandOutcome store (commandBytes c) ≡ written 0 (clashCount (roomIn store) c) (encode (step (roomIn store) c)) store
 unfolding commandOutcome stepOutcome
 carried-out store c range held unrefused = rw (bytes-decode c range, held-refused store c held, unrefused)
 
 module _ (store command : List ℕ) where
+  -- a command to judge by the room of the store
+  pub record Ready (c : Command) : Type 0 where
+    pub whole : Whole c ≡ decode command
+    pub held : holdsStore store ≡ true
+    pub range : InRange c
+
   pub undecoded : (n : ℕ) → Refused n ≡ decode command → Answers store command n store
   unfolding commandOutcome stepOutcome
   undecoded n h = rw (← h) (written-refused 0 [] store refl (refused-told command n h))
 
-  module _ (c : Command) (e : Whole c ≡ decode command) where
-    pub nothing-held : holdsStore store ≡ false → Answers store command 11 store
-    unfolding commandOutcome stepOutcome firstRefusal
-    nothing-held h = rw (← e, h) (refl, refl)
+  -- a whole command was decoded
+  module _ {d : Decoded} {c : Command} (e : d ≡ decode command) (told : d ≡ Whole c) where
+    whole : Whole c ≡ decode command
+    whole = sym told ∙ e
 
-    pub stepped : (n : ℕ) (t : List ℕ) → holdsStore store ≡ true → n ≡ stepRefusal (roomIn store) c → t ≡ afterStep store c → Answers store command n t
+    pub nothing-held : {b : Bool} → b ≡ holdsStore store → not b ≡ true → Answers store command 11 store
+    unfolding commandOutcome stepOutcome firstRefusal
+    nothing-held {b} asked t = rw (← whole, sym asked ∙ not-true b t) (refl, refl)
+
+    -- and the bytes hold a store
+    pub comes-to-store : {b : Bool} → b ≡ holdsStore store → not b ≡ false → Ready c
+    comes-to-store {b} asked f =
+        record { whole = whole; held = sym asked ∙ not-false b f; range = decode-range command c (sym whole) }
+
+  -- the refusal found in the state of its room, or none
+  module _ {c : Command} (k : Ready c) {free : Bool} {n : ℕ} (f : free ≡ versionFree (roomIn store)) (found : n ≡ firstRefusal (stateTests (roomIn store) free c)) where
+    pub is-step-refusal : n ≡ stepRefusal (roomIn store) c
+    unfolding stepRefusal
+    is-step-refusal = rw f at found
+
+    is-first : n ≡ firstRefusal (commandTests store c)
+    is-first = is-step-refusal ∙ sym (held-refused store c (k .held))
+
+    pub turned-down : 0 < n → Answers store command n store
     unfolding commandOutcome stepOutcome
-    stepped n t h answer after = rw (← e, held-refused store c h) (ap (λ (k : ℕ). replied k 0) answer, after)
+    turned-down p = rw (← k .whole) (written-refused (clashCount (roomIn store) c) (encode (step (roomIn store) c)) store is-first p)
+
+    pub stepped : n ≡ 0 → {clashes : ℕ} {t : List ℕ} → (t ≡ overwrite (encode (step (roomIn store) c)) store) × (clashes ≡ clashCount (roomIn store) c)
+        → Went (replied 0 clashes) t (commandOutcome store command)
+    unfolding commandOutcome stepOutcome
+    stepped none done = rw (← k .whole) (written-done (clashCount (roomIn store) c) (encode (step (roomIn store) c)) store is-first none (done .1) (done .0))

@@ -28,13 +28,13 @@ use Rattle.command.proofs.Ranges.{commandIn, whole-told, refused-told, decode-r
 use Rattle.command.proofs.Encoded.{bytes-decode}
 use Rattle.room.specs.Room.{Room, present, head, common, heardCount}
 use Rattle.room.specs.Origin.{origin}
-use Rattle.room.specs.Step.{otherDescends, someOtherDescends, stateTests, stepRefusal, moved, step}
+use Rattle.room.specs.Step.{otherDescends, someOtherDescends, stateTests, stepRefusal, moved, step, clashCount}
 use Rattle.room.specs.Sound.{soundRoom}
 use Rattle.room.proofs.Sound.{Sound, present-console, facts-sound}
 use Rattle.room.proofs.Moves.{number, slot-other, left-absent, left-sound}
 use Rattle.room.proofs.Accepted.{some-descends, leave-accepted, leave-accepts}
 use Rattle.room.proofs.Steps.{common-meet, common-self}
-use Rattle.room.proofs.Leaving.{left-merge, left-forward}
+use Rattle.room.proofs.Leaving.{left-merge, left-clashes, left-forward}
 use Rattle.store.specs.Layout.{commonAt, commonField, encode, roomIn, holdsStore}
 use Rattle.store.proofs.RoundTrip.{room-encode, holds-encode}
 use Rattle.store.proofs.Joined.{placed}
@@ -63,7 +63,7 @@ module _ (store : List ℕ) (c : ℕ) where
   leaving = Leave (record { 0 = c })
 
   accepted-is : Accepted store c → leaveOutcome store c ≡ written 0 0 (encode (moved (roomIn store) c none)) store
-  unfolding commandBytes step
+  unfolding commandBytes step clashCount
   accepted-is a = carried-out store leaving (a .range) (a .held) (leave-accepts (roomIn store) (record { 0 = c }) (a .here) (a .other))
 
   -- a whole command that begins with these bytes is the leave
@@ -209,18 +209,18 @@ module _ (store : List ℕ) (c : ℕ) (a : Accepted store c) where
   unfolding originReply origin
   origins-stay d k cell ne = rw (after-held, after-room, a .held, slot-other r c none d ne .slot)
 
-  -- bytes whose command the room refuses as it did are answered as they were
+  -- bytes whose command the room refuses as it did, and counts as it did, are answered as they were
   reply-stays : (bytes : List ℕ) → stepRefusal next (commandIn bytes) ≡ stepRefusal r (commandIn bytes)
-      → commandOutcome after bytes .reply ≡ commandOutcome store bytes .reply
+      → clashCount next (commandIn bytes) ≡ clashCount r (commandIn bytes) → commandOutcome after bytes .reply ≡ commandOutcome store bytes .reply
   unfolding commandOutcome stepOutcome
-  reply-stays bytes same = go (decode bytes) refl
+  reply-stays bytes same count = go (decode bytes) refl
     where
       go : (d : Decoded) → decode bytes ≡ d → stepOutcome after d .reply ≡ stepOutcome store d .reply
       go (Refused n) e = refl
-      go (Whole k) e = rw (held-refused after k after-held, after-room, held-refused store k (a .held), ← whole-told bytes k e .1, same)
+      go (Whole k) e = rw (held-refused after k after-held, after-room, held-refused store k (a .held), ← whole-told bytes k e .1, same, count)
 
   gone : Gone store c after
-  unfolding kindOf shapeOf operandsOf numberAt
+  unfolding kindOf shapeOf operandsOf numberAt clashCount
   gone = record {
     sound = after-held;
     sameLength = ap length (sym cleared) ∙ table-length store c (λ k. 0) 0;
@@ -231,9 +231,10 @@ module _ (store : List ℕ) (c : ℕ) (a : Accepted store c) where
     commons = commons-stay;
     origins = origins-stay;
     merges = λ d e dc ec.
-        reply-stays (mergeCommand ∷ d ∷ e ∷ []) (left-merge r s c (a .range .0) (a .other) (record { 0 = d }) (record { 0 = e }) dc ec);
+        reply-stays (mergeCommand ∷ d ∷ e ∷ []) (left-merge r s c (a .range .0) (a .other) (record { 0 = d }) (record { 0 = e }) dc ec)
+        (left-clashes r s c (a .range .0) (a .other) (record { 0 = d }) (record { 0 = e }) dc ec);
     fastForwards = λ d e dc ec.
-        reply-stays (fastForwardCommand ∷ d ∷ e ∷ []) (left-forward r s c (a .range .0) (a .other) (record { 0 = d }) (record { 0 = e }) dc ec);
+        reply-stays (fastForwardCommand ∷ d ∷ e ∷ []) (left-forward r s c (a .range .0) (a .other) (record { 0 = d }) (record { 0 = e }) dc ec) refl;
   }
 
 dropped : (c : ℕ) → (c < consoleCount) × (0 < c) → (j : Journal) → feed j (command (leaveBytes c)) 0 ≡ moveTo j c none

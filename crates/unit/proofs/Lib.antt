@@ -5,6 +5,7 @@ pub mod Reading
 pub mod Matched
 pub mod Absent
 pub mod Leaving
+pub mod Clashes
 pub mod Convergence
 pub mod Traced
 pub mod RoundTrip

@@ -1,6 +1,7 @@
 -- "A refusal returns its number, counts 0, and changes no lent byte. An accepted call returns 0, and with it a question its number, pause
--- and the copied board the bytes written, all others count 0." For each call its reply and the lent buffer that it may write, afterwards;
--- a command, a tape to resume, and the store of a question or a pause are lent for reading alone, so that nothing can change them.
+-- and the copied board the bytes written, all others count 0.", but for "An accepted merge reports the number" of its clashes. For each call
+-- its reply and the lent buffer that it may write, afterwards; a command, a tape to resume, and the store of a question or a pause are lent
+-- for reading alone, so that nothing can change them.
 use Prim.Native.Nat.{ℕ}
 use mathlib.Core.Bool.{Bool, cond, not, _||_}
 use mathlib.Core.List.{List, [], _∷_, _++_}
@@ -19,7 +20,7 @@ use Rattle.room.specs.Room.{Room, head, common, heardCount, openSettings, fresh
 use Rattle.room.specs.Sound.{settingsInRange}
 use Rattle.room.specs.Boards.{boardOf}
 use Rattle.room.specs.Origin.{origin}
-use Rattle.room.specs.Step.{absent, versionFree, stateTests, step}
+use Rattle.room.specs.Step.{absent, versionFree, stateTests, step, clashCount}
 use Rattle.store.specs.Layout.{storeSize, encode, roomIn, holdsStore}
 use Rattle.tape.specs.Tape.{Content, contentOf, tapeTests, roomOf, tapeOf}
 use Rattle.unit.specs.declared.Reply.{Reply}
@@ -66,7 +67,7 @@ stepOutcome store (Refused n) = written n 0 [] store
 stepOutcome store (Whole c) =
     let room : Room = roomIn store in
     let next : List ℕ = encode (step room c) in
-    written (firstRefusal (commandTests store c)) 0 next store
+    written (firstRefusal (commandTests store c)) (clashCount room c) next store
 
 unfoldable pub commandOutcome : List ℕ → List ℕ → Outcome
 commandOutcome store command = stepOutcome store (decode command)

@@ -3,4 +3,5 @@ pub mod Traced
 pub mod Absent
 pub mod Journal
 pub mod Leaving
+pub mod Clashes
 pub mod Convergence

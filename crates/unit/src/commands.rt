@@ -1,15 +1,18 @@
 // The call that executes a command.
 use crate::Reply;
+use crate::answers::counted;
 use crate::answers::reply_of;
 use command::Decoded;
 use command::decoder::decode_command;
 use command::decoder::refusal_number;
-use step::commands::execute;
+use step::changes::change;
+use step::refusals::refusal_of;
+use step::refusals::version_free;
 use store::judge::holds;
 ghost use mathlib.Core.Path.{_≡_};
 ghost use Rattle.unit.specs.Calls.{commandOutcome};
 
-// Executes a command on a store, or answers with its refusal and changes nothing.
+// Executes a command on a store and counts the clashes of a merge, or answers with its refusal and changes nothing.
 #[no_mangle]
 pub extern "C" fn room_command(store: &mut [u8], command: &[u8]) -> Reply
     ensures { λ r. ⌜ (r ≡ (commandOutcome (now (store .entry)) (now (command .entry))) .reply) × (now (store .exit) ≡ (commandOutcome (now (store .entry)) (now (command .entry))) .buffer) ⌝ }
@@ -21,5 +24,10 @@ pub extern "C" fn room_command(store: &mut [u8], command: &[u8]) -> Reply
     if !holds(store) {
         return reply_of(11);
     }
-    reply_of(execute(store, c))
+    let free = version_free(store);
+    let refusal = refusal_of(store, free, c);
+    if refusal != 0 {
+        return reply_of(refusal);
+    }
+    counted(change(store, c))
 }

@@ -17,7 +17,7 @@ use Rattle.graph.specs.declared.Node.{Node}
 use Rattle.graph.specs.declared.Node.the-variants.{Entry, Merge}
 use Rattle.store.specs.Layout.{nodeSize, rowSize, blockSize, entriesAt, blockAt, rowAt, boardAt, entryNodeBytes, mergeNodeBytes, mergeNodeCode}
 use Rattle.store.specs.Check.{rowPart, boardPart, entriesPart}
-use Rattle.update.specs.Append.{entryBlock, mergeBlock, withEntry, withMerge, nodeWith}
+use Rattle.update.specs.Append.{mergedBoards, entryBlock, mergeBlock, withEntry, withMerge, nodeWith}
 
 -- the nodes, from their first byte on
 pub entry-node-made : (node z a b c d : List ℕ) (p code strip operand : ℕ) → length node ≡ nodeSize → z ≡ zeros (length node)
@@ -43,7 +43,8 @@ pub entered-keeps : (n code k operand : ℕ) (x : List ℕ) → length x ≡ n �
 entered-keeps n code k operand x l = enter-length code k operand x ∙ l
 
 -- a merge of boards that are copies
-pub merged : {new l a b base mine given : List ℕ} → new ≡ mergeBoard l a b → l ≡ base → a ≡ mine → b ≡ given → new ≡ mergeBoard base mine given
+pub merged : {new l a b base mine given : List ℕ} {n : ℕ} → (new ≡ mergeBoard l a b .bytes) × (n ≡ mergeBoard l a b .clashes) → l ≡ base → a ≡ mine → b ≡ given
+    → (new ≡ mergeBoard base mine given .bytes) × (n ≡ mergeBoard base mine given .clashes)
 merged e x y z = rw (x, y, z) at e
 
 -- the row and the board of a lower version stay as they were
@@ -123,7 +124,7 @@ module _ (s : List ℕ) (n : ℕ) (fits : blockAt (suc n) ≤ length s) where
     mergeLine = withMember (union (rowPart s p) (rowPart s q)) n
 
     abbrev mergedBoard : List ℕ
-    mergedBoard = mergeBoard (boardPart s l) (boardPart s p) (boardPart s q)
+    mergedBoard = mergedBoards s p q l .bytes
 
     mergeLine-length : length mergeLine ≡ rowSize
     mergeLine-length = joined-keeps rowSize n (rowPart s q) (rowPart s p) (row-long q second) (row-long p first)
@@ -135,11 +136,12 @@ module _ (s : List ℕ) (n : ℕ) (fits : blockAt (suc n) ≤ length s) where
     unfolding mergeBlock
     mergeBlock-length = block-long s (mergeNodeBytes p q l) mergeLine mergedBoard n fits refl mergeLine-length mergedBoard-length
 
-    pub merge-appended : (a b c : List ℕ) → a ≡ withPart s (blockAt n) (mergeNodeBytes p q l)
+    pub merge-appended : (a b c : List ℕ) (clashes : ℕ) → a ≡ withPart s (blockAt n) (mergeNodeBytes p q l)
         → b ≡ withPart a (rowAt n) (withMember (union (rowPart a p) (rowPart a q)) n)
-        → c ≡ withPart b (boardAt n) (mergeBoard (boardPart b l) (boardPart b p) (boardPart b q)) → c ≡ withMerge s n p q l
+        → (c ≡ withPart b (boardAt n) (mergedBoards b p q l .bytes)) × (clashes ≡ mergedBoards b p q l .clashes)
+        → (c ≡ withMerge s n p q l) × (clashes ≡ mergedBoards s p q l .clashes)
     unfolding withMerge mergeBlock
-    merge-appended a b c ea eb ec =
+    merge-appended a b c clashes ea eb ec =
         let node : List ℕ = mergeNodeBytes p q l in
         let ln : length node ≡ nodeSize = refl in
         let ll = mergeLine-length in
@@ -153,5 +155,6 @@ module _ (s : List ℕ) (n : ℕ) (fits : blockAt (suc n) ≤ length s) where
         ∙ board-kept a mergeLine n (rowAt n) v i (omega arith) (omega arith)
         ∙ ap (λ (t : List ℕ). boardPart t v) ea
         ∙ board-kept s node n (blockAt n) v i (omega arith) (omega arith) in
-        let four : c ≡ withPart b (boardAt n) mergedBoard = rw (board l third, board p first, board q second) at ec in
-        block-written s node mergeLine mergedBoard n fits ln ll mergedBoard-length ea two four
+        let four : (c ≡ withPart b (boardAt n) mergedBoard) × (clashes ≡ mergedBoards s p q l .clashes) =
+        rw (board l third, board p first, board q second) at ec in
+        (block-written s node mergeLine mergedBoard n fits ln ll mergedBoard-length ea two (four .0), four .1)

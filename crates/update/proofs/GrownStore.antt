@@ -18,10 +18,11 @@ use Rattle.buffer.proofs.Writes.{put-length, put-other}
 use Rattle.board.specs.Board.{stripCount}
 use Rattle.graph.specs.declared.Node.{Node}
 use Rattle.graph.specs.Graph.{Graph, entry, merge, versionCount, isEntry, baseOf}
+use Rattle.command.specs.declared.Command.the-variants.{Merge}
 use Rattle.command.specs.Code.{consoleCount, isEntryCode, isStrip, isOperand}
 use Rattle.room.specs.Room.{Room, present, head, common}
 use Rattle.room.specs.Sound.{maxCapacity}
-use Rattle.room.specs.Step.{behind, someThirdSplits, grown}
+use Rattle.room.specs.Step.{behind, someThirdSplits, grown, clashCount}
 use Rattle.room.proofs.Sound.{Sound, capacity-range, facts-sound}
 use Rattle.room.proofs.Steps.{head-named, entry-grown, merge-grown}
 use Rattle.store.specs.Layout.{headerSize, rowSize, countAt, entriesAt, commonsAt, commonsEnd, commonAt, blockAt, commonField, encode, roomIn, holdsStore}
@@ -31,9 +32,9 @@ use Rattle.store.proofs.Moved.{commonField-sym, grown-self, grown-other, entry-
 use Rattle.store.proofs.Changed.{changed-store}
 use Rattle.store.proofs.Reading.{common-read}
 use Rattle.store.proofs.Whole.{whole-sound, whole-front, whole-long, whole-header}
-use Rattle.update.specs.Append.{withEntry, withMerge}
+use Rattle.update.specs.Append.{mergedBoards, withEntry, withMerge}
 use Rattle.update.specs.Commons.{putOthers, joinedField, putHead}
-use Rattle.update.proofs.AppendedBlocks.{Standing, Grew, entry-grew, merge-grew}
+use Rattle.update.proofs.AppendedBlocks.{Standing, Grew, entry-grew, merge-clashes, merge-grew}
 use Rattle.update.proofs.CommonsTable.{table-length, table-outside, table-stands}
 
 pub entry-in-range : (code strip operand : ℕ) → isEntryCode code ≡ true → strip < stripCount → isOperand code operand ≡ true
@@ -190,23 +191,33 @@ module _ (s : List ℕ) (t : holdsStore s ≡ true) (free : versionCount (roomIn
           merge-grew s g free-standing (whole-sound s t .lower) free-small free-fits (head r c) (head r d) (common r c d)
           (head-named r (whole-sound s t) c p) (head-named r (whole-sound s t) d q) (common-base r c d)
 
+      joined-clashes : mergedBoards s (head r c) (head r d) (common r c d) .clashes ≡ clashCount r (Merge (record { 0 = c }) (record { 0 = d }))
+      unfolding clashCount
+      joined-clashes =
+          merge-clashes s g free-standing (whole-sound s t .lower) free-small free-fits (head r c) (head r d) (common r c d)
+          (head-named r (whole-sound s t) c p) (head-named r (whole-sound s t) d q) (common-base r c d)
+
       abbrev joined-counted : List ℕ
       joined-counted = putWord joined countAt (suc n)
 
       header-fits : headerSize ≤ length joined-counted
       header-fits = omega (arith, counted-long joined m joined-grew, whole-header s t)
 
-      pub merged-store : (a b e u : List ℕ) (n h k l : ℕ) → n ≡ versionCount (roomIn s .versions) → h ≡ head (roomIn s) c → k ≡ head (roomIn s) d
-          → l ≡ common (roomIn s) c d → a ≡ withMerge s n h k l → b ≡ putWord a countAt (n + 1) → e ≡ putOthers b c (joinedField b c d) consoleCount
-          → u ≡ putHead e c (suc n) → u ≡ overwrite (encode (grown (roomIn s) c (merge (head (roomIn s) c) (head (roomIn s) d)))) s
-      merged-store a b e u n h k l en eh ek el ea eb ee eu =
+      pub merged-store : (a b e u : List ℕ) (n h k l clashes : ℕ) → n ≡ versionCount (roomIn s .versions) → h ≡ head (roomIn s) c → k ≡ head (roomIn s) d
+          → l ≡ common (roomIn s) c d → (a ≡ withMerge s n h k l) × (clashes ≡ mergedBoards s h k l .clashes)
+          → b ≡ putWord a countAt (n + 1) → e ≡ putOthers b c (joinedField b c d) consoleCount → u ≡ putHead e c (suc n)
+          → (u ≡ overwrite (encode (grown (roomIn s) c (merge (head (roomIn s) c) (head (roomIn s) d)))) s)
+          × (clashes ≡ clashCount (roomIn s) (Merge (record { 0 = c }) (record { 0 = d })))
+      merged-store a b e u n h k l clashes en eh ek el ea eb ee eu =
           let sound = whole-sound s t in
           let new = suc (versionCount g) in
           let field = joinedField joined-counted c d in
           let read = counted-read joined m joined-grew in
-          rw (eu, ee, eb, ea, add-one, en, eh, ek, el)
-          (grown-store joined m joined-grew (putHead (putOthers joined-counted c field consoleCount) c new) c (merge-grown r sound c d p q ahead back split free)
-          (table-length joined-counted c field new) (table-outside joined-counted c field new cl)
-          (table-stands joined-counted c field new cl header-fits (commonField r) (commonField (grown r c m)) (counted-commons joined m joined-grew) (grown-self r sound c p m)
-          (λ k kl kc. rw (read c k cl kl, read d k dl kl) (merge-row r sound c d p q split k kc))
-          (λ k kl kc. rw (read c k cl kl, read d k dl kl) (merge-column r sound c d p q split k kc)) (grown-other r sound c p m)))
+          rw (eu, ee, eb, ea .0, ea .1, add-one, en, eh, ek, el) (
+            grown-store joined m joined-grew (putHead (putOthers joined-counted c field consoleCount) c new) c (merge-grown r sound c d p q ahead back split free)
+                (table-length joined-counted c field new) (table-outside joined-counted c field new cl)
+                (table-stands joined-counted c field new cl header-fits (commonField r) (commonField (grown r c m)) (counted-commons joined m joined-grew) (grown-self r sound c p m)
+                (λ k kl kc. rw (read c k cl kl, read d k dl kl) (merge-row r sound c d p q split k kc))
+                (λ k kl kc. rw (read c k cl kl, read d k dl kl) (merge-column r sound c d p q split k kc)) (grown-other r sound c p m)),
+            joined-clashes,
+          )

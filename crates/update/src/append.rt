@@ -32,12 +32,12 @@ ghost use Prim.Native.Nat.{suc, _<_, _≤_};
 ghost use lib.ListN.{length, set};
 ghost use Rattle.buffer.specs.Field.{byte, withPart};
 ghost use Rattle.buffer.specs.Row.{withMember, union};
-ghost use Rattle.board.specs.Board.{stripCount, enter, mergeBoard};
+ghost use Rattle.board.specs.Board.{stripCount, enter};
 ghost use Rattle.room.specs.Sound.{maxCapacity};
 ghost use Rattle.store.specs.Layout.{headerSize, nodeSize, entriesAt, blockAt, rowAt, boardAt, entryNodeBytes, mergeNodeBytes};
 ghost use Rattle.store.specs.Rules.{nodeInRange};
 ghost use Rattle.store.specs.Check.{rowPart, boardPart, entriesPart};
-ghost use Rattle.update.specs.Append.{withEntry, withMerge, appended, nodeWith};
+ghost use Rattle.update.specs.Append.{mergedBoards, withEntry, withMerge, appended, nodeWith};
 
 // Writes the lowest 8 bits of a number at a place.
 fn put_byte(s: &mut [u8], at: usize, x: usize)
@@ -128,7 +128,7 @@ fn list_entry(s: &mut [u8], n: Version)
 }
 
 // Writes version n, an entry on version p.
-fn append_entry(s: &mut [u8], n: Version, p: Version, code: usize, strip: Strip, operand: usize)
+pub fn append_entry(s: &mut [u8], n: Version, p: Version, code: usize, strip: Strip, operand: usize)
     requires { ⌜ (p .0 < n .0) × (n .0 < maxCapacity) × (blockAt (suc (n .0)) ≤ length (now s)) ⌝ }
     requires { ⌜ (strip .0 < stripCount) ⌝ }
     ensures { λ _. ⌜ now (s .exit) ≡ withEntry (now (s .entry)) (n .0) (p .0) code (strip .0) operand ⌝ }
@@ -153,10 +153,11 @@ fn put_merge_row(s: &mut [u8], n: Version, p: Version, q: Version)
     put_extended_union(s, row_at(p), row_at(q), row_at(n), n.0);
 }
 
-// Puts the board of a merge of q into p over the base l. Two parts of one slice cannot be lent at once, so the three boards are copied first.
-fn put_merge_board(s: &mut [u8], n: Version, p: Version, q: Version, l: Version)
+// Puts the board of a merge of q into p over the base l, and counts its clashes. Two parts of one slice cannot be lent at once, so the three
+// boards are copied first.
+fn put_merge_board(s: &mut [u8], n: Version, p: Version, q: Version, l: Version) -> usize
     requires { ⌜ (p .0 < n .0) × (q .0 < n .0) × (l .0 < n .0) × (n .0 < maxCapacity) × (blockAt (suc (n .0)) ≤ length (now s)) ⌝ }
-    ensures { λ _. ⌜ now (s .exit) ≡ withPart (now (s .entry)) (boardAt (n .0)) (mergeBoard (boardPart (now (s .entry)) (l .0)) (boardPart (now (s .entry)) (p .0)) (boardPart (now (s .entry)) (q .0))) ⌝ }
+    ensures { λ r. ⌜ (now (s .exit) ≡ withPart (now (s .entry)) (boardAt (n .0)) (mergedBoards (now (s .entry)) (p .0) (q .0) (l .0) .bytes)) × (r ≡ mergedBoards (now (s .entry)) (p .0) (q .0) (l .0) .clashes) ⌝ }
 {
     let mut base = [0u8; BOARD];
     copy(&mut base, board_part(s, l));
@@ -166,13 +167,13 @@ fn put_merge_board(s: &mut [u8], n: Version, p: Version, q: Version, l: Version)
     copy(&mut given, board_part(s, q));
     let at = board_at(n);
     let end = at + BOARD;
-    merge_board(&mut s[at..end], &base, &mine, &given);
+    merge_board(&mut s[at..end], &base, &mine, &given)
 }
 
-// Writes version n, a merge of version q into version p with the base l.
-fn append_merge(s: &mut [u8], n: Version, p: Version, q: Version, l: Version)
+// Writes version n, a merge of version q into version p with the base l, and counts its clashes.
+pub fn append_merge(s: &mut [u8], n: Version, p: Version, q: Version, l: Version) -> usize
     requires { ⌜ (p .0 < n .0) × (q .0 < n .0) × (l .0 < n .0) × (n .0 < maxCapacity) × (blockAt (suc (n .0)) ≤ length (now s)) ⌝ }
-    ensures { λ _. ⌜ now (s .exit) ≡ withMerge (now (s .entry)) (n .0) (p .0) (q .0) (l .0) ⌝ }
+    ensures { λ r. ⌜ (now (s .exit) ≡ withMerge (now (s .entry)) (n .0) (p .0) (q .0) (l .0)) × (r ≡ mergedBoards (now (s .entry)) (p .0) (q .0) (l .0) .clashes) ⌝ }
 {
     let node = Node::Merge {
         receiver: p,
@@ -180,10 +181,10 @@ fn append_merge(s: &mut [u8], n: Version, p: Version, q: Version, l: Version)
     };
     put_node(s, n, node, l);
     put_merge_row(s, n, p, q);
-    put_merge_board(s, n, p, q, l);
+    put_merge_board(s, n, p, q, l)
 }
 
-// Writes version n, whatever made it; of a merge, with its base.
+// Writes version n, whatever made it; of a merge, with its base. Its clashes are let go.
 pub fn append_version(s: &mut [u8], n: Version, node: Node, base: Version)
     requires { ⌜ (n .0 < maxCapacity) × (blockAt (suc (n .0)) ≤ length (now s)) ⌝ }
     requires { ⌜ (nodeInRange (n .0) node ≡ true) × (base .0 < n .0) ⌝ }
@@ -196,6 +197,8 @@ pub fn append_version(s: &mut [u8], n: Version, node: Node, base: Version)
             strip,
             operand,
         } => append_entry(s, n, parent, code, strip, operand),
-        Node::Merge { receiver, giver } => append_merge(s, n, receiver, giver, base),
+        Node::Merge { receiver, giver } => {
+            append_merge(s, n, receiver, giver, base);
+        }
     }
 }

@@ -1,9 +1,16 @@
 -- `board::merge_strip` meets its contract. Its calls write the cells from the first to the last.
 -- Assumes nothing.
 use native.Mathlib.Omega.{arith}
-use Rattle.board.proofs.Strips.{strip-built}
+use borrow.Author.Needs.{needs}
+use Rattle.board.proofs.Strips.{two-bits, strip-built}
 use Rattle.board.proofs.merge_strip.Statement.{statement}
 use Rattle.board.proofs.merge_strip.Tie as tie
+
+add-result : tie.Need-add-result
+add-result c =
+    let heading = c .before .before .before .before .before .before .before .before .before .before .before .before .before .before in
+    let level = heading .before .before .before .before in
+    omega (arith, two-bits (level .merge-value-at .result) (heading .merge-value-at2 .result))
 
 returns : tie.Need-returns
 returns c =
@@ -21,4 +28,4 @@ pub merge-strip-spec : {M : Type 1} → statement M
 merge-strip-spec =
     tie.close
     (tie.spec (λ c κs. omega arith) (λ c κs. omega arith) (λ c κs. omega arith) (λ c κs. omega arith) (λ c κs. omega arith)
-    (λ c. omega arith) returns)
+    (λ c. search needs) (λ c. search needs) add-result (λ c. omega arith) returns)

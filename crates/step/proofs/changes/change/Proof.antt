@@ -1,7 +1,7 @@
 -- `step::changes::change` meets its contract: a command that is not refused has what its change asks for.
 -- Assumes nothing.
 use Prim.Native.Nat.{ℕ, _<_}
-use mathlib.Core.Path.{_≡_, subst}
+use mathlib.Core.Path.{_≡_, refl, subst}
 use mathlib.Core.List.{List}
 use native.Mathlib.Omega.{arith}
 use borrow.Author.Tests.{ltb-true}
@@ -11,7 +11,7 @@ use Rattle.command.specs.declared.Command.{Command}
 use Rattle.graph.specs.declared.Console.{Console}
 use Rattle.command.specs.Code.{consoleCount}
 use Rattle.command.specs.Decoding.{TwoConsoles, InRange}
-use Rattle.room.specs.Step.{stepRefusal, step}
+use Rattle.room.specs.Step.{stepRefusal, step, clashCount}
 use Rattle.room.proofs.Accepted.{MayMove, fork-accepted, forward-accepted, entry-accepted, merge-accepted, leave-accepted}
 use Rattle.store.specs.Layout.{roomIn}
 use Rattle.step.proofs.changes.change.Statement.{statement}
@@ -65,28 +65,28 @@ remove-console-requires c κs =
     (start .pre .0, (accepted .0, leave-accepted _ _ (accepted .1) .1))
 
 returns : tie.Need-returns
-unfolding step
-returns c = rw (c .before .before .before .before .before .c .given .1) (c .before .before .move-console .ensures)
+unfolding step clashCount
+returns c = rw (c .before .before .before .before .before .c3 .given .1) (c .before .before .merge .ensures)
 
 returns-2 : tie.Need-returns-2
-unfolding step
-returns-2 c = rw (c .before .before .before .before .before .c2 .given .1) (c .before .before .enter .ensures)
+unfolding step clashCount
+returns-2 c = rw (c .before .before .before .before .before .c .given .1) (c .before .before .move-console .ensures, refl)
 
 returns-3 : tie.Need-returns-3
-unfolding step
-returns-3 c = rw (c .before .before .before .before .before .c3 .given .1) (c .before .before .merge .ensures)
+unfolding step clashCount
+returns-3 c = rw (c .before .before .before .before .before .c2 .given .1) (c .before .before .enter .ensures, refl)
 
 returns-4 : tie.Need-returns-4
-unfolding step
-returns-4 c = rw (c .before .before .before .before .before .c4 .given .1) (c .before .before .move-console2 .ensures)
+unfolding step clashCount
+returns-4 c = rw (c .before .before .before .before .before .c4 .given .1) (c .before .before .move-console2 .ensures, refl)
 
 returns-5 : tie.Need-returns-5
-unfolding step
-returns-5 c = rw (c .before .before .before .before .before .c5 .given .1) (c .before .before .remove-console .ensures)
+unfolding step clashCount
+returns-5 c = rw (c .before .before .before .before .before .c5 .given .1) (c .before .before .remove-console .ensures, refl)
 
 pub change-spec : {M : Type 1} → statement M
 change-spec =
     tie.close
-    (tie.spec (λ c. search needs) move-console-requires (λ c. search needs) enter-requires (λ c. search needs) merge-requires
-    (λ c. search needs) move-console-requires-2 (λ c. search needs) remove-console-requires (λ c. omega arith) returns (λ c. omega arith) returns-2 (λ c. omega arith) returns-3
+    (tie.spec (λ c. search needs) move-console-requires (λ c. search needs) enter-requires (λ c. search needs) merge-requires (λ c. omega arith) returns
+    (λ c. search needs) move-console-requires-2 (λ c. search needs) remove-console-requires (λ c. omega arith) returns-2 (λ c. omega arith) returns-3
     (λ c. omega arith) returns-4 (λ c. omega arith) returns-5)

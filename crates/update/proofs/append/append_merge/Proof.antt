@@ -13,7 +13,7 @@ returns c =
     let node = row .before .before .before .before in
     let start = node .before .before .before in
     let a = start .args in
-    merge-appended (now (a .s)) (a .n .0) (omega arith) (a .p .0) (a .q .0) (a .l .0) (omega arith) (omega arith) (omega arith) _ _ _
+    merge-appended (now (a .s)) (a .n .0) (omega arith) (a .p .0) (a .q .0) (a .l .0) (omega arith) (omega arith) (omega arith) _ _ _ _
     (node .put-node .ensures) (row .put-merge-row .ensures) (board .put-merge-board .ensures)
 
 pub append-merge-spec : {M : Type 1} → statement M

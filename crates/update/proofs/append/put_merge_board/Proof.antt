@@ -3,11 +3,12 @@
 use native.Mathlib.Omega.{arith}
 use mathlib.Core.Path.{_∙_}
 use denote.Ref.{now}
-use Rattle.board.specs.Board.{boardSize, mergeBoard}
+use Rattle.board.specs.Board.{boardSize}
 use Rattle.board.proofs.Length.{mergeBoard-length}
 use Rattle.store.specs.Layout.{boardAt}
 use Rattle.store.specs.Check.{boardPart}
 use Rattle.buffer.proofs.Patches.{put-lent}
+use Rattle.update.specs.Append.{mergedBoards}
 use Rattle.update.proofs.Appended.{merged}
 use Rattle.update.proofs.append.put_merge_board.Statement.{statement}
 use Rattle.update.proofs.append.put_merge_board.Tie as tie
@@ -24,9 +25,11 @@ returns c =
     let base = first .copy .ensures ∙ first .before .board-part .ensures .0 in
     let mine = second .copy2 .ensures ∙ second .before .board-part2 .ensures .0 in
     let given = third .copy3 .ensures ∙ third .before .board-part3 .ensures .0 in
-    put-lent s _ (mergeBoard (boardPart s (a .l .0)) (boardPart s (a .p .0)) (boardPart s (a .q .0))) _ (boardAt (a .n .0)) boardSize (place .board-at .ensures)
-    (merged (c .before .before .merge-board .ensures) base mine given)
-    (mergeBoard-length (boardPart s (a .l .0)) (boardPart s (a .p .0)) (boardPart s (a .q .0)))
+    let both = merged (c .before .before .merge-board .ensures) base mine given in (
+      put-lent s _ (mergedBoards s (a .p .0) (a .q .0) (a .l .0) .bytes) _ (boardAt (a .n .0)) boardSize (place .board-at .ensures) (both .0)
+          (mergeBoard-length (boardPart s (a .l .0)) (boardPart s (a .p .0)) (boardPart s (a .q .0))),
+      both .1,
+    )
 
 pub put-merge-board-spec : {M : Type 1} → statement M
 put-merge-board-spec =

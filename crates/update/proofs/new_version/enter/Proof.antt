@@ -1,8 +1,6 @@
 -- `update::new_version::enter` meets its contract.
 -- Assumes nothing.
-use borrow.Author.Tests.{lt-ltb}
 use denote.Ref.{now}
-use Rattle.laws.proofs.Logic.{and-i}
 use Rattle.store.proofs.Whole.{whole-header}
 use Rattle.update.proofs.GrownStore.{entry-in-range, free-small, free-fits, entered-store}
 use native.Mathlib.Omega.{arith}
@@ -10,19 +8,15 @@ use borrow.Author.Needs.{needs}
 use Rattle.update.proofs.new_version.enter.Statement.{statement}
 use Rattle.update.proofs.new_version.enter.Tie as tie
 
-append-version-requires : tie.Need-append-version-requires
-append-version-requires c κs =
+append-entry-requires : tie.Need-append-entry-requires
+append-entry-requires c κs =
     let start = c .before .before .before .before .before .before in
-    let a = start .args in
-    let s = now (a .s) in
+    let s = now (start .args .s) in
     let rest = start .pre .1 in
     let free = rest .1 .1 .1 in
-    let range = entry-in-range (a .code) (a .strip .0) (a .operand) (rest .1 .0 .0) (rest .0 .1) (rest .1 .0 .1) in
-    let parent = c .before .head-of .result .0 in
-    let number = c .before .before .before .version-count .result in
     let small = free-small s (start .pre .0) free in
     let fits = free-fits s (start .pre .0) free in
-    (omega arith, (and-i _ _ range (lt-ltb parent number (omega arith)), omega arith))
+    (omega arith, rest .0 .1)
 
 put-word-requires : tie.Need-put-word-requires
 put-word-requires c κs =
@@ -46,9 +40,9 @@ returns c =
     let rest = start .pre .1 in
     entered-store (now (a .s)) (start .pre .0) (rest .1 .1 .1) (a .c .0) (rest .0 .0) (rest .1 .1 .0) (a .code) (a .strip .0) (a .operand)
     (entry-in-range _ _ _ (rest .1 .0 .0) (rest .0 .1) (rest .1 .0 .1)) _ _ _ _ _ (found .before .before .version-count .ensures .0)
-    (found .head-of .ensures .0) (written .append-version .ensures) (counted .put-word .ensures)
+    (found .head-of .ensures .0) (written .append-entry .ensures) (counted .put-word .ensures)
     (rw (field .field-of .ensures) at (moved .put-head .ensures))
 
 pub enter-spec : {M : Type 1} → statement M
 enter-spec =
-    tie.close (tie.spec (λ c κs. search needs) (λ c κs. search needs) append-version-requires (λ c. omega arith) put-word-requires (λ c κs. omega arith) put-head-requires (λ c. omega arith) returns)
+    tie.close (tie.spec (λ c κs. search needs) (λ c κs. search needs) append-entry-requires (λ c. omega arith) put-word-requires (λ c κs. omega arith) put-head-requires (λ c. omega arith) returns)
