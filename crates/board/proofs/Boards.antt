@@ -47,44 +47,66 @@ strip-merged l a b k =
     let given = strip-words b k in
     cc (strip-flag a k, strip-flag b k)
 
--- the first k strips of a board are merged, and their clashes counted
-pub record Merging (l a b board : List ℕ) (clashes k : ℕ) : Type 0 where
+-- strip k of three boards, merged by itself
+whole-strip : (l a b : List ℕ) {x y z : List ℕ} (k : ℕ) → x ≡ strip l k → y ≡ strip a k → z ≡ strip b k → mergeStrip x y z 0 ≡ mergeStrip l a b k
+whole-strip l a b k ex ey ez = rw (ex, ey, ez) (strip-merged l a b k)
+
+-- the first k strips of a board are merged
+pub record Merging (l a b board : List ℕ) (k : ℕ) : Type 0 where
   pub within : k ≤ stripCount
   pub long : length board ≡ boardSize
   pub done : take (stripSize * k) board ≡ mergeStrips l a b k .bytes
-  pub counted : clashes ≡ mergeStrips l a b k .clashes
 
-pub merging-start : (l a b board : List ℕ) → length board ≡ boardSize → Merging l a b board 0 0
+pub merging-start : (l a b board : List ℕ) → length board ≡ boardSize → Merging l a b board 0
 unfolding mergeStrips
-merging-start l a b board h = record { within = omega arith; long = h; done = refl; counted = refl }
+merging-start l a b board h = record { within = omega arith; long = h; done = refl }
 
 -- strip k is written, and what lies behind it is whatever it is
-pub merging-step : {l a b board x y z new : List ℕ} {clashes more k : ℕ} (rest : List ℕ) → Merging l a b board clashes k → k < stripCount
-    → x ≡ strip l k → y ≡ strip a k → z ≡ strip b k → (new ≡ mergeStrip x y z 0 .bytes) × (more ≡ mergeStrip x y z 0 .clashes)
-    → length (take (stripSize * k) board ++ (new ++ rest)) ≡ boardSize
-    → Merging l a b (take (stripSize * k) board ++ (new ++ rest)) (clashes + more) (k + 1)
+pub merging-step : {l a b board x y z new : List ℕ} {k : ℕ} (rest : List ℕ) → Merging l a b board k → k < stripCount
+    → x ≡ strip l k → y ≡ strip a k → z ≡ strip b k → new ≡ mergeStrip x y z 0 .bytes
+    → length (take (stripSize * k) board ++ (new ++ rest)) ≡ boardSize → Merging l a b (take (stripSize * k) board ++ (new ++ rest)) (k + 1)
 unfolding mergeStrips
-merging-step {l} {a} {b} {board} {x} {y} {z} {new = new} {more = more} {k = k} rest m h ex ey ez e long =
-    let whole : mergeStrip x y z 0 ≡ mergeStrip l a b k = rw (ex, ey, ez) (strip-merged l a b k) in
-    let merged : new ≡ mergeStrip l a b k .bytes = e .0 ∙ ap (λ (m : Merged). m .bytes) whole in
-    let one : more ≡ mergeStrip l a b k .clashes = e .1 ∙ ap (λ (m : Merged). m .clashes) whole in
+merging-step {l} {a} {b} {board} {new = new} {k = k} rest m h ex ey ez e long =
+    let merged : new ≡ mergeStrip l a b k .bytes = e ∙ ap (λ (m : Merged). m .bytes) (whole-strip l a b k ex ey ez) in
     record {
       within = omega arith;
       long = long;
       done =
           take-put board new rest (stripSize * k) (stripSize * (k + 1)) (omega (arith, m .long)) (rw merged (omega (arith, mergeStrip-length l a b k)))
           ∙ rw (merged, m .done, add-one);
-      counted = rw (m .counted, one, add-one);
     }
 
--- so far there are no more than 64, and one strip adds no more than 2
-pub merging-few : {l a b board : List ℕ} (x y z : List ℕ) {clashes more k : ℕ} → Merging l a b board clashes k → more ≡ mergeStrip x y z 0 .clashes
-    → (clashes ≤ 64) × (more ≤ 2)
-merging-few {l} {a} {b} x y z {k = k} m e =
-    (omega (arith, m .within, m .counted, strips-clashes l a b k), omega (arith, e, strip-clashes x y z 0))
-
-pub merging-finish : {l a b board : List ℕ} {clashes k : ℕ} → Merging l a b board clashes k → stripCount ≤ k
-    → (board ≡ mergeBoard l a b .bytes) × (clashes ≡ mergeBoard l a b .clashes)
-merging-finish {l} {a} {b} {board} {k = k} m h =
+pub merging-finish : {l a b board : List ℕ} {k : ℕ} → Merging l a b board k → stripCount ≤ k → board ≡ mergeBoard l a b .bytes
+merging-finish {l} {a} {b} {board} {k} m h =
     let e : k ≡ stripCount = omega (arith, m .within) in
-    (rw (e, take-all boardSize board (omega (arith, m .long))) at (m .done), rw e at (m .counted))
+    rw (e, take-all boardSize board (omega (arith, m .long))) at (m .done)
+
+-- and their clashes are counted
+pub record Counting (l a b board : List ℕ) (clashes k : ℕ) : Type 0 where
+  pub merging : Merging l a b board k
+  pub counted : clashes ≡ mergeStrips l a b k .clashes
+
+pub counting-start : (l a b board : List ℕ) → length board ≡ boardSize → Counting l a b board 0 0
+unfolding mergeStrips
+counting-start l a b board h = record { merging = merging-start l a b board h; counted = refl }
+
+-- so far there are no more than 64, and one strip adds no more than 2
+pub counting-few : {l a b board : List ℕ} (x y z : List ℕ) {clashes more k : ℕ} → Counting l a b board clashes k → more ≡ mergeStrip x y z 0 .clashes
+    → (clashes ≤ 64) × (more ≤ 2)
+counting-few {l} {a} {b} x y z {k = k} m e =
+    (omega (arith, m .merging .within, m .counted, strips-clashes l a b k), omega (arith, e, strip-clashes x y z 0))
+
+pub counting-step : {l a b board x y z new : List ℕ} {clashes more k : ℕ} (rest : List ℕ) → Counting l a b board clashes k → k < stripCount
+    → x ≡ strip l k → y ≡ strip a k → z ≡ strip b k → (new ≡ mergeStrip x y z 0 .bytes) × (more ≡ mergeStrip x y z 0 .clashes)
+    → length (take (stripSize * k) board ++ (new ++ rest)) ≡ boardSize
+    → Counting l a b (take (stripSize * k) board ++ (new ++ rest)) (clashes + more) (k + 1)
+unfolding mergeStrips
+counting-step {l} {a} {b} {k = k} rest m h ex ey ez e long =
+    let one = e .1 ∙ ap (λ (m : Merged). m .clashes) (whole-strip l a b k ex ey ez) in
+    record { merging = merging-step rest (m .merging) h ex ey ez (e .0) long; counted = rw (m .counted, one, add-one) }
+
+pub counting-finish : {l a b board : List ℕ} {clashes k : ℕ} → Counting l a b board clashes k → stripCount ≤ k
+    → (board ≡ mergeBoard l a b .bytes) × (clashes ≡ mergeBoard l a b .clashes)
+counting-finish {k = k} m h =
+    let e : k ≡ stripCount = omega (arith, m .merging .within) in
+    (merging-finish (m .merging) h, rw e at (m .counted))

@@ -209,8 +209,26 @@ fn strip_of(board: &[u8], k: usize) -> &[u8]
     part_of(board, STRIP_SIZE * k, STRIP_SIZE)
 }
 
-// Writes the merge of three boards, strip by strip, and counts its clashes.
-pub fn merge_board(board: &mut [u8], l: &[u8], a: &[u8], b: &[u8]) -> usize
+// Writes the merge of three boards, strip by strip. Its clashes are let go: whoever tests or resumes a room merges the boards of every version
+// and asks for none, and a number that nobody adds up costs nothing.
+pub fn merge_board(board: &mut [u8], l: &[u8], a: &[u8], b: &[u8])
+    requires { ⌜ (length (now board) ≡ boardSize) × (length (now l) ≡ boardSize) × (length (now a) ≡ boardSize) × (length (now b) ≡ boardSize) ⌝ }
+    ensures { λ _. ⌜ now (board .exit) ≡ mergeBoard (now (l .entry)) (now (a .entry)) (now (b .entry)) .bytes ⌝ }
+{
+    for k in 0..STRIP_COUNT {
+        let at = STRIP_SIZE * k;
+        let end = at + STRIP_SIZE;
+        merge_strip(
+            &mut board[at..end],
+            strip_of(l, k),
+            strip_of(a, k),
+            strip_of(b, k),
+        );
+    }
+}
+
+// The same, and counts its clashes.
+pub fn merge_board_counted(board: &mut [u8], l: &[u8], a: &[u8], b: &[u8]) -> usize
     requires { ⌜ (length (now board) ≡ boardSize) × (length (now l) ≡ boardSize) × (length (now a) ≡ boardSize) × (length (now b) ≡ boardSize) ⌝ }
     ensures { λ r. ⌜ (now (board .exit) ≡ mergeBoard (now (l .entry)) (now (a .entry)) (now (b .entry)) .bytes) × (r ≡ mergeBoard (now (l .entry)) (now (a .entry)) (now (b .entry)) .clashes) ⌝ }
 {
@@ -229,8 +247,7 @@ pub fn merge_board(board: &mut [u8], l: &[u8], a: &[u8], b: &[u8]) -> usize
     clashes
 }
 
-// A board is the merge of three boards. The board that it should be is made and compared whole, which runs on many bytes at a time; its
-// clashes are let go.
+// A board is the merge of three boards. The board that it should be is made and compared whole, which runs on many bytes at a time.
 pub fn is_merged(board: &[u8], l: &[u8], a: &[u8], b: &[u8]) -> bool
     requires { ⌜ (length (now board) ≡ boardSize) × (length (now l) ≡ boardSize) × (length (now a) ≡ boardSize) × (length (now b) ≡ boardSize) ⌝ }
     ensures { λ r. ⌜ r ≡ same (now (board .entry)) (mergeBoard (now (l .entry)) (now (a .entry)) (now (b .entry)) .bytes) ⌝ }

@@ -1,16 +1,16 @@
 -- The parts of a block that are written one behind the other make the block.
 -- Assumes nothing.
-use Prim.Native.Nat.{ℕ, suc, _+_, _<_, _≤_}
+use Prim.Native.Nat.{ℕ, suc, _+_, _-_, _<_, _≤_}
 use mathlib.Core.Path.{_≡_, refl, ap, _∙_}
 use mathlib.Core.List.{List, _++_}
 use native.Mathlib.Omega.{arith}
 use lib.Bits.{bitOr}
-use lib.ListN.{length, set, length-append, length-set}
+use lib.ListN.{length, set, take, drop, length-append, length-set}
 use Rattle.buffer.specs.Field.{byte, putWord, zeros, withPart}
 use Rattle.buffer.specs.Row.{withMember, union}
 use Rattle.buffer.proofs.Fields.{part-length}
 use Rattle.buffer.proofs.Bytewise.{bytewise-length}
-use Rattle.buffer.proofs.Patches.{with-length, with-part, with-next}
+use Rattle.buffer.proofs.Patches.{put-lent, with-length, with-part, with-next}
 use Rattle.board.specs.Board.{boardSize, enter, mergeBoard}
 use Rattle.board.proofs.Length.{enter-length, mergeBoard-length}
 use Rattle.graph.specs.declared.Node.{Node}
@@ -42,10 +42,15 @@ joined-keeps n v other x k l = member-keeps n v (union x other) (bytewise-length
 pub entered-keeps : (n code k operand : ℕ) (x : List ℕ) → length x ≡ n → length (enter code k operand x) ≡ n
 entered-keeps n code k operand x l = enter-length code k operand x ∙ l
 
--- a merge of boards that are copies
-pub merged : {new l a b base mine given : List ℕ} {n : ℕ} → (new ≡ mergeBoard l a b .bytes) × (n ≡ mergeBoard l a b .clashes) → l ≡ base → a ≡ mine → b ≡ given
-    → (new ≡ mergeBoard base mine given .bytes) × (n ≡ mergeBoard base mine given .clashes)
-merged e x y z = rw (x, y, z) at e
+-- a merge of copies of three boards, written where the board of version n was lent
+pub merged-put : (s : List ℕ) (n p q l : ℕ) {new base mine given : List ℕ} {at clashes : ℕ} → at ≡ boardAt n
+    → (base ≡ boardPart s l) × (mine ≡ boardPart s p) × (given ≡ boardPart s q)
+    → (new ≡ mergeBoard base mine given .bytes) × (clashes ≡ mergeBoard base mine given .clashes)
+    → (take at s ++ (new ++ drop (at + boardSize - at) (drop at s)) ≡ withPart s (boardAt n) (mergedBoards s p q l .bytes))
+    × (clashes ≡ mergedBoards s p q l .clashes)
+merged-put s n p q l {new} {at = at} {clashes = clashes} place copied e =
+    let merged : (new ≡ mergedBoards s p q l .bytes) × (clashes ≡ mergedBoards s p q l .clashes) = rw (copied .0, copied .1, copied .2) at e in
+    (put-lent s new (mergedBoards s p q l .bytes) at (boardAt n) boardSize place (merged .0) (mergeBoard-length (boardPart s l) (boardPart s p) (boardPart s q)), merged .1)
 
 -- the row and the board of a lower version stay as they were
 module _ (s x : List ℕ) (n at v : ℕ) (lower : v < n) (behind : blockAt n ≤ at) (fits : at + length x ≤ length s) where

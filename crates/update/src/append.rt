@@ -2,6 +2,7 @@
 // blocks up to the new one need to be there, whatever stands in the new one.
 use board::enter_board;
 use board::merge_board;
+use board::merge_board_counted;
 use buffer::add_member;
 use buffer::clear;
 use buffer::copy;
@@ -32,7 +33,7 @@ ghost use Prim.Native.Nat.{suc, _<_, _≤_};
 ghost use lib.ListN.{length, set};
 ghost use Rattle.buffer.specs.Field.{byte, withPart};
 ghost use Rattle.buffer.specs.Row.{withMember, union};
-ghost use Rattle.board.specs.Board.{stripCount, enter};
+ghost use Rattle.board.specs.Board.{boardSize, stripCount, enter};
 ghost use Rattle.room.specs.Sound.{maxCapacity};
 ghost use Rattle.store.specs.Layout.{headerSize, nodeSize, entriesAt, blockAt, rowAt, boardAt, entryNodeBytes, mergeNodeBytes};
 ghost use Rattle.store.specs.Rules.{nodeInRange};
@@ -153,25 +154,70 @@ fn put_merge_row(s: &mut [u8], n: Version, p: Version, q: Version)
     put_extended_union(s, row_at(p), row_at(q), row_at(n), n.0);
 }
 
-// Puts the board of a merge of q into p over the base l, and counts its clashes. Two parts of one slice cannot be lent at once, so the three
-// boards are copied first.
-fn put_merge_board(s: &mut [u8], n: Version, p: Version, q: Version, l: Version) -> usize
+// Copies the boards of a merge of q into p over the base l: two parts of one slice cannot be lent at once.
+fn copy_sides(
+    base: &mut [u8],
+    mine: &mut [u8],
+    given: &mut [u8],
+    s: &[u8],
+    p: Version,
+    q: Version,
+    l: Version,
+)
+    requires { ⌜ (length (now base) ≡ boardSize) × (length (now mine) ≡ boardSize) × (length (now given) ≡ boardSize) ⌝ }
+    requires { ⌜ (p .0 < maxCapacity) × (q .0 < maxCapacity) × (l .0 < maxCapacity) ⌝ }
+    requires { ⌜ (blockAt (suc (p .0)) ≤ length (now s)) × (blockAt (suc (q .0)) ≤ length (now s)) × (blockAt (suc (l .0)) ≤ length (now s)) ⌝ }
+    ensures { λ _. ⌜ (now (base .exit) ≡ boardPart (now (s .entry)) (l .0)) × (now (mine .exit) ≡ boardPart (now (s .entry)) (p .0)) × (now (given .exit) ≡ boardPart (now (s .entry)) (q .0)) ⌝ }
+{
+    copy(base, board_part(s, l));
+    copy(mine, board_part(s, p));
+    copy(given, board_part(s, q));
+}
+
+// Puts the board of a merge of q into p over the base l.
+fn put_merge_board(s: &mut [u8], n: Version, p: Version, q: Version, l: Version)
+    requires { ⌜ (p .0 < n .0) × (q .0 < n .0) × (l .0 < n .0) × (n .0 < maxCapacity) × (blockAt (suc (n .0)) ≤ length (now s)) ⌝ }
+    ensures { λ _. ⌜ now (s .exit) ≡ withPart (now (s .entry)) (boardAt (n .0)) (mergedBoards (now (s .entry)) (p .0) (q .0) (l .0) .bytes) ⌝ }
+{
+    let mut base = [0u8; BOARD];
+    let mut mine = [0u8; BOARD];
+    let mut given = [0u8; BOARD];
+    copy_sides(&mut base, &mut mine, &mut given, s, p, q, l);
+    let at = board_at(n);
+    let end = at + BOARD;
+    merge_board(&mut s[at..end], &base, &mine, &given);
+}
+
+// The same, and counts its clashes.
+fn put_merge_board_counted(s: &mut [u8], n: Version, p: Version, q: Version, l: Version) -> usize
     requires { ⌜ (p .0 < n .0) × (q .0 < n .0) × (l .0 < n .0) × (n .0 < maxCapacity) × (blockAt (suc (n .0)) ≤ length (now s)) ⌝ }
     ensures { λ r. ⌜ (now (s .exit) ≡ withPart (now (s .entry)) (boardAt (n .0)) (mergedBoards (now (s .entry)) (p .0) (q .0) (l .0) .bytes)) × (r ≡ mergedBoards (now (s .entry)) (p .0) (q .0) (l .0) .clashes) ⌝ }
 {
     let mut base = [0u8; BOARD];
-    copy(&mut base, board_part(s, l));
     let mut mine = [0u8; BOARD];
-    copy(&mut mine, board_part(s, p));
     let mut given = [0u8; BOARD];
-    copy(&mut given, board_part(s, q));
+    copy_sides(&mut base, &mut mine, &mut given, s, p, q, l);
     let at = board_at(n);
     let end = at + BOARD;
-    merge_board(&mut s[at..end], &base, &mine, &given)
+    merge_board_counted(&mut s[at..end], &base, &mine, &given)
 }
 
-// Writes version n, a merge of version q into version p with the base l, and counts its clashes.
-pub fn append_merge(s: &mut [u8], n: Version, p: Version, q: Version, l: Version) -> usize
+// Writes version n, a merge of version q into version p with the base l.
+fn append_merge(s: &mut [u8], n: Version, p: Version, q: Version, l: Version)
+    requires { ⌜ (p .0 < n .0) × (q .0 < n .0) × (l .0 < n .0) × (n .0 < maxCapacity) × (blockAt (suc (n .0)) ≤ length (now s)) ⌝ }
+    ensures { λ _. ⌜ now (s .exit) ≡ withMerge (now (s .entry)) (n .0) (p .0) (q .0) (l .0) ⌝ }
+{
+    let node = Node::Merge {
+        receiver: p,
+        giver: q,
+    };
+    put_node(s, n, node, l);
+    put_merge_row(s, n, p, q);
+    put_merge_board(s, n, p, q, l);
+}
+
+// The same, and counts its clashes.
+pub fn append_merge_counted(s: &mut [u8], n: Version, p: Version, q: Version, l: Version) -> usize
     requires { ⌜ (p .0 < n .0) × (q .0 < n .0) × (l .0 < n .0) × (n .0 < maxCapacity) × (blockAt (suc (n .0)) ≤ length (now s)) ⌝ }
     ensures { λ r. ⌜ (now (s .exit) ≡ withMerge (now (s .entry)) (n .0) (p .0) (q .0) (l .0)) × (r ≡ mergedBoards (now (s .entry)) (p .0) (q .0) (l .0) .clashes) ⌝ }
 {
@@ -181,10 +227,10 @@ pub fn append_merge(s: &mut [u8], n: Version, p: Version, q: Version, l: Version
     };
     put_node(s, n, node, l);
     put_merge_row(s, n, p, q);
-    put_merge_board(s, n, p, q, l)
+    put_merge_board_counted(s, n, p, q, l)
 }
 
-// Writes version n, whatever made it; of a merge, with its base. Its clashes are let go.
+// Writes version n, whatever made it; of a merge, with its base.
 pub fn append_version(s: &mut [u8], n: Version, node: Node, base: Version)
     requires { ⌜ (n .0 < maxCapacity) × (blockAt (suc (n .0)) ≤ length (now s)) ⌝ }
     requires { ⌜ (nodeInRange (n .0) node ≡ true) × (base .0 < n .0) ⌝ }
@@ -197,8 +243,6 @@ pub fn append_version(s: &mut [u8], n: Version, node: Node, base: Version)
             strip,
             operand,
         } => append_entry(s, n, parent, code, strip, operand),
-        Node::Merge { receiver, giver } => {
-            append_merge(s, n, receiver, giver, base);
-        }
+        Node::Merge { receiver, giver } => append_merge(s, n, receiver, giver, base),
     }
 }

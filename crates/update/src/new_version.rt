@@ -1,6 +1,6 @@
 // The commands that make a version: an entry on a console's head, and a merge of one console into another.
 use crate::append::append_entry;
-use crate::append::append_merge;
+use crate::append::append_merge_counted;
 use crate::commons::join_commons;
 use crate::commons::put_head;
 use buffer::put_word;
@@ -54,7 +54,7 @@ pub fn merge(s: &mut [u8], c: Console, d: Console) -> usize
     let receiver = head_of(s, c);
     let giver = head_of(s, d);
     let base = common_of(s, c, d);
-    let clashes = append_merge(s, next, receiver, giver, base);
+    let clashes = append_merge_counted(s, next, receiver, giver, base);
     put_word(s, COUNT, next.0 + 1);
     join_commons(s, c, d);
     put_head(s, c, field_of(next));

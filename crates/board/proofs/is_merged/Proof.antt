@@ -5,7 +5,7 @@ use Rattle.board.proofs.is_merged.Statement.{statement}
 use Rattle.board.proofs.is_merged.Tie as tie
 
 returns : tie.Need-returns
-returns c = rw (c .is-same .ensures, c .before .before .before .merge-board .ensures .0)
+returns c = rw (c .is-same .ensures, c .before .before .before .merge-board .ensures)
 
 pub is-merged-spec : {M : Type 1} → statement M
 is-merged-spec = tie.close (tie.spec (λ c. omega arith) (λ c κs. omega arith) (λ c. omega arith) (λ c κs. omega arith) returns)

@@ -1,26 +1,20 @@
--- `board::merge_board` meets its contract. The invariant of its loop is `Merging`: the first k strips are merged and their clashes counted.
+-- `board::merge_board` meets its contract. The invariant of its loop is `Merging`: the first k strips are merged.
 -- Assumes nothing.
 use Prim.Native.Nat.{_-_}
 use native.Mathlib.Omega.{arith}
 use Rattle.board.specs.Board.{stripCount}
-use Rattle.board.proofs.Boards.{Merging, merging-start, merging-step, merging-few, merging-finish}
+use Rattle.board.proofs.Boards.{Merging, merging-start, merging-step, merging-finish}
 use Rattle.board.proofs.merge_board.Statement.{statement}
 use Rattle.board.proofs.merge_board.Tie as tie
 
 abbrev Inv-loop : tie.InvT-loop
-Inv-loop board₀ l a b clashes₀ k₀ board clashes k = Merging l a b board clashes k
+Inv-loop board₀ l a b k₀ board k = Merging l a b board k
 
 abbrev μ-loop : tie.MeasureT-loop
-μ-loop board₀ l a b clashes₀ k₀ board clashes k = stripCount - k
+μ-loop board₀ l a b k₀ board k = stripCount - k
 
 loop-holds : tie.Need-loop-holds Inv-loop μ-loop
 loop-holds c = merging-start _ _ _ _ (c .before .before .before .before .pre .0)
-
-add-clashes : tie.Need-add-clashes Inv-loop μ-loop
-add-clashes c =
-    let call = c .before .before in
-    let turn = call .before .before .before .before .before in
-    omega (arith, merging-few _ _ _ (turn .before .loop .inv) (call .merge-strip .ensures .1))
 
 loop-again : tie.Need-loop-again Inv-loop μ-loop
 loop-again c =
@@ -28,7 +22,7 @@ loop-again c =
     let turn = call .before .before .before .before .before in
     merging-step _ (turn .before .loop .inv) (turn .loop-test .taken)
     (call .before .before .before .strip-of .ensures .0) (call .before .before .strip-of2 .ensures .0) (call .before .strip-of3 .ensures .0)
-    (call .merge-strip .ensures) (omega arith)
+    (call .merge-strip .ensures .0) (omega arith)
 
 returns : tie.Need-returns Inv-loop μ-loop
 returns c = merging-finish (c .before .loop .inv) (c .loop-test .left)
@@ -37,5 +31,5 @@ pub merge-board-spec : {M : Type 1} → statement M
 merge-board-spec =
     tie.close
     (tie.spec Inv-loop μ-loop loop-holds (λ c. omega arith) (λ c. omega arith) (λ c. omega arith) (λ c. omega arith) (λ c. omega arith)
-    (λ c κs. omega arith) (λ c κs. omega arith) (λ c κs. omega arith) (λ c κs. omega arith) add-clashes (λ c. omega arith) (λ c. omega arith)
+    (λ c κs. omega arith) (λ c κs. omega arith) (λ c κs. omega arith) (λ c κs. omega arith) (λ c. omega arith) (λ c. omega arith)
     loop-again (λ c. omega arith) returns)

@@ -1,5 +1,6 @@
 -- `update::append::append_merge` meets its contract.
 -- Assumes nothing.
+use mathlib.Core.Path.{refl}
 use native.Mathlib.Omega.{arith}
 use denote.Ref.{now}
 use Rattle.update.proofs.Appended.{merge-appended}
@@ -14,7 +15,7 @@ returns c =
     let start = node .before .before .before in
     let a = start .args in
     merge-appended (now (a .s)) (a .n .0) (omega arith) (a .p .0) (a .q .0) (a .l .0) (omega arith) (omega arith) (omega arith) _ _ _ _
-    (node .put-node .ensures) (row .put-merge-row .ensures) (board .put-merge-board .ensures)
+    (node .put-node .ensures) (row .put-merge-row .ensures) (board .put-merge-board .ensures, refl) .0
 
 pub append-merge-spec : {M : Type 1} → statement M
 append-merge-spec =

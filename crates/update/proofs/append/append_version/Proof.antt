@@ -18,7 +18,7 @@ returns : tie.Need-returns
 returns c = rw (c .before .before .before .before .before .node .given .1) (c .before .before .append-entry .ensures)
 
 returns-2 : tie.Need-returns-2
-returns-2 c = rw (c .before .before .before .before .before .node2 .given .1) (c .before .before .append-merge .ensures .0)
+returns-2 c = rw (c .before .before .before .before .before .node2 .given .1) (c .before .before .append-merge .ensures)
 
 pub append-version-spec : {M : Type 1} → statement M
 append-version-spec =

@@ -8,8 +8,8 @@ use borrow.Author.Needs.{needs}
 use Rattle.update.proofs.new_version.merge.Statement.{statement}
 use Rattle.update.proofs.new_version.merge.Tie as tie
 
-append-merge-requires : tie.Need-append-merge-requires
-append-merge-requires c κs =
+append-merge-counted-requires : tie.Need-append-merge-counted-requires
+append-merge-counted-requires c κs =
     let start = c .before .before .before .before .before .before .before .before .before .before in
     let s = now (start .args .s) in
     let free = start .pre .1 .1 .1 .1 .1 in
@@ -48,9 +48,9 @@ returns c =
     let rest = start .pre .1 .1 in
     merged-store (now (a .s)) (start .pre .0) (rest .1 .1 .1) (a .c .0) (start .pre .1 .0 .0) (rest .0 .0) (a .d .0) (start .pre .1 .0 .1) (rest .0 .1)
     (rest .1 .0 .0) (rest .1 .0 .1) (rest .1 .1 .0) _ _ _ _ _ _ _ _ _ (number .version-count .ensures .0) (mine .head-of .ensures .0)
-    (given .head-of2 .ensures .0) (base .common-of .ensures .0) (written .append-merge .ensures) (counted .put-word .ensures)
+    (given .head-of2 .ensures .0) (base .common-of .ensures .0) (written .append-merge-counted .ensures) (counted .put-word .ensures)
     (joined .join-commons .ensures) (rw (field .field-of .ensures) at (moved .put-head .ensures))
 
 pub merge-spec : {M : Type 1} → statement M
 merge-spec =
-    tie.close (tie.spec (λ c κs. search needs) (λ c κs. search needs) (λ c κs. search needs) (λ c κs. search needs) append-merge-requires (λ c. omega arith) put-word-requires join-commons-requires (λ c κs. omega arith) put-head-requires (λ c. omega arith) returns)
+    tie.close (tie.spec (λ c κs. search needs) (λ c κs. search needs) (λ c κs. search needs) (λ c κs. search needs) append-merge-counted-requires (λ c. omega arith) put-word-requires join-commons-requires (λ c κs. omega arith) put-head-requires (λ c. omega arith) returns)
