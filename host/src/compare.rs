@@ -818,8 +818,10 @@ fn compare_clashes(comparison: &mut Comparison, rng: &mut Rng, clashes: usize) -
         let reply = session.command(&merge)?;
         if reply != Reply::of(Ok(clashes)) {
             let round = &comparison.round;
-            let made = format!("{room:?} was made for {clashes} clashes");
-            return Err(format!("{round}: {reply:?} to {merge:02X?}, {made}"));
+            let made = format!("a room made for {clashes} clashes");
+            return Err(format!(
+                "{round}: {made}: {reply:?} to {merge:02X?}: {room:?}"
+            ));
         }
         session.run(STEPS_AFTER_CLASHES)?;
     }

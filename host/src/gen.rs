@@ -477,7 +477,7 @@ fn append_changes(
     from: &Settings,
     to: &Settings,
 ) -> usize {
-    let mut changes: Vec<Change> = (0..rng.between(1, 6))
+    let mut changes: Vec<Change> = (0..rng.between(1, 20))
         .map(|_| change_by_one_of(rng, code::MARK_PUT, code::ALERT_OFF))
         .collect();
     for place in 0..SETTINGS {
