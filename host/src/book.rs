@@ -3,6 +3,7 @@
 use crate::calls::Reply;
 use crate::implementations::Calls;
 use crate::layout::BOARD_BYTES;
+use std::collections::BTreeSet;
 use std::fmt;
 
 const CONSOLES: usize = 16;
@@ -107,6 +108,30 @@ impl Book {
             [code, _, strip, ..] => Some(self.add(head.into_iter().collect(), Some((code, strip)))),
             _ => head,
         };
+    }
+
+    /// The most that an accepted command may count, to be asked before it is noted: of a merge how many levels and headings were written
+    /// on both sides since they parted, as a side that hasn't written one still shows the base's value; of every other command 0.
+    pub fn most_clashes(&self, command: &[u8]) -> usize {
+        let [0x09, receiver, giver] = *command else {
+            return 0;
+        };
+        let (Some(one), Some(other)) = (self.head(receiver), self.head(giver)) else {
+            return 0;
+        };
+        let (of_one, of_other) = (self.set_apart(one, other), self.set_apart(other, one));
+        of_one.intersection(&of_other).count()
+    }
+
+    /// The levels and headings that are set by entries that lead to the one version and not to the other.
+    fn set_apart(&self, version: usize, other: usize) -> BTreeSet<Entry> {
+        let (leading, elsewhere) = (self.leading_to(version), self.leading_to(other));
+        let both = leading.iter().zip(elsewhere);
+        let apart: Vec<bool> = both.map(|(&here, there)| here && !there).collect();
+        let entries = self.entries_of(&apart).into_iter().map(|(_, entry)| entry);
+        entries
+            .filter(|(code, _)| [LEVEL, HEADING].contains(code))
+            .collect()
     }
 
     fn head(&self, console: u8) -> Option<usize> {

@@ -3,10 +3,11 @@
 use crate::layout;
 use crate::model::{
     capacity_is_in_range, cell_origin, command_length, common_version, console_board, decode,
-    heard_count, refusal, refuse_if, room_of_tape, step, tape_of, Cell, Room, CONSOLES, STRIPS,
+    heard_count, refusal, refuse_if, reported, room_of_tape, sound_boards, step, tape_of, Ancestry,
+    Cell, Room, CONSOLES, STRIPS,
 };
 
-/// The answer is 0 or the refusal; the count is the question's number or the bytes written, else 0.
+/// The answer is 0 or the refusal; the count is the question's number, the bytes written or the clashes of a merge, else 0.
 #[derive(Clone, Copy, Debug, PartialEq, Eq)]
 #[repr(C)]
 pub struct Reply {
@@ -37,8 +38,7 @@ pub fn open(capacity: u32, store: &mut [u8]) -> Reply {
 }
 
 pub fn command(store: &mut [u8], command: &[u8]) -> Reply {
-    let outcome = room_after(store, command).and_then(|room| write_store(&room, store));
-    Reply::of(outcome)
+    Reply::of(obey(store, command))
 }
 
 pub fn pause(store: &[u8], tape: &mut [u8]) -> Reply {
@@ -84,7 +84,7 @@ fn write_front(bytes: &[u8], lent: &mut [u8]) -> Result<usize, u32> {
     Ok(bytes.len())
 }
 
-/// Writes the room's encoding at the front of the lent store; such calls count 0.
+/// Writes the room's encoding at the front of the lent store; opening and resume count 0.
 fn write_store(room: &Room, store: &mut [u8]) -> Result<usize, u32> {
     write_front(&layout::encode(room), store)?;
     Ok(0)
@@ -99,9 +99,14 @@ fn opened_room(capacity: u32) -> Result<Room, u32> {
     Ok(Room::opened(capacity))
 }
 
-fn room_after(store: &[u8], command: &[u8]) -> Result<Room, u32> {
+/// Takes the store through a command. What is written and what is reported come from one working of the boards.
+fn obey(store: &mut [u8], command: &[u8]) -> Result<usize, u32> {
     let decoded = decode(command)?;
-    step(&room_in(store)?, &decoded)
+    let room = step(&room_in(store)?, &decoded)?;
+    let ancestry = Ancestry::new(&room);
+    let boards = sound_boards(&room, &ancestry);
+    write_front(&layout::encode_boards(&room, &ancestry, &boards), store)?;
+    Ok(reported(&decoded, &boards))
 }
 
 /// The console that a question names, or refusal 3.
@@ -152,25 +157,35 @@ fn origin_number(store: &[u8], console: u32, strip: u32, cell: u32) -> Result<us
 
 const SESSION_CAPACITY: u32 = 64;
 
-/// What the program of "Sessions to check" prints for this standard input.
-pub fn session(input: &[u8]) -> String {
+/// What the program of "Sessions to check" prints for an input, and the clashes of the merges in it, which it doesn't print.
+pub struct Session {
+    pub printed: String,
+    pub clashes: u32,
+}
+
+pub fn session(input: &[u8]) -> Session {
     let mut store = vec![0; layout::store_bytes(SESSION_CAPACITY as usize)];
     open(SESSION_CAPACITY, &mut store);
-    let mut printed = String::new();
+    let mut session = Session {
+        printed: String::new(),
+        clashes: 0,
+    };
     let mut rest = input;
     let mut ordinal = 1;
     while !rest.is_empty() {
         let (next, behind) = rest.split_at(next_length(rest));
-        let answer = command(&mut store, next).answer;
+        let Reply { answer, count } = command(&mut store, next);
         let head = shown_head(&store, answer, next);
-        printed += &format!("{ordinal} {answer} {head}\n");
+        session.printed += &format!("{ordinal} {answer} {head}\n");
+        session.clashes += count;
         if answer == refusal::NO_SUCH_COMMAND || answer == refusal::WRONG_LENGTH {
             break;
         }
         rest = behind;
         ordinal += 1;
     }
-    printed + &format!("end {}\n", version_count(&store))
+    session.printed += &format!("end {}\n", version_count(&store));
+    session
 }
 
 /// How many bytes are taken as the next command: a whole one, what is there of one, or an unknown code alone.

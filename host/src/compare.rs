@@ -11,6 +11,7 @@ use crate::model::{
     code, decode, record, refusal, room_of_tape, step, tape_of, Room, CONSOLES, STRIPS,
 };
 use crate::rng::Rng;
+use std::collections::BTreeMap;
 use std::fmt;
 use std::iter::repeat_n;
 use std::mem::take;
@@ -207,10 +208,13 @@ enum Figure {
     ForkedAgain,
     ResumedAfterLeave,
     HeardTheSame,
+    MergeWithoutClash,
+    MergeWithClashes,
+    Clash,
 }
 
 /// The figures, each with its name and the least that a run must have of it for each of its rounds.
-const FIGURES: [(Figure, &str, u64); 6] = [
+const FIGURES: [(Figure, &str, u64); 9] = [
     (Figure::OriginOfNoEntry, "origins of no entry", 1),
     (Figure::OriginOfAnEntry, "origins of an entry", 1),
     (Figure::Leave, "leaves accepted", 100),
@@ -225,13 +229,21 @@ const FIGURES: [(Figure, &str, u64); 6] = [
         "pairs of consoles that heard the same",
         300,
     ),
+    (Figure::MergeWithoutClash, "merges that counted 0", 80),
+    (
+        Figure::MergeWithClashes,
+        "merges that counted 1 or more",
+        30,
+    ),
+    (Figure::Clash, "clashes counted", 300),
 ];
 
-/// How often each call gave each answer, and the figures.
+/// How often each call gave each answer, the figures, and how many merges counted each number of clashes.
 #[derive(Clone, Default)]
 pub struct Tally {
     answers: [[u64; HIGHEST_REFUSAL + 1]; LISTED.len()],
     figures: [u64; FIGURES.len()],
+    merges: BTreeMap<u32, u64>,
 }
 
 impl Tally {
@@ -246,6 +258,18 @@ impl Tally {
             };
             self.count(figure, 1);
         }
+    }
+
+    /// Counts an accepted merge with so many clashes.
+    fn note_merge(&mut self, clashes: u32) {
+        *self.merges.entry(clashes).or_default() += 1;
+        let figure = if clashes == 0 {
+            Figure::MergeWithoutClash
+        } else {
+            Figure::MergeWithClashes
+        };
+        self.count(figure, 1);
+        self.count(Figure::Clash, clashes as usize);
     }
 
     fn count(&mut self, figure: Figure, more: usize) {
@@ -280,7 +304,13 @@ impl Tally {
             .map(|(figure, name, least)| (name, self.figures[figure as usize], least))
     }
 
-    /// The listed pairs that were never met, and the figures that are too low for so many rounds.
+    /// Each number of clashes that a merge can have, and how many merges counted it.
+    fn numbers_of_clashes(&self) -> impl Iterator<Item = (u32, u64)> + '_ {
+        let met = |number: u32| self.merges.get(&number).copied().unwrap_or(0);
+        (0..=gen::SETTINGS as u32).map(move |number| (number, met(number)))
+    }
+
+    /// The listed pairs and the numbers of clashes that were never met, and the figures that are too low for so many rounds.
     fn missing(&self, rounds: usize) -> Vec<String> {
         let pairs = self
             .pairs()
@@ -288,8 +318,12 @@ impl Tally {
         let figures = self
             .figures()
             .map(|(name, met, least)| (name.to_string(), met, least * rounds as u64));
+        let clashes = self
+            .numbers_of_clashes()
+            .map(|(number, met)| (format!("merges that counted {number}"), met, 1));
         pairs
             .chain(figures)
+            .chain(clashes)
             .filter(|&(_, met, least)| met < least)
             .map(|(what, met, least)| format!("{what}: {met} of {least}"))
             .collect()
@@ -302,6 +336,9 @@ impl AddAssign<&Tally> for Tally {
         let answers = self.answers.as_flattened_mut().iter_mut();
         let sums = answers.chain(&mut self.figures);
         sums.zip(others).for_each(|(sum, other)| *sum += other);
+        for (clashes, merges) in &other.merges {
+            *self.merges.entry(*clashes).or_default() += merges;
+        }
     }
 }
 
@@ -313,7 +350,9 @@ impl fmt::Display for Tally {
             write_row(out, answer, met, self.of_answer(answer))
         })?;
         self.figures()
-            .try_for_each(|(name, met, _)| writeln!(out, "{name}: {met}"))
+            .try_for_each(|(name, met, _)| writeln!(out, "{name}: {met}"))?;
+        let met = self.numbers_of_clashes().filter(|&(_, met)| met > 0);
+        writeln!(out, "numbers of clashes met: {}", met.count())
     }
 }
 
@@ -384,7 +423,11 @@ impl Comparison {
 
     fn command(&mut self, pair: &mut Pair, bytes: &[u8]) -> Outcome<Reply> {
         pair.lend_input(bytes);
-        self.call(Call::Command, pair)
+        let reply = self.call(Call::Command, pair)?;
+        if reply.answer == 0 && bytes.first() == Some(&code::MERGE) {
+            self.tally.note_merge(reply.count);
+        }
+        Ok(reply)
     }
 
     fn commands(&mut self, pair: &mut Pair, commands: &[&[u8]]) -> Outcome<()> {
@@ -544,6 +587,9 @@ struct Session<'a> {
 /// The steps of a session with turnover from one look at the book to the next.
 const STEPS_TO_THE_BOOK: usize = 30;
 
+/// The steps of a session after the merge of a room that clashes.
+const STEPS_AFTER_CLASHES: usize = 8;
+
 impl<'a> Session<'a> {
     fn new(
         comparison: &'a mut Comparison,
@@ -581,7 +627,7 @@ impl<'a> Session<'a> {
         match self.rng.below(100) {
             0..=79 => {
                 let bytes = gen::turnover_command(&mut self.rng, &self.room, step);
-                self.command(&bytes)
+                self.command(&bytes).map(|_| ())
             }
             80..=85 => self.come_back(),
             _ => self.step(),
@@ -592,11 +638,11 @@ impl<'a> Session<'a> {
         match self.rng.below(100) {
             0..=44 => {
                 let bytes = gen::likely_command(&mut self.rng, &self.room);
-                self.command(&bytes)
+                self.command(&bytes).map(|_| ())
             }
             45..=54 => {
                 let bytes = gen::any_command(&mut self.rng);
-                self.command(&bytes)
+                self.command(&bytes).map(|_| ())
             }
             55..=70 => self.ask(),
             71..=77 => self.pause().map(|_| ()),
@@ -607,15 +653,28 @@ impl<'a> Session<'a> {
         }
     }
 
-    fn command(&mut self, bytes: &[u8]) -> Outcome<()> {
+    fn command(&mut self, bytes: &[u8]) -> Outcome<Reply> {
         let reply = self.comparison.command(&mut self.pair, bytes)?;
         if reply.answer == 0 {
             let next = decode(bytes).and_then(|command| step(&self.room, &command));
             self.room = next.map_err(|refusal| format!("the model accepted {refusal}"))?;
+            self.check_count(bytes, reply.count)?;
             self.book.note(bytes);
             self.note_turnover(bytes);
         }
-        Ok(())
+        Ok(reply)
+    }
+
+    /// An accepted command, not noted in the book yet, counts no more than the book allows.
+    fn check_count(&self, command: &[u8], count: u32) -> Outcome<()> {
+        let most = self.book.most_clashes(command);
+        if count as usize <= most {
+            return Ok(());
+        }
+        let round = &self.comparison.round;
+        Err(format!(
+            "book and model, {round}: {command:02X?} counts {count}, at most {most} is due"
+        ))
     }
 
     /// Counts an accepted leave, and an accepted fork of a number that has left before.
@@ -749,6 +808,24 @@ fn resumed_session<'a>(
     comparison.resume(&mut pair, &tape)?;
     let book = Book::of_tape(&tape);
     Ok(Session::new(comparison, rng, pair, room, book))
+}
+
+/// A room whose next merge has so many clashes, whichever console takes from the other, and what comes after it.
+fn compare_clashes(comparison: &mut Comparison, rng: &mut Rng, clashes: usize) -> Outcome<()> {
+    let room = gen::clashing_room(rng, clashes);
+    for merge in [[code::MERGE, 0, 1], [code::MERGE, 1, 0]] {
+        let mut session = resumed_session(comparison, rng, room.clone())?;
+        let reply = session.command(&merge)?;
+        if reply != Reply::of(Ok(clashes)) {
+            let round = &comparison.round;
+            let made = format!("a room made for {clashes} clashes");
+            return Err(format!(
+                "{round}: {made}: {reply:?} to {merge:02X?}: {room:?}"
+            ));
+        }
+        session.run(STEPS_AFTER_CLASHES)?;
+    }
+    Ok(())
 }
 
 // ---------------------------------------------------------------- tapes, stores, garbage, numbers
@@ -1165,6 +1242,7 @@ fn small_round(comparison: &mut Comparison, rng: &mut Rng) -> Outcome<()> {
     turnover_sessions(comparison, rng)?;
     sessions_from_full_rooms(comparison, rng, 16)?;
     sessions_from_full_rooms(comparison, rng, 64)?;
+    sessions_that_clash(comparison, rng)?;
     compare_garbage(comparison, rng, 250)?;
     compare_tapes(comparison, rng, 500)?;
     compare_cut_tapes(comparison, rng)?;
@@ -1205,6 +1283,17 @@ fn sessions_from_full_rooms(
     resumed_session(comparison, rng, merges)?.run(40)
 }
 
+/// Rooms whose merges have some number of clashes, merged at once and after other steps.
+fn sessions_that_clash(comparison: &mut Comparison, rng: &mut Rng) -> Outcome<()> {
+    for _ in 0..3 {
+        let clashes = rng.below(gen::SETTINGS + 1);
+        compare_clashes(comparison, rng, clashes)?;
+        let room = gen::clashing_room(rng, clashes);
+        resumed_session(comparison, rng, room)?.run(30)?;
+    }
+    Ok(())
+}
+
 /// The cases that are the same, or nearly so, for every seed.
 fn fixed_cases(comparison: &mut Comparison, rng: &mut Rng) -> Outcome<()> {
     compare_paper_rooms(comparison, rng)?;
@@ -1212,6 +1301,9 @@ fn fixed_cases(comparison: &mut Comparison, rng: &mut Rng) -> Outcome<()> {
     compare_edges(comparison, rng)?;
     compare_long_tapes(comparison, rng)?;
     compare_long_walks(comparison)?;
+    for clashes in 0..=gen::SETTINGS {
+        compare_clashes(comparison, rng, clashes)?;
+    }
     compare_grown_store(comparison, rng, 1023)?;
     compare_grown_store(comparison, rng, 1024)
 }

@@ -223,6 +223,12 @@ fn ones_if(condition: bool) -> u16 {
     }
 }
 
+/// A merged cell, and 1 where base, receiver and giver all differ in a level or heading, else 0.
+struct MergedCell {
+    value: u16,
+    clash: u16,
+}
+
 /// The three boards of a merge, and for each cell the one before it, in which a flag finds its count.
 struct Sides<'a> {
     l: &'a Cells,
@@ -249,7 +255,7 @@ impl Sides<'_> {
     /// A merged cell. Each rule is worked out for each cell, and the masks choose: no branches, so that many cells are merged
     /// at a time. A side's alert count is never below the base's, so that it is above where it is another.
     #[inline(always)]
-    fn merged(&self, place: usize) -> u16 {
+    fn merged(&self, place: usize) -> MergedCell {
         let cell = |cells: &Cells| u16::from_be_bytes(cells[place]);
         let (l, a, b) = (cell(self.l), cell(self.a), cell(self.b));
         let a_above = ones_if(self.a_before[place] != self.l_before[place]);
@@ -259,10 +265,14 @@ impl Sides<'_> {
         let marks = (a & b) | (a & !l) | (b & !l);
         let count = a.wrapping_add(b).wrapping_sub(l);
         let flag = (a & b) | (a & a_above) | (b & b_above);
-        (setting & SETTINGS[place])
-            | (marks & MARKS[place])
-            | (count & COUNTS[place])
-            | (flag & FLAGS[place])
+        let all_differ = !kept & ones_if(b != l) & ones_if(a != b);
+        MergedCell {
+            value: (setting & SETTINGS[place])
+                | (marks & MARKS[place])
+                | (count & COUNTS[place])
+                | (flag & FLAGS[place]),
+            clash: all_differ & SETTINGS[place] & 1,
+        }
     }
 }
 
@@ -425,7 +435,8 @@ fn board_is_merged(base: &Block, receiver: &Block, giver: &Block, block: &Block)
     let sides = Sides::of(base, receiver, giver);
     let found = cells_at(block, BOARD_AT);
     let cells = found.iter().enumerate();
-    let differences = cells.map(|(place, cell)| sides.merged(place) ^ u16::from_be_bytes(*cell));
+    let differences =
+        cells.map(|(place, cell)| sides.merged(place).value ^ u16::from_be_bytes(*cell));
     differences.fold(0, |all, difference| all | difference) == 0
 }
 
@@ -631,12 +642,12 @@ fn obey(store: &mut [u8], command: &[u8]) -> Result<usize, u32> {
     let decoded = decode(command)?;
     let (header, blocks) = sound_parts_mut(store)?;
     match decoded {
-        Command::Fork { new, old } => fork(header, new, old),
-        Command::Entry { console, entry } => enter(header, blocks, console, entry),
-        Command::Merge { receiver, giver } => merge(header, blocks, receiver, giver),
-        Command::FastForward { receiver, giver } => fast_forward(header, blocks, receiver, giver),
-        Command::Leave { console } => leave(header, console),
-    }?;
+        Command::Fork { new, old } => fork(header, new, old)?,
+        Command::Entry { console, entry } => enter(header, blocks, console, entry)?,
+        Command::Merge { receiver, giver } => return merge(header, blocks, receiver, giver),
+        Command::FastForward { receiver, giver } => fast_forward(header, blocks, receiver, giver)?,
+        Command::Leave { console } => leave(header, console)?,
+    }
     Ok(0)
 }
 
@@ -715,12 +726,13 @@ fn next_version(header: &Header, blocks: &[Block]) -> Result<usize, u32> {
     Ok(version)
 }
 
+/// Merges, and counts the clashes.
 fn merge(
     header: &mut Header,
     blocks: &mut [Block],
     receiver: usize,
     giver: usize,
-) -> Result<(), u32> {
+) -> Result<usize, u32> {
     let receiver_head = head_of(header, receiver)?;
     let giver_head = head_of(header, giver)?;
     refuse_if(
@@ -734,14 +746,14 @@ fn merge(
     let commons = commons_after_merge(header, blocks, receiver, giver)?;
     let version = next_version(header, blocks)?;
     let base = common_field(header, receiver, giver) - 1;
-    write_merge(blocks, version, (receiver_head, giver_head), base);
+    let clashes = write_merge(blocks, version, (receiver_head, giver_head), base);
     for (other, field) in commons.into_iter().enumerate() {
         put_common_field(header, receiver, other, field);
     }
     put_common_field(header, receiver, giver, giver_head + 1);
     put_common_field(header, receiver, receiver, version + 1);
     put_number(header, COUNT_AT, version + 1);
-    Ok(())
+    Ok(clashes)
 }
 
 /// For each third console the later of its common versions with receiver and giver, as fields, or refusal 17.
@@ -797,29 +809,40 @@ fn fill_entry(parent: &Block, block: &mut Block, entry: &Entry) {
     *strip = changed_strip(*strip, entry.code, entry.operand);
 }
 
-fn write_merge(blocks: &mut [Block], version: usize, parents: (usize, usize), base: usize) {
+fn write_merge(
+    blocks: &mut [Block],
+    version: usize,
+    parents: (usize, usize),
+    base: usize,
+) -> usize {
     let (earlier, block) = begin_block(blocks, version);
     let grown = either(&row_of(&earlier[parents.0]), &row_of(&earlier[parents.1]));
     put_row(block, ROW_AT, &with_bit(grown, version));
-    fill_merge(earlier, block, parents, base);
+    fill_merge(earlier, block, parents, base)
 }
 
-/// Node and board of a merge, in a block that begins with zeros.
+/// Node and board of a merge, in a block that begins with zeros; the number of clashes. Inlined, so that resume, which lets the number
+/// go, doesn't work it out.
+#[inline(always)]
 fn fill_merge(
     earlier: &[Block],
     block: &mut Block,
     (receiver, giver): (usize, usize),
     base: usize,
-) {
+) -> usize {
     block[0] = MERGE_CODE;
     put_number(block, PARENT_AT, receiver);
     put_number(block, GIVER_AT, giver);
     put_number(block, BASE_AT, base);
     let sides = Sides::of(&earlier[base], &earlier[receiver], &earlier[giver]);
     let (cells, _) = block[BOARD_AT..].as_chunks_mut();
+    let mut clashes = 0;
     for (place, cell) in cells.iter_mut().enumerate() {
-        *cell = sides.merged(place).to_be_bytes();
+        let merged = sides.merged(place);
+        *cell = merged.value.to_be_bytes();
+        clashes += merged.clash;
     }
+    clashes.into()
 }
 
 // ---------------------------------------------------------------- pause

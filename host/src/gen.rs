@@ -2,7 +2,7 @@
 
 use crate::layout::{self, encode_with};
 use crate::model::{
-    code, decode, parents, record, step, tape_of, Ancestry, Entry, Room, Version, CONSOLES,
+    boards, code, decode, parents, record, step, tape_of, Ancestry, Entry, Room, Version, CONSOLES,
     HIGHEST_HEADING, HIGHEST_LEVEL, MARKS, STRIPS,
 };
 use crate::rng::Rng;
@@ -32,19 +32,27 @@ fn some_value(rng: &mut Rng, highest: u16) -> u16 {
     }
 }
 
+/// An entry's code, strip and operand.
+type Change = (u8, u8, u16);
+
 /// A level or heading with one of few values on one of two strips, so that both sides of a merge write the same cell, with the
 /// same value or another, and a value that was there before comes back.
-fn contested_setting(rng: &mut Rng) -> (u8, u8, u16) {
+fn contested_setting(rng: &mut Rng) -> Change {
     let setting_code = rng.between(code::LEVEL.into(), code::HEADING.into()) as u8;
-    (setting_code, rng.below(2) as u8, rng.below(3) as u16)
+    (setting_code, rng.below(2) as u8, rng.below(5) as u16)
 }
 
 /// A strip change in range: any of the seven entry codes, a strip and an operand.
-fn some_change(rng: &mut Rng) -> (u8, u8, u16) {
+fn some_change(rng: &mut Rng) -> Change {
     if rng.chance(30) {
         return contested_setting(rng);
     }
-    let entry_code = rng.between(code::LEVEL.into(), code::ALERT_OFF.into()) as u8;
+    change_by_one_of(rng, code::LEVEL, code::ALERT_OFF)
+}
+
+/// A strip change in range by one of the entry codes from the first to the last.
+fn change_by_one_of(rng: &mut Rng, first_code: u8, last_code: u8) -> Change {
+    let entry_code = rng.between(first_code.into(), last_code.into()) as u8;
     let operand = match entry_code {
         code::LEVEL => some_value(rng, HIGHEST_LEVEL),
         code::HEADING => some_value(rng, HIGHEST_HEADING),
@@ -56,7 +64,11 @@ fn some_change(rng: &mut Rng) -> (u8, u8, u16) {
 
 /// An entry command of any of the seven codes, in range.
 pub fn entry_command(rng: &mut Rng, console: usize) -> Vec<u8> {
-    let (entry_code, strip, operand) = some_change(rng);
+    let change = some_change(rng);
+    entry_bytes(console, change)
+}
+
+fn entry_bytes(console: usize, (entry_code, strip, operand): Change) -> Vec<u8> {
     let mut bytes = vec![entry_code, console as u8, strip];
     match entry_code {
         code::LEVEL | code::HEADING => bytes.extend(operand.to_be_bytes()),
@@ -69,6 +81,33 @@ pub fn entry_command(rng: &mut Rng, console: usize) -> Vec<u8> {
 fn entry_anywhere(rng: &mut Rng, room: &Room) -> Vec<u8> {
     let console = rng.pick(&room.present()).unwrap_or(0);
     entry_command(rng, console)
+}
+
+/// An entry by which a console contradicts another: the level or heading that the other has set last, with another value.
+fn contradicting_command(rng: &mut Rng, room: &Room) -> Vec<u8> {
+    let consoles = rng.shuffled(&room.present());
+    let contradiction = consoles.split_first().and_then(|(&console, others)| {
+        let said = others.iter().find_map(|&other| last_setting(room, other))?;
+        Some((console, said))
+    });
+    let Some((console, said)) = contradiction else {
+        return entry_anywhere(rng, room);
+    };
+    // In range as a level and as a heading.
+    let value = (said.operand + rng.between(1, 3) as u16) % 300;
+    entry_bytes(console, (said.code, said.strip, value))
+}
+
+/// The last level or heading that a console has entered since its last merge.
+fn last_setting(room: &Room, console: usize) -> Option<Entry> {
+    let mut version = room.head(console)?;
+    while let Version::Entry(entry) = room.versions[version] {
+        if matches!(entry.code, code::LEVEL | code::HEADING) {
+            return Some(entry);
+        }
+        version = entry.parent;
+    }
+    None
 }
 
 /// A fork of a present console to an absent one, or an entry where all are present.
@@ -122,7 +161,8 @@ pub fn likely_command(rng: &mut Rng, room: &Room) -> Vec<u8> {
     match rng.below(100) {
         0..=14 => fork_command(rng, room),
         15..=19 => leave_command(rng, room),
-        20..=59 => entry_anywhere(rng, room),
+        20..=49 => entry_anywhere(rng, room),
+        50..=59 => contradicting_command(rng, room),
         60..=84 => joining_command(rng, room, code::MERGE),
         _ => joining_command(rng, room, code::FAST_FORWARD),
     }
@@ -138,7 +178,8 @@ pub fn turnover_command(rng: &mut Rng, room: &Room, step: usize) -> Vec<u8> {
     match rng.below(100) {
         0..=49 if is_ebb => leave_command(rng, room),
         0..=49 => fork_command(rng, room),
-        50..=59 => entry_anywhere(rng, room),
+        50..=54 => entry_anywhere(rng, room),
+        55..=59 => contradicting_command(rng, room),
         60..=74 => joining_command(rng, room, code::MERGE),
         _ => joining_command(rng, room, code::FAST_FORWARD),
     }
@@ -370,6 +411,92 @@ fn filled_by<'a>(capacity: usize, mut commands: impl Iterator<Item = &'a [u8]>) 
         room = next;
     }
     room
+}
+
+// ---------------------------------------------------------------- rooms that clash
+
+/// The levels and headings of a board: level and heading of strip 0, those of strip 1, and so on.
+pub const SETTINGS: usize = 2 * STRIPS;
+type Settings = [u16; SETTINGS];
+
+/// Values that differ in one byte alone or have their bytes swapped, and the ends of the ranges.
+const NEAR_VALUES: [u16; 10] = [
+    0,
+    1,
+    2,
+    0x0100,
+    0x0101,
+    0x0102,
+    HIGHEST_HEADING,
+    0x0200,
+    0x0201,
+    HIGHEST_LEVEL,
+];
+
+/// A room of consoles 0 and 1 in which a merge of the two, either way round, has so many clashes; some versions are free.
+pub fn clashing_room(rng: &mut Rng, clashes: usize) -> Room {
+    let (mut l, mut a, mut b) = ([0; SETTINGS], [0; SETTINGS], [0; SETTINGS]);
+    let places: Vec<usize> = (0..SETTINGS).collect();
+    for (number, place) in rng.shuffled(&places).into_iter().enumerate() {
+        [l[place], a[place], b[place]] = three_values(rng, place, number < clashes);
+    }
+    let mut room = Room::opened(1);
+    let base = append_changes(rng, &mut room, 0, &[0; SETTINGS], &l);
+    room.heads[0] = Some(append_changes(rng, &mut room, base, &l, &a));
+    room.heads[1] = Some(append_changes(rng, &mut room, base, &l, &b));
+    room.capacity = room.versions.len() + rng.between(1, 12);
+    room
+}
+
+/// Values of one cell for base, receiver and giver: all three differ, or two or all of them agree.
+fn three_values(rng: &mut Rng, place: usize, all_differ: bool) -> [u16; 3] {
+    let highest = [HIGHEST_LEVEL, HIGHEST_HEADING][place % 2];
+    let mut values = NEAR_VALUES.to_vec();
+    values.retain(|&value| value <= highest);
+    let values = rng.shuffled(&values);
+    let (one, other) = (values[0], values[1]);
+    let agreeing = [
+        [one, one, one],
+        [one, one, other],
+        [one, other, one],
+        [one, other, other],
+    ];
+    if all_differ {
+        [one, other, values[2]]
+    } else {
+        rng.pick(&agreeing).unwrap_or_default()
+    }
+}
+
+/// Appends a chain of entries on a parent, in any order, that bring levels and headings from some values to others; now and then one that
+/// stays is written again, and other cells change. The last version.
+fn append_changes(
+    rng: &mut Rng,
+    room: &mut Room,
+    mut parent: usize,
+    from: &Settings,
+    to: &Settings,
+) -> usize {
+    let mut changes: Vec<Change> = (0..rng.between(1, 20))
+        .map(|_| change_by_one_of(rng, code::MARK_PUT, code::ALERT_OFF))
+        .collect();
+    for place in 0..SETTINGS {
+        if from[place] != to[place] || rng.chance(20) {
+            let setting_code = [code::LEVEL, code::HEADING][place % 2];
+            changes.push((setting_code, (place / 2) as u8, to[place]));
+        }
+    }
+    for (code, strip, operand) in rng.shuffled(&changes) {
+        let entry = Entry {
+            parent,
+            code,
+            strip,
+            operand,
+        };
+        parent = room.versions.len();
+        room.versions.push(Version::Entry(entry));
+    }
+    parent
 }
 
 // ---------------------------------------------------------------- graphs as tapes
@@ -673,7 +800,7 @@ pub fn plausible_store(room: &Room) -> Vec<u8> {
         let common = ancestry.common_ancestors(one, other);
         common.first().copied().unwrap_or(0)
     };
-    encode_with(room, &ancestry, &highest)
+    encode_with(room, &ancestry, &highest, &boards(room, &highest))
 }
 
 /// So many bytes or fewer, of any content or all zero, half the time with a header that begins like a store's.

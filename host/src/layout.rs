@@ -1,8 +1,8 @@
 // The store's bytes: a room written as its one encoding, and a room read back from bytes that hold a sound store.
 
 use crate::model::{
-    boards, capacity_is_in_range, code, sound_by, Ancestry, Board, Entry, Room, Strip, Version,
-    CONSOLES, MARKS,
+    capacity_is_in_range, code, sound_boards, sound_by, Ancestry, Board, Entry, Room, Strip,
+    Version, Worked, CONSOLES, MARKS,
 };
 
 pub const HEADER_BYTES: usize = 4096;
@@ -47,25 +47,30 @@ pub fn encode(room: &Room) -> Vec<u8> {
 }
 
 fn encode_by(room: &Room, ancestry: &Ancestry) -> Vec<u8> {
-    let lowest = |one: usize, other: usize| ancestry.lowest_common(one, other).unwrap_or(0);
-    encode_with(room, ancestry, &lowest)
+    encode_boards(room, ancestry, &sound_boards(room, ancestry))
 }
 
-/// The bytes of a room with a choice of common versions that need not be the paper's.
+/// The same, with the room's boards lent by a caller who reads more of them.
+pub fn encode_boards(room: &Room, ancestry: &Ancestry, boards: &[Worked<Board>]) -> Vec<u8> {
+    let lowest = |one: usize, other: usize| ancestry.lowest_common(one, other).unwrap_or(0);
+    encode_with(room, ancestry, &lowest, boards)
+}
+
+/// The bytes of a room with a choice of common versions, and of boards, that need not be the paper's.
 /// Parents must be lower numbers, and the versions must fit the capacity.
 pub fn encode_with(
     room: &Room,
     ancestry: &Ancestry,
     common_of: &dyn Fn(usize, usize) -> usize,
+    boards: &[Worked<Board>],
 ) -> Vec<u8> {
     let mut bytes = vec![0; store_bytes(room.capacity)];
     put_header(&mut bytes, room, common_of);
-    let boards = boards(room, common_of);
     for (number, version) in room.versions.iter().enumerate() {
         let block = &mut bytes[block_at(number)..block_at(number + 1)];
         put_node(block, version, common_of);
         put_row(block, ANCESTRY_ROW_AT, ancestry.of(number));
-        block[BOARD_AT..].copy_from_slice(&board_bytes(&boards[number]));
+        block[BOARD_AT..].copy_from_slice(&board_bytes(&boards[number].value));
     }
     bytes
 }

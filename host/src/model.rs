@@ -282,32 +282,58 @@ fn set_mark(strip: &mut Strip, mark: u16, put: bool) {
     }
 }
 
-/// The board of a merge, strip by strip.
-pub fn merged_board(base: &Board, receiver: &Board, giver: &Board) -> Board {
-    let mut board = empty_board();
-    for number in 0..STRIPS {
-        board[number] = merged_strip(&base[number], &receiver[number], &giver[number]);
-    }
-    board
+/// A strip or a board as it is worked out, and how many of its levels and headings clashed in that: none but in a merge.
+#[derive(Clone, Copy, Debug, PartialEq, Eq)]
+pub struct Worked<T> {
+    pub value: T,
+    pub clashes: usize,
 }
 
-pub fn merged_strip(l: &Strip, a: &Strip, b: &Strip) -> Strip {
-    Strip {
-        level: merged_value(l.level, a.level, b.level),
-        heading: merged_value(l.heading, a.heading, b.heading),
+impl<T> Worked<T> {
+    fn without_clash(value: T) -> Worked<T> {
+        Worked { value, clashes: 0 }
+    }
+}
+
+/// The board of a merge, strip by strip.
+fn merged_board(base: &Board, receiver: &Board, giver: &Board) -> Worked<Board> {
+    let mut merged = Worked::without_clash(empty_board());
+    for number in 0..STRIPS {
+        let strip = merged_strip(&base[number], &receiver[number], &giver[number]);
+        merged.value[number] = strip.value;
+        merged.clashes += strip.clashes;
+    }
+    merged
+}
+
+fn merged_strip(l: &Strip, a: &Strip, b: &Strip) -> Worked<Strip> {
+    let level = merged_cell(l.level, a.level, b.level);
+    let heading = merged_cell(l.heading, a.heading, b.heading);
+    let strip = Strip {
+        level: level.value,
+        heading: heading.value,
         marks: merged_marks(&l.marks, &a.marks, &b.marks),
         calls: a.calls + b.calls - l.calls,
         alert_count: a.alert_count + b.alert_count - l.alert_count,
         alert_flag: merged_flag(l, a, b),
+    };
+    Worked {
+        value: strip,
+        clashes: usize::from(level.clash) + usize::from(heading.clash),
     }
 }
 
+/// A merged level or heading, and whether base, receiver and giver all differ.
+struct MergedCell {
+    value: u16,
+    clash: bool,
+}
+
 /// Level and heading: b if a = l, else a.
-fn merged_value(l: u16, a: u16, b: u16) -> u16 {
-    if a == l {
-        b
-    } else {
-        a
+fn merged_cell(l: u16, a: u16, b: u16) -> MergedCell {
+    MergedCell {
+        value: if a == l { b } else { a },
+        clash: l != a && l != b && a != b,
     }
 }
 
@@ -333,15 +359,17 @@ fn merged_flag(l: &Strip, a: &Strip, b: &Strip) -> bool {
 
 /// The boards of all versions, in order, with the base of each merge chosen by the caller.
 /// Parents and bases must be lower numbers.
-pub fn boards(room: &Room, base_of: &dyn Fn(usize, usize) -> usize) -> Vec<Board> {
-    let mut boards: Vec<Board> = Vec::with_capacity(room.versions.len());
+pub fn boards(room: &Room, base_of: &dyn Fn(usize, usize) -> usize) -> Vec<Worked<Board>> {
+    let mut boards: Vec<Worked<Board>> = Vec::with_capacity(room.versions.len());
     for version in &room.versions {
+        let of = |number: usize| &boards[number].value;
         let board = match *version {
-            Version::Start => empty_board(),
-            Version::Entry(entry) => board_after_entry(&boards[entry.parent], &entry),
+            Version::Start => Worked::without_clash(empty_board()),
+            Version::Entry(entry) => {
+                Worked::without_clash(board_after_entry(of(entry.parent), &entry))
+            }
             Version::Merge { receiver, giver } => {
-                let base = base_of(receiver, giver);
-                merged_board(&boards[base], &boards[receiver], &boards[giver])
+                merged_board(of(base_of(receiver, giver)), of(receiver), of(giver))
             }
         };
         boards.push(board);
@@ -350,14 +378,15 @@ pub fn boards(room: &Room, base_of: &dyn Fn(usize, usize) -> usize) -> Vec<Board
 }
 
 /// The same of a sound room, each merge with its base.
-fn sound_boards(room: &Room, ancestry: &Ancestry) -> Vec<Board> {
+pub fn sound_boards(room: &Room, ancestry: &Ancestry) -> Vec<Worked<Board>> {
     boards(room, &|receiver, giver| ancestry.base(receiver, giver))
 }
 
 /// The board of a present console of a sound room.
 pub fn console_board(room: &Room, console: usize) -> Option<Board> {
     let boards = sound_boards(room, &Ancestry::new(room));
-    boards.get(room.head(console)?).copied()
+    let shown = boards.get(room.head(console)?)?;
+    Some(shown.value)
 }
 
 // ---------------------------------------------------------------- the origin of a cell
@@ -412,7 +441,7 @@ pub fn cell_origin(room: &Room, console: usize, strip: usize, cell: Cell) -> Opt
 /// What is looked at on the walk from a head to the origin of one cell.
 struct OriginSearch<'a> {
     room: &'a Room,
-    boards: Vec<Board>,
+    boards: Vec<Worked<Board>>,
     ancestry: Ancestry<'a>,
     strip: usize,
     cell: Cell,
@@ -433,7 +462,7 @@ impl OriginSearch<'_> {
 
     /// The giver's version if the receiver's value equals the base's and the giver's differs, else the receiver's.
     fn followed_side(&self, receiver: usize, giver: usize) -> usize {
-        let value = |version: usize| self.cell.value(&self.boards[version][self.strip]);
+        let value = |version: usize| self.cell.value(&self.boards[version].value[self.strip]);
         let base = self.ancestry.base(receiver, giver);
         if value(receiver) == value(base) && value(giver) != value(base) {
             giver
@@ -694,6 +723,15 @@ pub fn step(room: &Room, command: &Command) -> Result<Room, u32> {
         Command::Merge { receiver, giver } => merge(room, receiver, giver),
         Command::FastForward { receiver, giver } => fast_forward(room, receiver, giver),
         Command::Leave { console } => leave(room, console),
+    }
+}
+
+/// What an accepted command reports, by the boards of the room after it: a merge the clashes of the version that it has made, which is
+/// the last; every other command 0.
+pub fn reported(command: &Command, boards: &[Worked<Board>]) -> usize {
+    match (command, boards) {
+        (Command::Merge { .. }, [.., made]) => made.clashes,
+        _ => 0,
     }
 }
 

@@ -1,6 +1,6 @@
 // Runs the session program on standard inputs of every kind and compares every line that it prints with the model's.
 
-use crate::calls;
+use crate::calls::{self, Session};
 use crate::compare::Outcome;
 use crate::gen;
 use crate::model::{decode, refusal, Room};
@@ -98,50 +98,52 @@ fn some_input(rng: &mut Rng) -> Vec<u8> {
     input
 }
 
-/// How many inputs and lines were compared, and how many accepted leaves were among them.
+/// How many inputs and lines were compared, how many accepted leaves were among them, and how many inputs had merges that clashed.
 #[derive(Default)]
 pub struct Compared {
     inputs: usize,
     lines: usize,
     leaves: usize,
+    clashing: usize,
 }
 
 impl Compared {
-    fn note(&mut self, printed: &str) {
+    fn note(&mut self, session: &Session) {
+        let lines = session.printed.lines();
         self.inputs += 1;
-        self.lines += printed.lines().count();
+        self.lines += lines.clone().count();
         // After no other accepted command is the console in the first operand absent.
         let is_leave = |line: &&str| line.ends_with(" 0 -");
-        self.leaves += printed.lines().filter(is_leave).count();
+        self.leaves += lines.filter(is_leave).count();
+        self.clashing += usize::from(session.clashes > 0);
     }
 }
 
 impl fmt::Display for Compared {
     fn fmt(&self, out: &mut fmt::Formatter) -> fmt::Result {
-        let (inputs, lines, leaves) = (self.inputs, self.lines, self.leaves);
         write!(
             out,
-            "{inputs} inputs, {lines} lines, {leaves} accepted leaves"
+            "{} inputs, {} lines, {} accepted leaves, {} inputs with clashes",
+            self.inputs, self.lines, self.leaves, self.clashing
         )
     }
 }
 
 /// Compares the program with the model on the paper's session, cut at every place, and on so many random inputs, in which there must
-/// be as many accepted leaves at least.
+/// be as many accepted leaves at least, and clashes in one of ten.
 pub fn compare_program(program: &Path, seed: u64, count: usize) -> Outcome<Compared> {
     let mut compared = Compared::default();
     compare_input(program, &PAPER_INPUT, PAPER_LINES)?;
-    compared.note(PAPER_LINES);
     let rng = &mut Rng::new(seed);
     let cut = (0..=PAPER_INPUT.len()).map(|length| PAPER_INPUT[..length].to_vec());
     let random = (0..count).map(|_| some_input(rng));
     for input in cut.chain(random) {
         let expected = calls::session(&input);
-        compare_input(program, &input, &expected)?;
+        compare_input(program, &input, &expected.printed)?;
         compared.note(&expected);
     }
-    if compared.leaves < count {
-        return Err(format!("seed {seed}: too few leaves in {compared}"));
+    if compared.leaves < count || compared.clashing < count / 10 {
+        return Err(format!("seed {seed}: too little in {compared}"));
     }
     Ok(compared)
 }

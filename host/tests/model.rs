@@ -3,8 +3,8 @@
 use room_host::gen;
 use room_host::layout::{self, encode};
 use room_host::model::{
-    boards, cell_origin, decode, parents, room_of_tape, sound, step, tape_of, Ancestry, Board,
-    Cell, Command, Entry, Room, Version, CONSOLES,
+    cell_origin, decode, parents, reported, room_of_tape, sound, sound_boards, step, tape_of,
+    Ancestry, Board, Cell, Command, Entry, Room, Version, Worked, CONSOLES, STRIPS,
 };
 use room_host::rng::Rng;
 use std::collections::BTreeSet;
@@ -262,7 +262,7 @@ fn sound_agrees_with_a_second_telling() {
 struct CellOfRoom<'a> {
     room: &'a Room,
     ancestry: Ancestry<'a>,
-    boards: Vec<Board>,
+    boards: Vec<Worked<Board>>,
     strip: usize,
     cell: Cell,
 }
@@ -270,8 +270,7 @@ struct CellOfRoom<'a> {
 impl CellOfRoom<'_> {
     fn of(room: &Room, strip: usize, cell: Cell) -> CellOfRoom<'_> {
         let ancestry = Ancestry::new(room);
-        let base_of = |receiver, giver| ancestry.lowest_common(receiver, giver).unwrap_or(0);
-        let boards = boards(room, &base_of);
+        let boards = sound_boards(room, &ancestry);
         CellOfRoom {
             room,
             ancestry,
@@ -282,7 +281,7 @@ impl CellOfRoom<'_> {
     }
 
     fn value(&self, version: usize) -> u16 {
-        self.cell.value(&self.boards[version][self.strip])
+        self.cell.value(&self.boards[version].value[self.strip])
     }
 
     /// For each version, from 0 upward, the walk to its origin. A merge shows the value of one of its sides, and its walk goes by
@@ -369,6 +368,57 @@ fn origins_have_written_what_is_shown() {
     assert!(seen.origins.iter().all(|&met| met > 1000), "{seen:?}");
     let mut merges = seen.merges.as_flattened().iter();
     assert!(merges.all(|&met| met > 200), "{seen:?}");
+}
+
+// ---------------------------------------------------------------- clashes
+
+/// How many levels and headings show three values on the boards of these versions.
+fn cells_of_three_values(boards: &[Worked<Board>], versions: [usize; 3]) -> usize {
+    let shows_three = |strip: usize, cell: Cell| {
+        let values = versions.map(|version| cell.value(&boards[version].value[strip]));
+        BTreeSet::from(values).len() == 3
+    };
+    let cells = (0..STRIPS).flat_map(|strip| [(strip, Cell::Level), (strip, Cell::Heading)]);
+    cells
+        .filter(|&(strip, cell)| shows_three(strip, cell))
+        .count()
+}
+
+/// Merges alone have clashes, in the cells in which base, receiver and giver show three values.
+#[test]
+fn clashes_are_cells_of_three_values() {
+    let mut seen = [0; 3];
+    for room in gen::random_rooms(21, 200) {
+        let ancestry = Ancestry::new(&room);
+        let boards = sound_boards(&room, &ancestry);
+        for (number, version) in room.versions.iter().enumerate() {
+            let Version::Merge { receiver, giver } = *version else {
+                assert_eq!(boards[number].clashes, 0);
+                continue;
+            };
+            let base = ancestry.lowest_common(receiver, giver).expect("a base");
+            let clashes = cells_of_three_values(&boards, [base, receiver, giver]);
+            assert_eq!(boards[number].clashes, clashes);
+            seen[clashes.min(2)] += 1;
+        }
+    }
+    let [none, one, more] = seen;
+    assert!(none > 300 && one > 100 && more > 5, "{seen:?}");
+}
+
+#[test]
+fn clashing_rooms_have_so_many_clashes() {
+    let mut rng = Rng::new(22);
+    for clashes in 0..=gen::SETTINGS {
+        let room = gen::clashing_room(&mut rng, clashes);
+        assert!(sound(&room));
+        for (receiver, giver) in [(0, 1), (1, 0)] {
+            let merge = Command::Merge { receiver, giver };
+            let merged = step(&room, &merge).expect("neither is behind");
+            let boards = sound_boards(&merged, &Ancestry::new(&merged));
+            assert_eq!(reported(&merge, &boards), clashes);
+        }
+    }
 }
 
 // ---------------------------------------------------------------- the generators

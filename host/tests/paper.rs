@@ -12,6 +12,7 @@ mod model {
     mod book;
     mod bytes;
     mod cases;
+    mod clashes;
     mod leaving;
     mod origins;
     mod refusals;
@@ -25,6 +26,7 @@ mod unit {
     mod book;
     mod bytes;
     mod cases;
+    mod clashes;
     mod leaving;
     mod origins;
     mod refusals;
@@ -38,6 +40,7 @@ mod fast {
     mod book;
     mod bytes;
     mod cases;
+    mod clashes;
     mod leaving;
     mod origins;
     mod refusals;

@@ -8,7 +8,7 @@ use room_host::rng::Rng;
 use room_host::session::{compare_program, printed, program};
 
 /// Inputs and what is printed for them.
-const SESSIONS: [(&[u8], &str); 18] = [
+const SESSIONS: [(&[u8], &str); 19] = [
     (
         &[
             0x01, 0x01, 0x00, 0x02, 0x00, 0x05, 0x00, 0x64, 0x06, 0x01, 0x05, 0x09, 0x00, 0x01,
@@ -40,6 +40,13 @@ const SESSIONS: [(&[u8], &str); 18] = [
         ],
         "1 0 0\n2 0 1\n3 21 1\n4 0 1\n5 0 -\n6 12 -\n7 12 -\n8 0 1\n9 0 2\nend 3\n",
     ),
+    // A merge with one clash, whose number isn't shown: levels 0, 100, 200.
+    (
+        &[
+            0x01, 1, 0, 0x02, 0, 5, 0, 100, 0x02, 1, 5, 0, 200, 0x09, 0, 1, 0x09, 0, 1,
+        ],
+        "1 0 0\n2 0 1\n3 0 2\n4 0 3\n5 14 3\nend 4\n",
+    ),
     // The input ends in the middle of a leave.
     (&[0x01, 1, 0, 0x0B], "1 0 0\n2 2 -\nend 1\n"),
 ];
@@ -50,11 +57,25 @@ fn check_lines(print: impl Fn(&[u8]) -> String) {
     }
     let full = print(&[0x06, 0, 0].repeat(65));
     assert!(full.ends_with("\n63 0 63\n64 18 63\n65 18 63\nend 64\n"));
+    let clashing = print(&input_of_31_clashes());
+    assert!(clashing.ends_with("\n63 0 62\n64 0 63\nend 64\n"));
+}
+
+/// A fork, each console sets the levels of 31 strips, and the merge has a clash on each: more have no room in 64 versions.
+fn input_of_31_clashes() -> Vec<u8> {
+    let levels =
+        |console: u8| (0..31).flat_map(move |strip| [0x02, console, strip, 0, 1 + console]);
+    let entries = levels(0).chain(levels(1));
+    [0x01, 1, 0]
+        .into_iter()
+        .chain(entries)
+        .chain([0x09, 0, 1])
+        .collect()
 }
 
 #[test]
 fn the_model_prints_these_lines() {
-    check_lines(session);
+    check_lines(|input| session(input).printed);
 }
 
 #[test]
@@ -79,7 +100,7 @@ fn the_session_program_prints_what_the_model_says() {
 fn the_model_ends_every_session() {
     let mut rng = Rng::new(13);
     for _ in 0..300 {
-        let printed = session(&gen::garbage(&mut rng, 20_000));
+        let printed = session(&gen::garbage(&mut rng, 20_000)).printed;
         let last = printed.lines().last().unwrap_or_default();
         assert!(last.starts_with("end "), "{last}");
     }

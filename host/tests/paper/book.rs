@@ -7,11 +7,12 @@ use room_host::gen;
 use room_host::model::{room_of_tape, tape_of, Room};
 use room_host::rng::Rng;
 
-/// A store and the book of its calls; `leaves` counts the accepted ones.
+/// A store and the book of its calls; `leaves` counts the accepted ones, `clashes` what merges counted.
 struct Kept {
     store: Store,
     book: Book,
     leaves: usize,
+    clashes: usize,
 }
 
 impl Kept {
@@ -20,13 +21,18 @@ impl Kept {
             store: Store::open(capacity),
             book: Book::opened(),
             leaves: 0,
+            clashes: 0,
         }
     }
 
     fn say(&mut self, command: &[u8]) {
-        if self.store.say(command) == 0 {
+        let reply = self.store.reply(command);
+        if reply.answer == 0 {
+            let clashes = reply.count as usize;
+            assert!(clashes <= self.book.most_clashes(command), "{command:02X?}");
             self.book.note(command);
             self.leaves += usize::from(command[0] == 0x0B);
+            self.clashes += clashes;
         }
     }
 
@@ -71,7 +77,7 @@ fn some_tape(rng: &mut Rng, store: &Store) -> Vec<u8> {
 #[test]
 fn lists_of_calls_agree_with_the_book() {
     let rng = &mut Rng::new(2);
-    let (mut resumes, mut same) = (0, 0);
+    let (mut resumes, mut same, mut clashes) = (0, 0, 0);
     for _ in 0..30 {
         let opened = Room::opened(rng.between(1, 40));
         let mut kept = Kept::open(opened.capacity);
@@ -82,8 +88,30 @@ fn lists_of_calls_agree_with_the_book() {
         same += kept.check();
         kept.say_all(gen::commands_from(rng, kept.room(), 80));
         same += kept.check();
+        clashes += kept.clashes;
     }
     assert!(resumes > 15 && same > 500, "{resumes} {same}");
+    assert!(clashes > 20, "{clashes}");
+}
+
+/// Of the levels and headings that both consoles have set since they parted; worked out by hand.
+#[test]
+fn the_book_bounds_the_clashes() {
+    let mut kept = Kept::open(16);
+    let mut after = |commands: &[&[u8]]| {
+        commands.iter().for_each(|command| kept.say(command));
+        let merges = [[0x09, 0, 1], [0x09, 1, 0]];
+        merges.map(|merge| kept.book.most_clashes(&merge))
+    };
+    let level_and_heading: [&[u8]; 2] = [&[0x02, 0, 5, 0, 100], &[0x03, 0, 5, 0, 90]];
+    assert_eq!(after(&[&[0x01, 1, 0]]), [0; 2]);
+    assert_eq!(after(&level_and_heading), [0; 2], "by 0 alone");
+    assert_eq!(after(&[&[0x02, 1, 6, 0, 100], &[0x06, 1, 5]]), [0; 2]);
+    assert_eq!(after(&[&[0x02, 1, 5, 0, 100]]), [1; 2], "level 5");
+    assert_eq!(after(&[&[0x03, 1, 5, 0, 80]]), [2; 2], "and heading 5");
+    assert_eq!(after(&[&[0x09, 0, 1]]), [0; 2], "1 is behind");
+    assert_eq!(after(&[&[0x02, 1, 6, 0, 200]]), [0; 2], "0 has not set 6");
+    assert_eq!(after(&[&[0x03, 1, 5, 0, 70]]), [1; 2], "heading 5 again");
 }
 
 /// The pairs that have heard the same are worked out by hand.
