@@ -30,6 +30,8 @@ extern "C" {
 #define ROOM_STORE_BYTES(capacity) ((size_t)4096 + (size_t)544 * (size_t)(capacity))
 /* The longest tape of a room of this capacity: its start, its versions, 16 heads and its end. */
 #define ROOM_TAPE_BYTES(capacity) ((size_t)7 * (size_t)(capacity) + (size_t)61)
+/* The most clashes of a merge: the level and the heading of every strip. */
+#define ROOM_MAX_CLASHES 64
 
 /* Stack in bytes that a caller must have: resume judges a tape with 1,024 rows of 128 bytes of its own before it writes, and origin goes down
    the versions by recursion, in a full room up to 513 calls deep. */
@@ -89,7 +91,7 @@ enum room_refusal {
     ROOM_BEHIND_NO_OTHER = 21     /* leave: the console's head is an ancestor of no other console's head */
 };
 
-/* 0 or a refusal; and a question's number, or for room_pause and room_board the bytes written, else 0. */
+/* 0 or a refusal; and a question's number, the clashes of a merge, or for room_pause and room_board the bytes written, else 0. */
 struct room_reply {
     uint32_t answer;
     uint32_t count;
@@ -98,7 +100,9 @@ struct room_reply {
 /* Makes version 0 with console 0 on it, whatever stood in the store. Refusals 8, 19. */
 struct room_reply room_open(uint32_t capacity, uint8_t *store, size_t store_length);
 
-/* Carries out one command. Refusals 1 to 6, 20, 11 to 18, 21. */
+/* Carries out one command. An accepted merge counts its clashes, 0 to ROOM_MAX_CLASHES: the levels and headings of which the receiver, the
+   giver and their common version showed three different values before it. There the receiver's stays. Every other command counts 0.
+   Refusals 1 to 6, 20, 11 to 18, 21. */
 struct room_reply room_command(uint8_t *store, size_t store_length, const uint8_t *command, size_t command_length);
 
 /* Writes the tape of the room; counts its bytes. Refusals 11, 19. */

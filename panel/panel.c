@@ -77,6 +77,18 @@ static void say_done(struct room_reply reply)
         printf("done\n");
 }
 
+/* After a merge also how many levels and headings clashed; that none did is worth a word too, as nobody then has to look. */
+static void say_merged(struct room_reply reply)
+{
+    if (!say(reply))
+        return;
+    if (reply.count == 0)
+        printf("done, no level or heading clashed\n");
+    else
+        printf("done, %u %s clashed: the receiver keeps its own\n", (unsigned)reply.count,
+               reply.count == 1 ? "level or heading" : "levels or headings");
+}
+
 static void say_number(struct room_reply reply)
 {
     if (say(reply))
@@ -85,22 +97,36 @@ static void say_number(struct room_reply reply)
 
 /* ---- the unit's calls ---- */
 
-static void carry_out(const struct named_command *named, const struct line *line)
+/* Writes the command's bytes; how many they are, or 0 where a number does not fit. */
+static size_t encode(const struct named_command *named, const struct line *line, uint8_t bytes[COMMAND_BYTES])
 {
-    uint8_t bytes[COMMAND_BYTES] = {named->code};
-    size_t length = 1;
+    size_t length = 0;
+    bytes[length++] = named->code;
     for (int i = 0; i < named->numbers; i++) {
         uint32_t number = line->number[i];
         int takes_two = named->is_wide && i == named->numbers - 1;
-        if (number > (takes_two ? 65535u : 255u)) {
-            printf("that number does not fit into the command\n");
-            return;
-        }
+        if (number > (takes_two ? 65535u : 255u))
+            return 0;
         if (takes_two)
             bytes[length++] = (uint8_t)(number >> 8);
         bytes[length++] = (uint8_t)(number & 255u);
     }
-    say_done(room_command(store, sizeof store, bytes, length));
+    return length;
+}
+
+static void carry_out(const struct named_command *named, const struct line *line)
+{
+    uint8_t bytes[COMMAND_BYTES];
+    size_t length = encode(named, line, bytes);
+    if (length == 0) {
+        printf("that number does not fit into the command\n");
+        return;
+    }
+    struct room_reply reply = room_command(store, sizeof store, bytes, length);
+    if (named->code == ROOM_MERGE)
+        say_merged(reply);
+    else
+        say_done(reply);
 }
 
 static void show_console(uint32_t console)
