@@ -26,20 +26,21 @@ use Rattle.command.proofs.Ranges.{decode-range}
 use Rattle.room.specs.Room.{Room, headOf, present, common, openSettings, fresh}
 use Rattle.room.specs.Sound.{soundRoom}
 use Rattle.room.specs.Origin.{origin}
-use Rattle.room.specs.Step.{stepRefusal, step}
+use Rattle.room.specs.Step.{stepRefusal, step, clashCount}
 use Rattle.room.proofs.Sound.{present-console, sound-facts}
 use Rattle.room.proofs.Steps.{common-self, step-sound, fresh-sound}
 use Rattle.store.specs.Layout.{storeSize, encode}
 use Rattle.store.proofs.RoundTrip.{encode-length, room-encode, holds-encode}
 use Rattle.tape.specs.Tape.{tapeOf}
+use Rattle.unit.specs.declared.Reply.{Reply}
 use Rattle.unit.specs.Calls.{Outcome, replied, written, openOutcome, stepOutcome, commandOutcome, pauseOutcome, commonReply, originReply, command, replyTo, storeAfter}
 use Rattle.unit.specs.Journal.{Journal, feed}
 use Rattle.unit.specs.Convergence.{afterCalls}
 use Rattle.unit.proofs.Answered.{origin-answered}
 use Rattle.unit.proofs.Commanded.{held-refused}
 use Rattle.unit.proofs.RoundTrip.{pause-done}
-use Rattle.cases.specs.Run.{answerIn, roomAfter, made, answers}
-use Rattle.cases.specs.Called.{answersTo, headReply, Called}
+use Rattle.cases.specs.Run.{answerIn, countIn, roomAfter, made, replies}
+use Rattle.cases.specs.Called.{repliesTo, headReply, Called}
 
 -- the bytes of a sound room, written over those of another of the same capacity
 replaced : (r n : Room) (rest : List ℕ) → soundRoom r ≡ true → soundRoom n ≡ true → n .settings .capacity ≡ r .settings .capacity
@@ -66,8 +67,8 @@ after-sound r c (Whole k) e s =
 
 module _ (r : Room) (rest : List ℕ) (s : soundRoom r ≡ true) where
   step-called : (c : List ℕ) (d : Decoded) → decode c ≡ d
-      → stepOutcome (encode r ++ rest) d ≡ record { reply = replied (answerIn r d) 0; buffer = encode (roomAfter r d) ++ rest }
-  unfolding stepOutcome answerIn roomAfter
+      → stepOutcome (encode r ++ rest) d ≡ record { reply = replied (answerIn r d) (countIn r d); buffer = encode (roomAfter r d) ++ rest }
+  unfolding stepOutcome answerIn countIn roomAfter
   step-called c (Refused n) e = λ i. record { reply = replied n 0; buffer = go (eqb n 0) i }
     where
       go : (b : Bool) → cond b (overwrite [] (encode r ++ rest)) (encode r ++ rest) ≡ encode r ++ rest
@@ -75,16 +76,16 @@ module _ (r : Room) (rest : List ℕ) (s : soundRoom r ≡ true) where
       go false = refl
   step-called c (Whole k) e =
       let kept = go (eqb (stepRefusal r k) 0) (λ t. step-sound r k s (decode-range c k e) (eqb-true (stepRefusal r k) 0 t)) in
-      rw (held-refused (encode r ++ rest) k (holds-encode r rest s), room-encode r rest s) (λ i. record { reply = replied (stepRefusal r k) 0; buffer = kept i })
+      rw (held-refused (encode r ++ rest) k (holds-encode r rest s), room-encode r rest s) (λ i. record { reply = replied (stepRefusal r k) (clashCount r k); buffer = kept i })
     where
       go : (b : Bool) → (b ≡ true → soundRoom (step r k) ≡ true)
           → cond b (overwrite (encode (step r k)) (encode r ++ rest)) (encode r ++ rest) ≡ encode (cond b (step r k) r) ++ rest
       go true f = replaced r (step r k) rest s (f refl) (step-capacity r k)
       go false f = refl
 
-  -- a command: its answer, and the buffer afterwards
+  -- a command: its reply, and the buffer afterwards
   command-called : (c : List ℕ) → commandOutcome (encode r ++ rest) c
-      ≡ record { reply = replied (answerIn r (decode c)) 0; buffer = encode (roomAfter r (decode c)) ++ rest }
+      ≡ record { reply = replied (answerIn r (decode c)) (countIn r (decode c)); buffer = encode (roomAfter r (decode c)) ++ rest }
   unfolding commandOutcome
   command-called c = step-called c (decode c) refl
 
@@ -118,7 +119,7 @@ module _ (r : Room) (rest : List ℕ) (s : soundRoom r ≡ true) where
         here = rw (room-encode r rest s) p;
       })
 
--- a list of commands, one call after the other: the buffer afterwards, the answers, and the room
+-- a list of commands, one call after the other: the buffer afterwards, the replies, and the room
 module _ (rest : List ℕ) where
   made-called : (r : Room) → soundRoom r ≡ true → (cs : List (List ℕ)) (j : Journal)
       → afterCalls (encode r ++ rest) j (map command cs) .0 ≡ encode (made r cs) ++ rest
@@ -128,12 +129,13 @@ module _ (rest : List ℕ) where
       ap (λ (o : Outcome). afterCalls (o .buffer) (feed j (command c) (o .reply .answer)) (map command cs) .0) (command-called r rest s c)
       ∙ made-called (roomAfter r (decode c)) (after-sound r c (decode c) refl s) cs _
 
-  answers-called : (r : Room) → soundRoom r ≡ true → (cs : List (List ℕ)) → answersTo (encode r ++ rest) (map command cs) ≡ answers r cs
-  unfolding answersTo answers storeAfter replyTo
-  answers-called r s [] = refl
-  answers-called r s (c ∷ cs) =
-      ap (λ (o : Outcome). o .reply .answer ∷ answersTo (o .buffer) (map command cs)) (command-called r rest s c)
-      ∙ ap (λ (later : List ℕ). answerIn r (decode c) ∷ later) (answers-called (roomAfter r (decode c)) (after-sound r c (decode c) refl s) cs)
+  replies-called : (r : Room) → soundRoom r ≡ true → (cs : List (List ℕ)) → repliesTo (encode r ++ rest) (map command cs) ≡ replies r cs
+  unfolding repliesTo replies storeAfter replyTo
+  replies-called r s [] = refl
+  replies-called r s (c ∷ cs) =
+      ap (λ (o : Outcome). o .reply ∷ repliesTo (o .buffer) (map command cs)) (command-called r rest s c)
+      ∙ ap (λ (later : List Reply). replied (answerIn r (decode c)) (countIn r (decode c)) ∷ later)
+      (replies-called (roomAfter r (decode c)) (after-sound r c (decode c) refl s) cs)
 
 made-sound : (r : Room) → soundRoom r ≡ true → (cs : List (List ℕ)) → soundRoom (made r cs) ≡ true
 unfolding made
@@ -144,7 +146,7 @@ pub called : (r : Room) (rest : List ℕ) (commands : List (List ℕ)) → sound
 called r rest commands s =
     let after = made-sound r s commands in
     record {
-      answered = answers-called rest r s commands;
+      answered = replies-called rest r s commands;
       stored = made-called rest r s commands;
       paused = pause-called (made r commands) rest after;
       heads = head-called (made r commands) rest after;

@@ -10,12 +10,12 @@ use Rattle.command.specs.Decode.{commandRefusal, decode}
 use Rattle.room.specs.Room.{common}
 use Rattle.room.specs.Boards.{boardMade, boardOf}
 use Rattle.room.specs.Origin.{originOf, origin}
-use Rattle.room.specs.Step.{stateTests, stepRefusal, step}
+use Rattle.room.specs.Step.{stateTests, stepRefusal, step, clashCount}
 use Rattle.store.specs.Layout.{holdsStore}
 use Rattle.unit.specs.Calls.{originReply, stepOutcome, commandOutcome}
 use Rattle.tape.specs.Tape.{versionRecords, headRecords, tapeOf}
-use Rattle.cases.specs.Run.{Case, merge, forward, answerIn, roomAfter, made, answers, session}
-use Rattle.cases.specs.Requests.{originCases, leaveCases}
+use Rattle.cases.specs.Run.{Case, merge, forward, answerIn, countIn, roomAfter, made, replies, session}
+use Rattle.cases.specs.Requests.{originCases, leaveCases, everywhere, clashCases}
 use Rattle.cases.specs.Starred.{crossed, stuck, acceptedBy, accepted, starred}
 
 -- the stuck room takes no merge and no fast-forward: its own declarations, for the checker's bound on the steps of one
@@ -29,7 +29,7 @@ stuck-forwards = refl
 
 -- the cases that the paper marks *
 pub starred-hold : map (λ (c : Case). c .got) starred ≡ map (λ (c : Case). c .due) starred
-unfolding mergeFlag mergeStrip everyBelow someBelow highestBelow ancestor isMeet meet firstRefusal shapeOf lengthOf numberAt operandsOf isOperand kindOf commandRefusal decode common stateTests stepRefusal step versionRecords headRecords tapeOf answerIn roomAfter made answers session crossed stuck starred
+unfolding mergeFlag mergeStrip everyBelow someBelow highestBelow ancestor isMeet meet firstRefusal shapeOf lengthOf numberAt operandsOf isOperand kindOf commandRefusal decode common stateTests stepRefusal step versionRecords headRecords tapeOf answerIn countIn roomAfter made replies session crossed stuck starred
 starred-hold = rw (stuck-merges, stuck-forwards)
 
 -- those of the requests
@@ -38,5 +38,9 @@ unfolding mergeFlag mergeStrip mergeStrips enter everyBelow someBelow highestBel
 origins-hold = refl
 
 pub leaves-hold : map (λ (c : Case). c .got) leaveCases ≡ map (λ (c : Case). c .due) leaveCases
-unfolding everyBelow someBelow highestBelow ancestor isMeet meet firstRefusal shapeOf lengthOf numberAt operandsOf isOperand kindOf commandRefusal decode common stateTests stepRefusal step holdsStore stepOutcome commandOutcome versionRecords headRecords tapeOf answerIn roomAfter made answers session leaveCases
+unfolding everyBelow someBelow highestBelow ancestor isMeet meet firstRefusal shapeOf lengthOf numberAt operandsOf isOperand kindOf commandRefusal decode common stateTests stepRefusal step holdsStore stepOutcome commandOutcome versionRecords headRecords tapeOf answerIn countIn roomAfter made replies session leaveCases
 leaves-hold = refl
+
+pub clashes-hold : map (λ (c : Case). c .got) clashCases ≡ map (λ (c : Case). c .due) clashCases
+unfolding mergeFlag mergeStrip mergeStrips enter everyBelow someBelow highestBelow ancestor isMeet meet firstRefusal shapeOf lengthOf numberAt operandsOf isOperand kindOf commandRefusal decode common stateTests stepRefusal step clashCount boardMade boardOf holdsStore stepOutcome commandOutcome answerIn countIn roomAfter made replies everywhere clashCases
+clashes-hold = refl

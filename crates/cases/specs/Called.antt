@@ -15,12 +15,12 @@ use Rattle.unit.specs.declared.Reply.{Reply}
 use Rattle.unit.specs.Calls.{Call, command, replied, written, pauseOutcome, commonReply, originReply, replyTo, storeAfter}
 use Rattle.unit.specs.Journal.{Journal}
 use Rattle.unit.specs.Convergence.{afterCalls}
-use Rattle.cases.specs.Run.{made, answers}
+use Rattle.cases.specs.Run.{made, replies}
 
--- the answers to these calls on a store, one after the other
-unfoldable pub answersTo : List ℕ → List Call → List ℕ
-answersTo store [] = []
-answersTo store (c ∷ calls) = replyTo store c .answer ∷ answersTo (storeAfter store c) calls
+-- the replies to these calls on a store, one after the other
+unfoldable pub repliesTo : List ℕ → List Call → List Reply
+repliesTo store [] = []
+repliesTo store (c ∷ calls) = replyTo store c ∷ repliesTo (storeAfter store c) calls
 
 -- how a head is told: the common version of a console with itself
 abbrev pub headReply : Option ℕ → Reply
@@ -29,7 +29,7 @@ headReply (some v) = replied 0 v
 
 -- these commands on room r, with this rest behind its bytes; true of every sound room, with any rest and any commands
 pub record Called (r : Room) (rest : List ℕ) (commands : List (List ℕ)) : Type 0 where
-  pub answered : answersTo (encode r ++ rest) (map command commands) ≡ answers r commands
+  pub answered : repliesTo (encode r ++ rest) (map command commands) ≡ replies r commands
   -- the buffer afterwards, whatever journal is fed along
   pub stored : (j : Journal) → afterCalls (encode r ++ rest) j (map command commands) .0 ≡ encode (made r commands) ++ rest
   -- a pause of it, and its heads

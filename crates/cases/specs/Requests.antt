@@ -1,15 +1,15 @@
 -- The cases of the customer's requests (docs/CHANGES.md has their titles), worked out by hand: what the definitions give for each, and what the
 -- request says.
-use Prim.Native.Nat.{ℕ}
+use Prim.Native.Nat.{ℕ, zero, suc}
 use mathlib.Core.List.{List, [], _∷_, _++_}
-use lib.ListN.{replicate}
-use Rattle.board.specs.Board.{cellOf}
+use lib.ListN.{replicate, getD}
+use Rattle.board.specs.Board.{stripCount, cellOf}
 use Rattle.room.specs.Room.{Room, fresh}
 use Rattle.room.specs.Origin.{origin, valueShown}
 use Rattle.unit.specs.declared.Reply.{Reply}
 use Rattle.tape.specs.Tape.{tapeOf}
 use Rattle.unit.specs.Calls.{commandOutcome, originReply}
-use Rattle.cases.specs.Run.{Case, _gives_, fork, level, heading, call, merge, forward, leave, made, answers, nowhere, on, headsShown, session}
+use Rattle.cases.specs.Run.{Case, _gives_, fork, level, heading, mark, call, alert, merge, forward, leave, made, answers, counts, nowhere, on, headsShown, session}
 
 -- One: the origin of a cell, and the value shown there
 abbrev pub traced : Room → ℕ → ℕ → ℕ → List ℕ
@@ -73,4 +73,40 @@ leaveCases =
     -- a tape has no record for the one that left: 20 00 40, 21 00 00 02 05 00 64, 23 00 00 01, 24
     ∷ (tapeOf (after (fork 1 0 ∷ level 1 5 100 ∷ forward 0 1 ∷ leave 1 ∷ []))
     gives (0x20 ∷ 0x00 ∷ 0x40 ∷ []) ++ (0x21 ∷ 0x00 ∷ 0x00 ∷ 0x02 ∷ 0x05 ∷ 0x00 ∷ 0x64 ∷ []) ++ (0x23 ∷ 0x00 ∷ 0x00 ∷ 0x01 ∷ []) ++ (0x24 ∷ []))
+    ∷ []
+
+-- Three: what each of some commands counts. A level and a heading on each of the first n strips, and then these commands.
+unfoldable pub everywhere : ℕ → ℕ → ℕ → ℕ → List (List ℕ) → List (List ℕ)
+everywhere c zero x y later = later
+everywhere c (suc n) x y later = level c n x ∷ heading c n y ∷ everywhere c n x y later
+
+unfoldable pub clashCases : List Case
+clashCases =
+    -- l 0, a 0, b 100; and l 0, a 100, b 0
+    (counts (fresh 64) (fork 1 0 ∷ level 1 5 100 ∷ call 0 5 ∷ merge 0 1 ∷ []) gives 0 ∷ 0 ∷ 0 ∷ 0 ∷ [])
+    ∷ (counts (fresh 64) (fork 1 0 ∷ level 0 5 100 ∷ call 1 5 ∷ merge 0 1 ∷ []) gives 0 ∷ 0 ∷ 0 ∷ 0 ∷ [])
+    -- l 0, a 200, b 100: one, whichever of the two merges
+    ∷ (counts (fresh 64) (fork 1 0 ∷ level 1 5 100 ∷ level 0 5 200 ∷ merge 0 1 ∷ []) gives 0 ∷ 0 ∷ 0 ∷ 1 ∷ [])
+    ∷ (counts (fresh 64) (fork 1 0 ∷ level 1 5 100 ∷ level 0 5 200 ∷ merge 1 0 ∷ []) gives 0 ∷ 0 ∷ 0 ∷ 1 ∷ [])
+    -- a heading, over a base that is not version 0: l 90, a 180, b 270
+    ∷ (counts (fresh 64) (heading 0 5 90 ∷ fork 1 0 ∷ heading 0 5 180 ∷ heading 1 5 270 ∷ merge 0 1 ∷ []) gives 0 ∷ 0 ∷ 0 ∷ 0 ∷ 1 ∷ [])
+    -- the receiver's 0 stands against the giver's: l 90, a 0, b 270
+    ∷ (counts (fresh 64) (heading 0 5 90 ∷ fork 1 0 ∷ heading 0 5 0 ∷ heading 1 5 270 ∷ merge 0 1 ∷ []) gives 0 ∷ 0 ∷ 0 ∷ 0 ∷ 1 ∷ [])
+    -- receiver and giver agree, and differ from the base: l 0, a 100, b 100
+    ∷ (counts (fresh 64) (fork 1 0 ∷ level 1 5 100 ∷ level 0 5 100 ∷ merge 0 1 ∷ []) gives 0 ∷ 0 ∷ 0 ∷ 0 ∷ [])
+    -- level and heading of one strip are two; a second merge over what was merged counts none
+    ∷ (counts (fresh 64)
+    (fork 1 0 ∷ level 1 5 100 ∷ heading 1 5 90 ∷ level 0 5 200 ∷ heading 0 5 180 ∷ merge 0 1 ∷ call 1 5 ∷ merge 0 1 ∷ [])
+    gives 0 ∷ 0 ∷ 0 ∷ 0 ∷ 0 ∷ 2 ∷ 0 ∷ 0 ∷ [])
+    -- all three differ in marks (1; 1, 2; 1, 3), calls (1, 2, 3) and alerts (1, 2, 3) only
+    ∷ (counts (fresh 64)
+    (mark 0 5 1 ∷ call 0 5 ∷ alert 0 5 ∷ fork 1 0
+    ∷ mark 0 5 2 ∷ call 0 5 ∷ alert 0 5
+    ∷ mark 1 5 3 ∷ call 1 5 ∷ call 1 5 ∷ alert 1 5 ∷ alert 1 5 ∷ merge 0 1 ∷ [])
+    gives 0 ∷ 0 ∷ 0 ∷ 0 ∷ 0 ∷ 0 ∷ 0 ∷ 0 ∷ 0 ∷ 0 ∷ 0 ∷ 0 ∷ 0 ∷ [])
+    -- after a merge that clashed, a fast-forward, a leave and a refused merge (14) count none
+    ∷ (counts (fresh 64) (fork 1 0 ∷ level 1 5 100 ∷ level 0 5 200 ∷ merge 0 1 ∷ forward 1 0 ∷ merge 0 1 ∷ leave 1 ∷ [])
+    gives 0 ∷ 0 ∷ 0 ∷ 1 ∷ 0 ∷ 0 ∷ 0 ∷ [])
+    -- every cell of the board, after 129 commands: l 0, a 1, b 256, and the other way round
+    ∷ (getD (counts (fresh 256) (fork 1 0 ∷ everywhere 0 stripCount 1 256 (everywhere 1 stripCount 256 1 (merge 0 1 ∷ [])))) 129 0 ∷ [] gives 64 ∷ [])
     ∷ []

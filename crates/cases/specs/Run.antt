@@ -10,7 +10,9 @@ use Rattle.command.specs.declared.Decoded.the-variants.{Whole, Refused}
 use Rattle.command.specs.Decode.{decode}
 use Rattle.graph.specs.Graph.{versionCount}
 use Rattle.room.specs.Room.{Room, headOf}
-use Rattle.room.specs.Step.{stepRefusal, step}
+use Rattle.room.specs.Step.{stepRefusal, step, clashCount}
+use Rattle.unit.specs.declared.Reply.{Reply}
+use Rattle.unit.specs.Calls.{replied}
 
 -- A row: what the definitions give, and what the paper or a request says.
 pub record Case : Type 0 where
@@ -31,8 +33,14 @@ level c k x = 0x02 ∷ c ∷ k ∷ x / 256 ∷ x % 256 ∷ []
 abbrev pub heading : ℕ → ℕ → ℕ → List ℕ
 heading c k x = 0x03 ∷ c ∷ k ∷ x / 256 ∷ x % 256 ∷ []
 
+abbrev pub mark : ℕ → ℕ → ℕ → List ℕ
+mark c k x = 0x04 ∷ c ∷ k ∷ x ∷ []
+
 abbrev pub call : ℕ → ℕ → List ℕ
 call c k = 0x06 ∷ c ∷ k ∷ []
+
+abbrev pub alert : ℕ → ℕ → List ℕ
+alert c k = 0x07 ∷ c ∷ k ∷ []
 
 abbrev pub merge : ℕ → ℕ → List ℕ
 merge receiver giver = 0x09 ∷ receiver ∷ giver ∷ []
@@ -48,6 +56,11 @@ unfoldable pub answerIn : Room → Decoded → ℕ
 answerIn r (Refused n) = n
 answerIn r (Whole c) = stepRefusal r c
 
+-- what it counts where it is accepted
+unfoldable pub countIn : Room → Decoded → ℕ
+countIn r (Refused n) = 0
+countIn r (Whole c) = clashCount r c
+
 unfoldable pub roomAfter : Room → Decoded → Room
 roomAfter r (Refused n) = r
 roomAfter r (Whole c) = cond (eqb (stepRefusal r c) 0) (step r c) r
@@ -57,10 +70,17 @@ unfoldable pub made : Room → List (List ℕ) → Room
 made r [] = r
 made r (c ∷ cs) = made (roomAfter r (decode c)) cs
 
--- the answers to these commands, one after the other
-unfoldable pub answers : Room → List (List ℕ) → List ℕ
-answers r [] = []
-answers r (c ∷ cs) = answerIn r (decode c) ∷ answers (roomAfter r (decode c)) cs
+-- the replies to these commands, one after the other
+unfoldable pub replies : Room → List (List ℕ) → List Reply
+replies r [] = []
+replies r (c ∷ cs) = replied (answerIn r (decode c)) (countIn r (decode c)) ∷ replies (roomAfter r (decode c)) cs
+
+-- their answers, and their counts
+abbrev pub answers : Room → List (List ℕ) → List ℕ
+answers r cs = map (λ (x : Reply). x .answer) (replies r cs)
+
+abbrev pub counts : Room → List (List ℕ) → List ℕ
+counts r cs = map (λ (x : Reply). x .count) (replies r cs)
 
 -- the answer to a command after those that made a room
 abbrev pub answer : Room → List ℕ → List ℕ

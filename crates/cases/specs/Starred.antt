@@ -73,14 +73,14 @@ starred =
     ∷ (answer (fresh 64) (level 0 0 600) gives 0 ∷ [])
     ∷ (answer (fresh 64) (level 0 0 601) gives 5 ∷ [])
     -- "Levels l 0, a 100, b 200 give 100; l 100, a 100, b 200 give 200."
-    ∷ (mergeStrip (strip 0 0 0 0 0 0) (strip 100 0 0 0 0 0) (strip 200 0 0 0 0 0) 0 gives strip 100 0 0 0 0 0)
-    ∷ (mergeStrip (strip 100 0 0 0 0 0) (strip 100 0 0 0 0 0) (strip 200 0 0 0 0 0) 0 gives strip 200 0 0 0 0 0)
+    ∷ (mergeStrip (strip 0 0 0 0 0 0) (strip 100 0 0 0 0 0) (strip 200 0 0 0 0 0) 0 .bytes gives strip 100 0 0 0 0 0)
+    ∷ (mergeStrip (strip 100 0 0 0 0 0) (strip 100 0 0 0 0 0) (strip 200 0 0 0 0 0) 0 .bytes gives strip 200 0 0 0 0 0)
     -- "Calls l 2, a 5, b 3 give 6."
-    ∷ (mergeStrip (strip 0 0 0 2 0 0) (strip 0 0 0 5 0 0) (strip 0 0 0 3 0 0) 0 gives strip 0 0 0 6 0 0)
+    ∷ (mergeStrip (strip 0 0 0 2 0 0) (strip 0 0 0 5 0 0) (strip 0 0 0 3 0 0) 0 .bytes gives strip 0 0 0 6 0 0)
     -- "Marks l 1, a 1, b 0 give 0."
-    ∷ (mergeStrip (strip 0 0 1 0 0 0) (strip 0 0 1 0 0 0) (strip 0 0 0 0 0 0) 0 gives strip 0 0 0 0 0 0)
+    ∷ (mergeStrip (strip 0 0 1 0 0 0) (strip 0 0 1 0 0 0) (strip 0 0 0 0 0 0) 0 .bytes gives strip 0 0 0 0 0 0)
     -- "Alert l (1, on), a (1, off), b (2, on) gives (2, on)."
-    ∷ (mergeStrip (strip 0 0 0 0 1 1) (strip 0 0 0 0 1 0) (strip 0 0 0 0 2 1) 0 gives strip 0 0 0 0 2 1)
+    ∷ (mergeStrip (strip 0 0 0 0 1 1) (strip 0 0 0 0 1 0) (strip 0 0 0 0 2 1) 0 .bytes gives strip 0 0 0 0 2 1)
     -- "Capacity 1: the first entry gives 18."
     ∷ (answer (fresh 1) (call 0 0) gives 18 ∷ [])
     -- "Now 0 merging 1 gives 17; 0 fast-forwarding to 2 succeeds."
