@@ -1,16 +1,17 @@
 -- A board that is merged strip by strip: strip k of a merge is the merge of the three strips k, and a board whose first k strips are merged
 -- has one more after the next.
 -- Assumes nothing.
-use Prim.Native.Nat.{ℕ, _+_, _*_, _<_, _≤_}
+use Prim.Native.Nat.{ℕ, _+_, _-_, _*_, _<_, _≤_}
 use mathlib.Core.Path.{_≡_, refl, ap, ap₂, _∙_}
 use mathlib.Core.List.{List, _++_}
 use native.Mathlib.Numerals.{add-one}
 use native.Mathlib.Omega.{arith}
 use lib.Dec.{eqb}
-use lib.ListN.{length, getD, take}
+use lib.ListN.{length, getD, take, drop}
 use lib.Seq.{take-all}
 use Rattle.laws.proofs.Lists.{part-at, take-put}
-use Rattle.buffer.specs.Field.{wordAt, part}
+use Rattle.buffer.specs.Field.{wordAt, part, withPart}
+use Rattle.buffer.proofs.Patches.{put-lent, with-length}
 use Rattle.board.specs.Board.{Merged, stripSize, stripCount, boardSize, levelAt, headingAt, marksAt, callsAt, alertsAt, flagOn, mergeStrip, mergeStrips, mergeBoard}
 use Rattle.board.proofs.Length.{mergeStrip-length}
 use Rattle.board.proofs.Clashes.{strip-clashes, strips-clashes}
@@ -47,9 +48,18 @@ strip-merged l a b k =
     let given = strip-words b k in
     cc (strip-flag a k, strip-flag b k)
 
--- strip k of three boards, merged by itself
-whole-strip : (l a b : List ℕ) {x y z : List ℕ} (k : ℕ) → x ≡ strip l k → y ≡ strip a k → z ≡ strip b k → mergeStrip x y z 0 ≡ mergeStrip l a b k
-whole-strip l a b k ex ey ez = rw (ex, ey, ez) (strip-merged l a b k)
+-- strip k, worked out from the three strips k and written where it was lent, is strip k of the merge
+pub strip-put : (board l a b : List ℕ) (k : ℕ) {x y z new : List ℕ} {clashes : ℕ} → x ≡ strip l k → y ≡ strip a k → z ≡ strip b k
+    → (new ≡ mergeStrip x y z 0 .bytes) × (clashes ≡ mergeStrip x y z 0 .clashes)
+    → (take (stripSize * k) board ++ (new ++ drop (stripSize * k + stripSize - stripSize * k) (drop (stripSize * k) board))
+    ≡ withPart board (stripSize * k) (mergeStrip l a b k .bytes))
+    × (clashes ≡ mergeStrip l a b k .clashes)
+strip-put board l a b k {x} {y} {z} {new} ex ey ez e =
+    let whole : mergeStrip x y z 0 ≡ mergeStrip l a b k = rw (ex, ey, ez) (strip-merged l a b k) in (
+      put-lent board new (mergeStrip l a b k .bytes) (stripSize * k) (stripSize * k) stripSize refl (e .0 ∙ ap (λ (m : Merged). m .bytes) whole)
+          (mergeStrip-length l a b k),
+      e .1 ∙ ap (λ (m : Merged). m .clashes) whole,
+    )
 
 -- the first k strips of a board are merged
 pub record Merging (l a b board : List ℕ) (k : ℕ) : Type 0 where
@@ -61,19 +71,19 @@ pub merging-start : (l a b board : List ℕ) → length board ≡ boardSize → 
 unfolding mergeStrips
 merging-start l a b board h = record { within = omega arith; long = h; done = refl }
 
--- strip k is written, and what lies behind it is whatever it is
-pub merging-step : {l a b board x y z new : List ℕ} {k : ℕ} (rest : List ℕ) → Merging l a b board k → k < stripCount
-    → x ≡ strip l k → y ≡ strip a k → z ≡ strip b k → new ≡ mergeStrip x y z 0 .bytes
-    → length (take (stripSize * k) board ++ (new ++ rest)) ≡ boardSize → Merging l a b (take (stripSize * k) board ++ (new ++ rest)) (k + 1)
-unfolding mergeStrips
-merging-step {l} {a} {b} {board} {new = new} {k = k} rest m h ex ey ez e long =
-    let merged : new ≡ mergeStrip l a b k .bytes = e ∙ ap (λ (m : Merged). m .bytes) (whole-strip l a b k ex ey ez) in
+-- strip k is written
+pub merging-step : {l a b board new : List ℕ} {k : ℕ} → Merging l a b board k → k < stripCount
+    → new ≡ withPart board (stripSize * k) (mergeStrip l a b k .bytes) → Merging l a b new (k + 1)
+unfolding mergeStrips withPart
+merging-step {l} {a} {b} {board} {new} {k} m h e =
+    let size = mergeStrip-length l a b k in
     record {
       within = omega arith;
-      long = long;
+      long = ap length e ∙ with-length board (mergeStrip l a b k .bytes) (stripSize * k) (omega (arith, m .long)) ∙ m .long;
       done =
-          take-put board new rest (stripSize * k) (stripSize * (k + 1)) (omega (arith, m .long)) (rw merged (omega (arith, mergeStrip-length l a b k)))
-          ∙ rw (merged, m .done, add-one);
+          ap (take (stripSize * (k + 1))) e
+          ∙ take-put board (mergeStrip l a b k .bytes) _ (stripSize * k) (stripSize * (k + 1)) (omega (arith, m .long)) (omega arith)
+          ∙ rw (m .done, add-one);
     }
 
 pub merging-finish : {l a b board : List ℕ} {k : ℕ} → Merging l a b board k → stripCount ≤ k → board ≡ mergeBoard l a b .bytes
@@ -91,19 +101,16 @@ unfolding mergeStrips
 counting-start l a b board h = record { merging = merging-start l a b board h; counted = refl }
 
 -- so far there are no more than 64, and one strip adds no more than 2
-pub counting-few : {l a b board : List ℕ} (x y z : List ℕ) {clashes more k : ℕ} → Counting l a b board clashes k → more ≡ mergeStrip x y z 0 .clashes
+pub counting-few : {l a b board : List ℕ} {clashes more k : ℕ} → Counting l a b board clashes k → more ≡ mergeStrip l a b k .clashes
     → (clashes ≤ 64) × (more ≤ 2)
-counting-few {l} {a} {b} x y z {k = k} m e =
-    (omega (arith, m .merging .within, m .counted, strips-clashes l a b k), omega (arith, e, strip-clashes x y z 0))
+counting-few {l} {a} {b} {k = k} m e =
+    (omega (arith, m .merging .within, m .counted, strips-clashes l a b k), omega (arith, e, strip-clashes l a b k))
 
-pub counting-step : {l a b board x y z new : List ℕ} {clashes more k : ℕ} (rest : List ℕ) → Counting l a b board clashes k → k < stripCount
-    → x ≡ strip l k → y ≡ strip a k → z ≡ strip b k → (new ≡ mergeStrip x y z 0 .bytes) × (more ≡ mergeStrip x y z 0 .clashes)
-    → length (take (stripSize * k) board ++ (new ++ rest)) ≡ boardSize
-    → Counting l a b (take (stripSize * k) board ++ (new ++ rest)) (clashes + more) (k + 1)
+pub counting-step : {l a b board new : List ℕ} {clashes more k : ℕ} → Counting l a b board clashes k → k < stripCount
+    → (new ≡ withPart board (stripSize * k) (mergeStrip l a b k .bytes)) × (more ≡ mergeStrip l a b k .clashes)
+    → Counting l a b new (clashes + more) (k + 1)
 unfolding mergeStrips
-counting-step {l} {a} {b} {k = k} rest m h ex ey ez e long =
-    let one = e .1 ∙ ap (λ (m : Merged). m .clashes) (whole-strip l a b k ex ey ez) in
-    record { merging = merging-step rest (m .merging) h ex ey ez (e .0) long; counted = rw (m .counted, one, add-one) }
+counting-step m h e = record { merging = merging-step (m .merging) h (e .0); counted = rw (m .counted, e .1, add-one) }
 
 pub counting-finish : {l a b board : List ℕ} {clashes k : ℕ} → Counting l a b board clashes k → stripCount ≤ k
     → (board ≡ mergeBoard l a b .bytes) × (clashes ≡ mergeBoard l a b .clashes)

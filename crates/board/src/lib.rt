@@ -12,7 +12,7 @@ ghost use mathlib.Core.Path.{_≡_};
 ghost use Prim.Native.Nat.{_+_, _*_, _<_};
 ghost use lib.Bits.{bitOr};
 ghost use lib.ListN.{length, set};
-ghost use Rattle.buffer.specs.Field.{wordAt, putWord, part, same};
+ghost use Rattle.buffer.specs.Field.{wordAt, putWord, part, withPart, same};
 ghost use Rattle.buffer.specs.Row.{bit};
 ghost use Rattle.board.specs.Board.{stripSize, stripCount, boardSize, marksAt, alertsAt, flagAt, flagOn, mergeValue, mergeMarks, mergeCount, mergeFlag, mergeStrip, mergeBoard, markBit, without, enter};
 ghost use Rattle.board.specs.LittleEndian.{swapped};
@@ -209,6 +209,21 @@ fn strip_of(board: &[u8], k: usize) -> &[u8]
     part_of(board, STRIP_SIZE * k, STRIP_SIZE)
 }
 
+// Writes strip k of the merge of three boards, and counts its clashes.
+fn merge_strip_at(board: &mut [u8], l: &[u8], a: &[u8], b: &[u8], k: usize) -> usize
+    requires { ⌜ (length (now board) ≡ boardSize) × (length (now l) ≡ boardSize) × (length (now a) ≡ boardSize) × (length (now b) ≡ boardSize) × (k < stripCount) ⌝ }
+    ensures { λ r. ⌜ (now (board .exit) ≡ withPart (now (board .entry)) (stripSize * k) (mergeStrip (now (l .entry)) (now (a .entry)) (now (b .entry)) k .bytes)) × (r ≡ mergeStrip (now (l .entry)) (now (a .entry)) (now (b .entry)) k .clashes) ⌝ }
+{
+    let at = STRIP_SIZE * k;
+    let end = at + STRIP_SIZE;
+    merge_strip(
+        &mut board[at..end],
+        strip_of(l, k),
+        strip_of(a, k),
+        strip_of(b, k),
+    )
+}
+
 // Writes the merge of three boards, strip by strip. Its clashes are let go: whoever tests or resumes a room merges the boards of every version
 // and asks for none, and a number that nobody adds up costs nothing.
 pub fn merge_board(board: &mut [u8], l: &[u8], a: &[u8], b: &[u8])
@@ -216,14 +231,7 @@ pub fn merge_board(board: &mut [u8], l: &[u8], a: &[u8], b: &[u8])
     ensures { λ _. ⌜ now (board .exit) ≡ mergeBoard (now (l .entry)) (now (a .entry)) (now (b .entry)) .bytes ⌝ }
 {
     for k in 0..STRIP_COUNT {
-        let at = STRIP_SIZE * k;
-        let end = at + STRIP_SIZE;
-        merge_strip(
-            &mut board[at..end],
-            strip_of(l, k),
-            strip_of(a, k),
-            strip_of(b, k),
-        );
+        merge_strip_at(board, l, a, b, k);
     }
 }
 
@@ -234,15 +242,7 @@ pub fn merge_board_counted(board: &mut [u8], l: &[u8], a: &[u8], b: &[u8]) -> us
 {
     let mut clashes = 0;
     for k in 0..STRIP_COUNT {
-        let at = STRIP_SIZE * k;
-        let end = at + STRIP_SIZE;
-        clashes = clashes
-            + merge_strip(
-                &mut board[at..end],
-                strip_of(l, k),
-                strip_of(a, k),
-                strip_of(b, k),
-            );
+        clashes = clashes + merge_strip_at(board, l, a, b, k);
     }
     clashes
 }

@@ -19,10 +19,8 @@ loop-holds c = merging-start _ _ _ _ (c .before .before .before .before .pre .0)
 loop-again : tie.Need-loop-again Inv-loop μ-loop
 loop-again c =
     let call = c .before .before in
-    let turn = call .before .before .before .before .before in
-    merging-step _ (turn .before .loop .inv) (turn .loop-test .taken)
-    (call .before .before .before .strip-of .ensures .0) (call .before .before .strip-of2 .ensures .0) (call .before .strip-of3 .ensures .0)
-    (call .merge-strip .ensures .0) (omega arith)
+    let turn = call .before .before in
+    merging-step (turn .before .loop .inv) (turn .loop-test .taken) (call .merge-strip-at .ensures .0)
 
 returns : tie.Need-returns Inv-loop μ-loop
 returns c = merging-finish (c .before .loop .inv) (c .loop-test .left)
@@ -30,6 +28,4 @@ returns c = merging-finish (c .before .loop .inv) (c .loop-test .left)
 pub merge-board-spec : {M : Type 1} → statement M
 merge-board-spec =
     tie.close
-    (tie.spec Inv-loop μ-loop loop-holds (λ c. omega arith) (λ c. omega arith) (λ c. omega arith) (λ c. omega arith) (λ c. omega arith)
-    (λ c κs. omega arith) (λ c κs. omega arith) (λ c κs. omega arith) (λ c κs. omega arith) (λ c. omega arith) (λ c. omega arith)
-    loop-again (λ c. omega arith) returns)
+    (tie.spec Inv-loop μ-loop loop-holds (λ c κs. omega arith) (λ c. omega arith) (λ c. omega arith) loop-again (λ c. omega arith) returns)

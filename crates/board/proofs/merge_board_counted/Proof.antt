@@ -19,16 +19,13 @@ loop-holds c = counting-start _ _ _ _ (c .before .before .before .before .pre .0
 add-clashes : tie.Need-add-clashes Inv-loop μ-loop
 add-clashes c =
     let call = c .before .before in
-    let turn = call .before .before .before .before .before in
-    omega (arith, counting-few _ _ _ (turn .before .loop .inv) (call .merge-strip .ensures .1))
+    omega (arith, counting-few (call .before .before .before .loop .inv) (call .merge-strip-at .ensures .1))
 
 loop-again : tie.Need-loop-again Inv-loop μ-loop
 loop-again c =
     let call = c .before .before in
-    let turn = call .before .before .before .before .before in
-    counting-step _ (turn .before .loop .inv) (turn .loop-test .taken)
-    (call .before .before .before .strip-of .ensures .0) (call .before .before .strip-of2 .ensures .0) (call .before .strip-of3 .ensures .0)
-    (call .merge-strip .ensures) (omega arith)
+    let turn = call .before .before in
+    counting-step (turn .before .loop .inv) (turn .loop-test .taken) (call .merge-strip-at .ensures)
 
 returns : tie.Need-returns Inv-loop μ-loop
 returns c = counting-finish (c .before .loop .inv) (c .loop-test .left)
@@ -36,6 +33,4 @@ returns c = counting-finish (c .before .loop .inv) (c .loop-test .left)
 pub merge-board-counted-spec : {M : Type 1} → statement M
 merge-board-counted-spec =
     tie.close
-    (tie.spec Inv-loop μ-loop loop-holds (λ c. omega arith) (λ c. omega arith) (λ c. omega arith) (λ c. omega arith) (λ c. omega arith)
-    (λ c κs. omega arith) (λ c κs. omega arith) (λ c κs. omega arith) (λ c κs. omega arith) add-clashes (λ c. omega arith) (λ c. omega arith)
-    loop-again (λ c. omega arith) returns)
+    (tie.spec Inv-loop μ-loop loop-holds (λ c κs. omega arith) add-clashes (λ c. omega arith) (λ c. omega arith) loop-again (λ c. omega arith) returns)
