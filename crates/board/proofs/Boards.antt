@@ -100,11 +100,11 @@ pub counting-start : (l a b board : List ℕ) → length board ≡ boardSize →
 unfolding mergeStrips
 counting-start l a b board h = record { merging = merging-start l a b board h; counted = refl }
 
--- so far there are no more than 64, and one strip adds no more than 2
-pub counting-few : {l a b board : List ℕ} {clashes more k : ℕ} → Counting l a b board clashes k → more ≡ mergeStrip l a b k .clashes
+-- so far there are no more than 64, and a strip adds no more than 2
+pub counting-few : {l a b board : List ℕ} {clashes more k : ℕ} (j : ℕ) → Counting l a b board clashes k → more ≡ mergeStrip l a b j .clashes
     → (clashes ≤ 64) × (more ≤ 2)
-counting-few {l} {a} {b} {k = k} m e =
-    (omega (arith, m .merging .within, m .counted, strips-clashes l a b k), omega (arith, e, strip-clashes l a b k))
+counting-few {l} {a} {b} {k = k} j m e =
+    (omega (arith, m .merging .within, m .counted, strips-clashes l a b k), omega (arith, e, strip-clashes l a b j))
 
 pub counting-step : {l a b board new : List ℕ} {clashes more k : ℕ} → Counting l a b board clashes k → k < stripCount
     → (new ≡ withPart board (stripSize * k) (mergeStrip l a b k .bytes)) × (more ≡ mergeStrip l a b k .clashes)

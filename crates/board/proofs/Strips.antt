@@ -1,6 +1,6 @@
 -- Cells that are written with what was read: a strip that was written cell by cell is the merged strip.
 -- Assumes nothing.
-use Prim.Native.Nat.{ℕ, _+_, _≤_}
+use Prim.Native.Nat.{ℕ, _+_}
 use mathlib.Core.Path.{_≡_, refl, ap, _∙_}
 use mathlib.Core.Bool.{Bool, true, false, _&&_, _||_, or-false}
 use mathlib.Core.List.{List, [], _∷_, _++_}
@@ -24,12 +24,6 @@ flag-rule false false l a b = refl
 pub bool-bit : (b : Bool) → boolByte b ≡ bit b
 bool-bit true = refl
 bool-bit false = refl
-
-pub two-bits : (x y : Bool) → boolByte x + boolByte y ≤ 2
-two-bits true true = omega arith
-two-bits true false = omega arith
-two-bits false true = omega arith
-two-bits false false = omega arith
 
 -- the 12 bytes, whatever stood there before
 cells-written : (s : List ℕ) (u v w x y z : ℕ) → length s ≡ stripSize

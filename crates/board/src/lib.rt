@@ -198,7 +198,7 @@ fn merge_strip(s: &mut [u8], l: &[u8], a: &[u8], b: &[u8]) -> usize
     merge_marks_at(s, l, a, b, MARKS);
     merge_count_at(s, l, a, b, CALLS);
     merge_alerts(s, l, a, b);
-    level_clashes as usize + heading_clashes as usize
+    wide(level_clashes as u8) + wide(heading_clashes as u8)
 }
 
 // A strip of a board.

@@ -19,7 +19,7 @@ loop-holds c = counting-start _ _ _ _ (c .before .before .before .before .pre .0
 add-clashes : tie.Need-add-clashes Inv-loop μ-loop
 add-clashes c =
     let call = c .before .before in
-    omega (arith, counting-few (call .before .before .before .loop .inv) (call .merge-strip-at .ensures .1))
+    omega (arith, counting-few _ (call .before .before .before .loop .inv) (call .merge-strip-at .ensures .1))
 
 loop-again : tie.Need-loop-again Inv-loop μ-loop
 loop-again c =
