@@ -42,5 +42,5 @@ unfolding everyBelow someBelow highestBelow ancestor isMeet meet firstRefusal sh
 leaves-hold = refl
 
 pub clashes-hold : map (λ (c : Case). c .got) clashCases ≡ map (λ (c : Case). c .due) clashCases
-unfolding mergeFlag mergeStrip mergeStrips enter everyBelow someBelow highestBelow ancestor isMeet meet firstRefusal shapeOf lengthOf numberAt operandsOf isOperand kindOf commandRefusal decode common stateTests stepRefusal step clashCount boardMade boardOf holdsStore stepOutcome commandOutcome answerIn countIn roomAfter made replies everywhere clashCases
+unfolding mergeFlag mergeStrip mergeStrips enter everyBelow someBelow highestBelow ancestor isMeet meet firstRefusal shapeOf lengthOf numberAt operandsOf isOperand kindOf commandRefusal decode common stateTests stepRefusal step clashCount boardMade boardOf answerIn countIn roomAfter made replies everywhere clashCases
 clashes-hold = refl

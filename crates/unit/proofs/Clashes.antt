@@ -10,8 +10,7 @@ use borrow.Author.Tests.{eqb-true}
 use lib.Dec.{eqb}
 use Rattle.board.proofs.Clashes.{board-counted}
 use Rattle.refusal.specs.Refusal.{firstRefusal}
-use Rattle.command.specs.declared.Command.{Command}
-use Rattle.command.specs.declared.Command.the-variants.{Fork, Entry, Merge, FastForward, Leave}
+use Rattle.command.specs.declared.Command.the-variants.{Merge}
 use Rattle.command.specs.declared.Decoded.{Decoded}
 use Rattle.command.specs.declared.Decoded.the-variants.{Whole, Refused}
 use Rattle.command.specs.declared.Kind.{Kind}
@@ -20,14 +19,14 @@ use Rattle.command.specs.declared.Operands.{Operands}
 use Rattle.command.specs.Code.{mergeCommand, kindOf, shapeOf, operandsOf, numberAt}
 use Rattle.command.specs.Decode.{codeIn, operandsIn, commandOf, decode}
 use Rattle.command.proofs.CodeKinds.{Says, kind-says}
-use Rattle.command.proofs.Ranges.{whole-told, refused-told, commandIn}
+use Rattle.command.proofs.Ranges.{whole-told, refused-told}
 use Rattle.room.specs.Room.{Room, common}
 use Rattle.room.specs.Step.{clashCount}
 use Rattle.room.proofs.Clashes.{few-counted}
 use Rattle.store.specs.Layout.{roomIn}
 use Rattle.tape.specs.Tape.{Content, contentOf}
 use Rattle.unit.specs.Calls.{commandTests, stepOutcome, commandOutcome, resumeTests, resumed, resumeOutcome}
-use Rattle.unit.specs.Clashes.{disagreements, replyOf, ClashesCounted}
+use Rattle.unit.specs.Clashes.{disagreements, ClashesCounted}
 
 -- a count is given where the answer is 0, and is 0 elsewhere
 counted-few : (accepted : Bool) (n : ℕ) → n ≤ 64 → cond accepted n 0 ≤ 64
