@@ -20,7 +20,7 @@ static const char HELP[] =
     "heading CONSOLE STRIP DEGREES\n"
     "mark CONSOLE STRIP MARK      and unmark\n"
     "call CONSOLE STRIP           and alert, quiet\n"
-    "merge RECEIVER GIVER         and forward\n"
+    "merge RECEIVER GIVER         and forward; a merge says how many cells clashed\n"
     "leave CONSOLE                it goes home; its number can be forked again\n"
     "board CONSOLE                the console's strips\n"
     "heads                        where every console stands\n"

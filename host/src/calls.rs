@@ -158,15 +158,15 @@ fn origin_number(store: &[u8], console: u32, strip: u32, cell: u32) -> Result<us
 const SESSION_CAPACITY: u32 = 64;
 
 /// What the program of "Sessions to check" prints for an input, and the clashes of the merges in it, which it doesn't print.
-pub struct Session {
+pub struct Told {
     pub printed: String,
     pub clashes: u32,
 }
 
-pub fn session(input: &[u8]) -> Session {
+pub fn session(input: &[u8]) -> Told {
     let mut store = vec![0; layout::store_bytes(SESSION_CAPACITY as usize)];
     open(SESSION_CAPACITY, &mut store);
-    let mut session = Session {
+    let mut session = Told {
         printed: String::new(),
         clashes: 0,
     };

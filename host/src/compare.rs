@@ -307,7 +307,7 @@ impl Tally {
     /// Each number of clashes that a merge can have, and how many merges counted it.
     fn numbers_of_clashes(&self) -> impl Iterator<Item = (u32, u64)> + '_ {
         let met = |number: u32| self.merges.get(&number).copied().unwrap_or(0);
-        (0..=gen::SETTINGS as u32).map(move |number| (number, met(number)))
+        (0..=gen::VALUES as u32).map(move |number| (number, met(number)))
     }
 
     /// The listed pairs and the numbers of clashes that were never met, and the figures that are too low for so many rounds.
@@ -1286,7 +1286,7 @@ fn sessions_from_full_rooms(
 /// Rooms whose merges have some number of clashes, merged at once and after other steps.
 fn sessions_that_clash(comparison: &mut Comparison, rng: &mut Rng) -> Outcome<()> {
     for _ in 0..3 {
-        let clashes = rng.below(gen::SETTINGS + 1);
+        let clashes = rng.below(gen::VALUES + 1);
         compare_clashes(comparison, rng, clashes)?;
         let room = gen::clashing_room(rng, clashes);
         resumed_session(comparison, rng, room)?.run(30)?;
@@ -1301,7 +1301,7 @@ fn fixed_cases(comparison: &mut Comparison, rng: &mut Rng) -> Outcome<()> {
     compare_edges(comparison, rng)?;
     compare_long_tapes(comparison, rng)?;
     compare_long_walks(comparison)?;
-    for clashes in 0..=gen::SETTINGS {
+    for clashes in 0..=gen::VALUES {
         compare_clashes(comparison, rng, clashes)?;
     }
     compare_grown_store(comparison, rng, 1023)?;

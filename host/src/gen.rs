@@ -87,7 +87,7 @@ fn entry_anywhere(rng: &mut Rng, room: &Room) -> Vec<u8> {
 fn contradicting_command(rng: &mut Rng, room: &Room) -> Vec<u8> {
     let consoles = rng.shuffled(&room.present());
     let contradiction = consoles.split_first().and_then(|(&console, others)| {
-        let said = others.iter().find_map(|&other| last_setting(room, other))?;
+        let said = others.iter().find_map(|&other| last_value(room, other))?;
         Some((console, said))
     });
     let Some((console, said)) = contradiction else {
@@ -98,8 +98,8 @@ fn contradicting_command(rng: &mut Rng, room: &Room) -> Vec<u8> {
     entry_bytes(console, (said.code, said.strip, value))
 }
 
-/// The last level or heading that a console has entered since its last merge.
-fn last_setting(room: &Room, console: usize) -> Option<Entry> {
+/// The last level or heading set on the way to a console's head since a merge.
+fn last_value(room: &Room, console: usize) -> Option<Entry> {
     let mut version = room.head(console)?;
     while let Version::Entry(entry) = room.versions[version] {
         if matches!(entry.code, code::LEVEL | code::HEADING) {
@@ -416,8 +416,8 @@ fn filled_by<'a>(capacity: usize, mut commands: impl Iterator<Item = &'a [u8]>) 
 // ---------------------------------------------------------------- rooms that clash
 
 /// The levels and headings of a board: level and heading of strip 0, those of strip 1, and so on.
-pub const SETTINGS: usize = 2 * STRIPS;
-type Settings = [u16; SETTINGS];
+pub const VALUES: usize = 2 * STRIPS;
+type Values = [u16; VALUES];
 
 /// Values that differ in one byte alone or have their bytes swapped, and the ends of the ranges.
 const NEAR_VALUES: [u16; 10] = [
@@ -435,13 +435,13 @@ const NEAR_VALUES: [u16; 10] = [
 
 /// A room of consoles 0 and 1 in which a merge of the two, either way round, has so many clashes; some versions are free.
 pub fn clashing_room(rng: &mut Rng, clashes: usize) -> Room {
-    let (mut l, mut a, mut b) = ([0; SETTINGS], [0; SETTINGS], [0; SETTINGS]);
-    let places: Vec<usize> = (0..SETTINGS).collect();
+    let (mut l, mut a, mut b) = ([0; VALUES], [0; VALUES], [0; VALUES]);
+    let places: Vec<usize> = (0..VALUES).collect();
     for (number, place) in rng.shuffled(&places).into_iter().enumerate() {
         [l[place], a[place], b[place]] = three_values(rng, place, number < clashes);
     }
     let mut room = Room::opened(1);
-    let base = append_changes(rng, &mut room, 0, &[0; SETTINGS], &l);
+    let base = append_changes(rng, &mut room, 0, &[0; VALUES], &l);
     room.heads[0] = Some(append_changes(rng, &mut room, base, &l, &a));
     room.heads[1] = Some(append_changes(rng, &mut room, base, &l, &b));
     room.capacity = room.versions.len() + rng.between(1, 12);
@@ -474,13 +474,13 @@ fn append_changes(
     rng: &mut Rng,
     room: &mut Room,
     mut parent: usize,
-    from: &Settings,
-    to: &Settings,
+    from: &Values,
+    to: &Values,
 ) -> usize {
     let mut changes: Vec<Change> = (0..rng.between(1, 20))
         .map(|_| change_by_one_of(rng, code::MARK_PUT, code::ALERT_OFF))
         .collect();
-    for place in 0..SETTINGS {
+    for place in 0..VALUES {
         if from[place] != to[place] || rng.chance(20) {
             let setting_code = [code::LEVEL, code::HEADING][place % 2];
             changes.push((setting_code, (place / 2) as u8, to[place]));

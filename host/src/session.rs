@@ -1,6 +1,6 @@
 // Runs the session program on standard inputs of every kind and compares every line that it prints with the model's.
 
-use crate::calls::{self, Session};
+use crate::calls::{self, Told};
 use crate::compare::Outcome;
 use crate::gen;
 use crate::model::{decode, refusal, Room};
@@ -108,7 +108,7 @@ pub struct Compared {
 }
 
 impl Compared {
-    fn note(&mut self, session: &Session) {
+    fn note(&mut self, session: &Told) {
         let lines = session.printed.lines();
         self.inputs += 1;
         self.lines += lines.clone().count();

@@ -409,7 +409,7 @@ fn clashes_are_cells_of_three_values() {
 #[test]
 fn clashing_rooms_have_so_many_clashes() {
     let mut rng = Rng::new(22);
-    for clashes in 0..=gen::SETTINGS {
+    for clashes in 0..=gen::VALUES {
         let room = gen::clashing_room(&mut rng, clashes);
         assert!(sound(&room));
         for (receiver, giver) in [(0, 1), (1, 0)] {

@@ -1,5 +1,5 @@
--- A board that is merged strip by strip: strip k of a merge is the merge of the three strips k, and a board whose first k strips are merged
--- has one more after the next.
+-- A board that is merged strip by strip: strip k of a merge is the merge of the three strips k, a board whose first k strips are merged
+-- has one more after the next, and the clashes of these strips are counted.
 -- Assumes nothing.
 use Prim.Native.Nat.{ℕ, _+_, _-_, _*_, _<_, _≤_}
 use mathlib.Core.Path.{_≡_, refl, ap, ap₂, _∙_}
@@ -91,7 +91,7 @@ merging-finish {l} {a} {b} {board} {k} m h =
     let e : k ≡ stripCount = omega (arith, m .within) in
     rw (e, take-all boardSize board (omega (arith, m .long))) at (m .done)
 
--- and their clashes are counted
+-- the first k strips of a board are merged, and their clashes counted
 pub record Counting (l a b board : List ℕ) (clashes k : ℕ) : Type 0 where
   pub merging : Merging l a b board k
   pub counted : clashes ≡ mergeStrips l a b k .clashes

@@ -46,7 +46,7 @@ pub board-counted : (l a b : List ℕ)
     → mergeBoard l a b .clashes ≡ countBelow stripCount (λ k. mergeCell Level k l a b .clash) + countBelow stripCount (λ k. mergeCell Heading k l a b .clash)
 board-counted l a b = strips-counted l a b stripCount
 
--- "The receiver's value stays where all three differ"
+-- "So the receiver's value stays where all three differ."
 pub clash-keeps : (l a b : ℕ) → mergeValue l a b .clash ≡ true → mergeValue l a b .value ≡ a
 clash-keeps l a b h =
     let apart = and-l (not (eqb a l)) (not (eqb b l)) (and-l (not (eqb a l) && not (eqb b l)) (not (eqb a b)) h) in

@@ -1,4 +1,4 @@
--- Cells that are written with what was read: a strip that was written cell by cell is the merged strip.
+-- Cells that are written with what was read: a strip that was written cell by cell is the merged strip, with its clashes.
 -- Assumes nothing.
 use Prim.Native.Nat.{ℕ, _+_}
 use mathlib.Core.Path.{_≡_, refl, ap, _∙_}

@@ -1,5 +1,5 @@
--- "32 strips of 12 bytes, 384 in all." The cells of a strip, what an entry writes, how three boards are merged, and the cells whose origin can
--- be asked about.
+-- "32 strips of 12 bytes, 384 in all." The cells of a strip, how three boards are merged and which levels and headings clash, what an entry writes, and
+-- the cells whose origin can be asked about.
 use Prim.Native.Nat.{ℕ, zero, suc, _+_, _-_, _*_, _%_, _^_}
 use mathlib.Core.Bool.{Bool, true, false, cond, not, _&&_}
 use mathlib.Core.List.{List, [], _∷_, _++_}

@@ -42,7 +42,7 @@ const REST: usize = 11;
 // The marks of a strip.
 pub const MARK_COUNT: usize = 16;
 
-// Of the cells of a strip, the two whose origin can be asked about.
+// Of the cells of a strip, the two that have a value, which has an origin and can clash in a merge.
 pub enum Cell {
     Level,
     Heading,
@@ -188,7 +188,7 @@ fn merge_alerts(s: &mut [u8], l: &[u8], a: &[u8], b: &[u8])
     s[REST] = 0;
 }
 
-// Writes a merged strip from three strips, and counts its clashes.
+// Writes a merged strip from three strips, and counts its clashes. They are added as bytes, so that the sum's bound is plain.
 fn merge_strip(s: &mut [u8], l: &[u8], a: &[u8], b: &[u8]) -> usize
     requires { ⌜ (length (now s) ≡ stripSize) × (length (now l) ≡ stripSize) × (length (now a) ≡ stripSize) × (length (now b) ≡ stripSize) ⌝ }
     ensures { λ r. ⌜ (now (s .exit) ≡ mergeStrip (now (l .entry)) (now (a .entry)) (now (b .entry)) 0 .bytes) × (r ≡ mergeStrip (now (l .entry)) (now (a .entry)) (now (b .entry)) 0 .clashes) ⌝ }

@@ -29,7 +29,7 @@ stuck-forwards = refl
 
 -- the cases that the paper marks *
 pub starred-hold : map (λ (c : Case). c .got) starred ≡ map (λ (c : Case). c .due) starred
-unfolding mergeFlag mergeStrip everyBelow someBelow highestBelow ancestor isMeet meet firstRefusal shapeOf lengthOf numberAt operandsOf isOperand kindOf commandRefusal decode common stateTests stepRefusal step versionRecords headRecords tapeOf answerIn countIn roomAfter made replies session crossed stuck starred
+unfolding mergeFlag mergeStrip everyBelow someBelow highestBelow ancestor isMeet meet firstRefusal shapeOf lengthOf numberAt operandsOf isOperand kindOf commandRefusal decode common stateTests stepRefusal step versionRecords headRecords tapeOf answerIn roomAfter made replies session crossed stuck starred
 starred-hold = rw (stuck-merges, stuck-forwards)
 
 -- those of the requests
@@ -38,7 +38,7 @@ unfolding mergeFlag mergeStrip mergeStrips enter everyBelow someBelow highestBel
 origins-hold = refl
 
 pub leaves-hold : map (λ (c : Case). c .got) leaveCases ≡ map (λ (c : Case). c .due) leaveCases
-unfolding everyBelow someBelow highestBelow ancestor isMeet meet firstRefusal shapeOf lengthOf numberAt operandsOf isOperand kindOf commandRefusal decode common stateTests stepRefusal step holdsStore stepOutcome commandOutcome versionRecords headRecords tapeOf answerIn countIn roomAfter made replies session leaveCases
+unfolding everyBelow someBelow highestBelow ancestor isMeet meet firstRefusal shapeOf lengthOf numberAt operandsOf isOperand kindOf commandRefusal decode common stateTests stepRefusal step holdsStore stepOutcome commandOutcome versionRecords headRecords tapeOf answerIn roomAfter made replies session leaveCases
 leaves-hold = refl
 
 pub clashes-hold : map (λ (c : Case). c .got) clashCases ≡ map (λ (c : Case). c .due) clashCases

@@ -75,11 +75,12 @@ leaveCases =
     gives (0x20 ∷ 0x00 ∷ 0x40 ∷ []) ++ (0x21 ∷ 0x00 ∷ 0x00 ∷ 0x02 ∷ 0x05 ∷ 0x00 ∷ 0x64 ∷ []) ++ (0x23 ∷ 0x00 ∷ 0x00 ∷ 0x01 ∷ []) ++ (0x24 ∷ []))
     ∷ []
 
--- Three: what each of some commands counts. A level and a heading on each of the first n strips, and then these commands.
+-- a level and a heading on each of the first n strips, and then these commands
 unfoldable pub everywhere : ℕ → ℕ → ℕ → ℕ → List (List ℕ) → List (List ℕ)
 everywhere c zero x y later = later
 everywhere c (suc n) x y later = level c n x ∷ heading c n y ∷ everywhere c n x y later
 
+-- Three: what each of some commands counts
 unfoldable pub clashCases : List Case
 clashCases =
     -- l 0, a 0, b 100; and l 0, a 100, b 0

@@ -16,7 +16,7 @@ use Rattle.buffer.specs.Field.{zeros, part, same, allZero}
 use Rattle.buffer.specs.Row.{member, withMember, union, intersection}
 use Rattle.buffer.proofs.Fields.{same-true}
 use Rattle.buffer.proofs.Parts.{Bytes, same-of, zero-stands, stands-zero, zero-part, part-zero}
-use Rattle.board.specs.Board.{boardSize, enter, mergeBoard}
+use Rattle.board.specs.Board.{boardSize, enter}
 use Rattle.graph.specs.Graph.{Graph, versionCount, nodeOf, everyVersion}
 use Rattle.graph.proofs.Parent.{parent-lower, receiver, giver}
 use Rattle.graph.proofs.Ancestor.{ancestor-below, nodeOf-new, nodeOf-old}
@@ -26,7 +26,7 @@ use Rattle.room.specs.Sound.{maxCapacity}
 use Rattle.room.specs.Boards.{boardMade, boardOf}
 use Rattle.store.specs.Layout.{nodeSize, rowSize, blockAt, boardAt, nodeBytes, nodeIn, versionsIn, mergeNodeCode}
 use Rattle.store.specs.Rules.{nodeInRange}
-use Rattle.store.specs.Check.{rowPart, boardPart, entriesPart, rootRight, entryParts, mergeParts, nodeParts, versionRight, versionsRight}
+use Rattle.store.specs.Check.{rowPart, boardPart, mergeOfBoards, entriesPart, rootRight, entryParts, mergeParts, nodeParts, versionRight, versionsRight}
 use Rattle.store.proofs.Lineage.{root-lineage, entry-lineage, merge-lineage}
 use Rattle.store.proofs.Shown.{shown, made}
 use Rattle.store.proofs.Told.{Told, Held, Next, held-next, held-before, held-newest, meet-rows, rows-meet}
@@ -67,7 +67,7 @@ module _ (s : List ℕ) (g : Graph) (small : versionCount g < maxCapacity) (h : 
   merge-line : p < v → q < v → withMember (union (rowPart s p) (rowPart s q)) v ≡ made g (mergeIn s v) .line
   merge-line a b = rw (h .told p a .line, h .told q b .line) (merge-lineage g p q v small)
 
-  merge-board : p < v → q < v → Meet g p q l → mergeBoard (boardPart s l) (boardPart s p) (boardPart s q) .bytes ≡ made g (mergeIn s v) .board
+  merge-board : p < v → q < v → Meet g p q l → mergeOfBoards s p q l .bytes ≡ made g (mergeIn s v) .board
   unfolding boardMade
   merge-board a b m =
       rw (h .told l (ancestor-below g l p (m .first)) .board, h .told p a .board, h .told q b .board, meet-number m)
@@ -115,7 +115,7 @@ module _ (s : List ℕ) (g : Graph) (small : versionCount g < maxCapacity) (h : 
         told = record {
           node = zero-merge s v g b nine (sym (meet-number m)) (search (and-l, and-r) depth 12) (search (and-l, and-r) depth 12);
           line = same-true (rowPart s v) (withMember (union (rowPart s p) (rowPart s q)) v) (search (and-l, and-r) depth 12) ∙ merge-line first second;
-          board = same-true (boardPart s v) (mergeBoard (boardPart s l) (boardPart s p) (boardPart s q) .bytes) (search (and-l, and-r) depth 12) ∙ merge-board first second m;
+          board = same-true (boardPart s v) (mergeOfBoards s p q l .bytes) (search (and-l, and-r) depth 12) ∙ merge-board first second m;
           listed = not-e (member (entriesPart s) v) (search (and-l, and-r) depth 12);
         };
       }

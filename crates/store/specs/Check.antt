@@ -7,7 +7,7 @@ use lib.Dec.{eqb, leb, ltb}
 use lib.ListN.{length}
 use Rattle.buffer.specs.Field.{wordAt, zeros, part, same, allZero}
 use Rattle.buffer.specs.Row.{row, member, withMember, union, intersection, noneFrom}
-use Rattle.board.specs.Board.{boardSize, enter, mergeBoard}
+use Rattle.board.specs.Board.{Merged, boardSize, enter, mergeBoard}
 use Rattle.graph.specs.Below.{everyBelow}
 use Rattle.graph.specs.declared.Node.{Node}
 use Rattle.graph.specs.declared.Node.the-variants.{Entry, Merge}
@@ -21,6 +21,10 @@ rowPart s v = part s (rowAt v) rowSize
 
 abbrev pub boardPart : List ℕ → ℕ → List ℕ
 boardPart s v = part s (boardAt v) boardSize
+
+-- the merge of the boards of p and q over that of l
+abbrev pub mergeOfBoards : List ℕ → ℕ → ℕ → ℕ → Merged
+mergeOfBoards s p q l = mergeBoard (boardPart s l) (boardPart s p) (boardPart s q)
 
 abbrev pub entriesPart : List ℕ → List ℕ
 entriesPart s = part s entriesAt rowSize
@@ -53,7 +57,7 @@ mergeParts s v p q l =
     allZero (part s (nodeStripAt v) 3)
     && allZero (part s (nodeBaseAt v + 2) (nodeSize - 10))
     && mergeRows s v p q l
-    && same (boardPart s v) (mergeBoard (boardPart s l) (boardPart s p) (boardPart s q) .bytes)
+    && same (boardPart s v) (mergeOfBoards s p q l .bytes)
     && not (member (entriesPart s) v)
 
 -- the parts of version v, as its node says; a base must be below it

@@ -31,12 +31,12 @@ ghost use Prim.Native.Nat.{suc, _+_, _<_, _≤_};
 ghost use lib.ListN.{length};
 ghost use Rattle.buffer.specs.Field.{part, same, allZero, zeros};
 ghost use Rattle.buffer.specs.Row.{withMember};
-ghost use Rattle.board.specs.Board.{stripCount, enter, mergeBoard};
+ghost use Rattle.board.specs.Board.{stripCount, enter};
 ghost use Rattle.graph.specs.declared.Node.the-variants.{Merge};
 ghost use Rattle.room.specs.Sound.{maxCapacity};
 ghost use Rattle.store.specs.Layout.{rowSize, blockAt};
 ghost use Rattle.store.specs.Rules.{nodeInRange};
-ghost use Rattle.store.specs.Check.{rowPart, boardPart, rootRight, entryParts, mergeRows, mergeParts, nodeParts, versionRight, versionsRight};
+ghost use Rattle.store.specs.Check.{rowPart, boardPart, mergeOfBoards, rootRight, entryParts, mergeRows, mergeParts, nodeParts, versionRight, versionsRight};
 
 // Whether the n bytes from a place on are 0.
 fn zero_part(s: &[u8], at: usize, n: usize) -> bool
@@ -95,7 +95,7 @@ fn merge_rows_right(s: &[u8], v: Version, p: Version, q: Version, l: Version) ->
 // Whether a version's board is the merge of its parents' over the base's.
 fn merge_board_right(s: &[u8], v: Version, p: Version, q: Version, l: Version) -> bool
     requires { ⌜ (p .0 < v .0) × (q .0 < v .0) × (l .0 < v .0) × (v .0 < maxCapacity) × (blockAt (suc (v .0)) ≤ length (now s)) ⌝ }
-    ensures { λ r. ⌜ r ≡ same (boardPart (now (s .entry)) (v .0)) (mergeBoard (boardPart (now (s .entry)) (l .0)) (boardPart (now (s .entry)) (p .0)) (boardPart (now (s .entry)) (q .0)) .bytes) ⌝ }
+    ensures { λ r. ⌜ r ≡ same (boardPart (now (s .entry)) (v .0)) (mergeOfBoards (now (s .entry)) (p .0) (q .0) (l .0) .bytes) ⌝ }
 {
     is_merged(
         board_part(s, v),

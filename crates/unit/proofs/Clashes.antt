@@ -2,12 +2,12 @@
 -- Assumes nothing.
 use Prim.Native.Nat.{ℕ, _≤_}
 use mathlib.Core.Path.{_≡_, refl, sym, _∙_, ap}
-use mathlib.Core.Bool.{Bool, true, false, cond}
 use mathlib.Core.List.{List, [], _∷_}
 use mathlib.Core.Option.{Option, none, some}
 use native.Mathlib.Omega.{arith}
 use borrow.Author.Tests.{eqb-true}
 use lib.Dec.{eqb}
+use Rattle.laws.proofs.Logic.{either}
 use Rattle.board.proofs.Clashes.{board-counted}
 use Rattle.refusal.specs.Refusal.{firstRefusal}
 use Rattle.command.specs.declared.Command.the-variants.{Merge}
@@ -26,16 +26,7 @@ use Rattle.room.proofs.Clashes.{few-counted}
 use Rattle.store.specs.Layout.{roomIn}
 use Rattle.tape.specs.Tape.{Content, contentOf}
 use Rattle.unit.specs.Calls.{commandTests, stepOutcome, commandOutcome, resumeTests, resumed, resumeOutcome}
-use Rattle.unit.specs.Clashes.{disagreements, ClashesCounted}
-
--- a count is given where the answer is 0, and is 0 elsewhere
-counted-few : (accepted : Bool) (n : ℕ) → n ≤ 64 → cond accepted n 0 ≤ 64
-counted-few true n l = l
-counted-few false n l = omega arith
-
-counted-none : (accepted : Bool) (n : ℕ) → (accepted ≡ true → n ≡ 0) → cond accepted n 0 ≡ 0
-counted-none true n zero = zero refl
-counted-none false n zero = refl
+use Rattle.unit.specs.Clashes.{clashesBetween, ClashesCounted}
 
 -- only the command of a merge's code counts
 only-merges : (r : Room) (k : Kind) (code : ℕ) (o : Operands) → Says code k → (code ≡ mergeCommand → ⊥) → clashCount r (commandOf k code o) ≡ 0
@@ -50,19 +41,19 @@ only-merges r kind-is.Unknown code o says other = refl
 module _ (store : List ℕ) where
   within64 : (d : Decoded) → stepOutcome store d .reply .count ≤ 64
   unfolding stepOutcome
-  within64 (Refused n) = counted-few (eqb n 0) 0 (omega arith)
-  within64 (Whole c) = counted-few (eqb (firstRefusal (commandTests store c)) 0) (clashCount (roomIn store) c) (few-counted (roomIn store) c refl)
+  within64 (Refused n) = either (λ x. x ≤ 64) (eqb n 0) (λ _. omega arith) (omega arith)
+  within64 (Whole c) = either (λ x. x ≤ 64) (eqb (firstRefusal (commandTests store c)) 0) (λ _. few-counted (roomIn store) c refl) (omega arith)
 
   others : (s : List ℕ) (d : Decoded) → decode s ≡ d → (codeIn s ≡ mergeCommand → stepOutcome store d .reply .answer ≡ 0 → ⊥) → stepOutcome store d .reply .count ≡ 0
   unfolding stepOutcome
-  others s (Refused n) e other = counted-none (eqb n 0) 0 (λ _. refl)
+  others s (Refused n) e other = either (λ x. x ≡ 0) (eqb n 0) (λ _. refl) refl
   others s (Whole c) e other =
-      counted-none (eqb (firstRefusal (commandTests store c)) 0) (clashCount (roomIn store) c)
+      either (λ x. x ≡ 0) (eqb (firstRefusal (commandTests store c)) 0)
       (λ t. ap (clashCount (roomIn store)) (sym (whole-told s c e .1))
-      ∙ only-merges (roomIn store) (kindOf (codeIn s)) (codeIn s) (operandsIn s) (kind-says (codeIn s)) (λ nine. other nine (eqb-true _ 0 t)))
+      ∙ only-merges (roomIn store) (kindOf (codeIn s)) (codeIn s) (operandsIn s) (kind-says (codeIn s)) (λ nine. other nine (eqb-true _ 0 t))) refl
 
   merge-counted : (c d : ℕ) (k : Decoded) → decode (mergeCommand ∷ c ∷ d ∷ []) ≡ k → stepOutcome store k .reply .answer ≡ 0
-      → stepOutcome store k .reply .count ≡ disagreements store c d
+      → stepOutcome store k .reply .count ≡ clashesBetween store c d
   unfolding stepOutcome kindOf shapeOf operandsOf numberAt clashCount common
   merge-counted c d (Refused n) e h = absurd (omega (arith, refused-told (mergeCommand ∷ c ∷ d ∷ []) n (sym e)))
   merge-counted c d (Whole k) e h =
@@ -71,8 +62,8 @@ module _ (store : List ℕ) where
 
   resume-none : (o : Option Content) → resumed o store .reply .count ≡ 0
   unfolding resumed
-  resume-none none = counted-none (eqb (firstRefusal (resumeTests none store)) 0) 0 (λ _. refl)
-  resume-none (some t) = counted-none (eqb (firstRefusal (resumeTests (some t) store)) 0) 0 (λ _. refl)
+  resume-none none = either (λ x. x ≡ 0) (eqb (firstRefusal (resumeTests none store)) 0) (λ _. refl) refl
+  resume-none (some t) = either (λ x. x ≡ 0) (eqb (firstRefusal (resumeTests (some t) store)) 0) (λ _. refl) refl
 
   pub clashes-counted : ClashesCounted store
   unfolding commandOutcome resumeOutcome

@@ -2,9 +2,8 @@
 -- Assumes nothing.
 use Prim.Native.Nat.{ℕ, _<_}
 use mathlib.Core.Path.{_≡_, refl, sym, _∙_, ap}
-use mathlib.Core.Bool.{Bool, true, false, not}
+use mathlib.Core.Bool.{Bool, true, false}
 use mathlib.Core.List.{List, []}
-use borrow.Author.Tests.{not-true, not-false}
 use Rattle.buffer.specs.Field.{overwrite}
 use Rattle.refusal.specs.Refusal.{firstRefusal}
 use Rattle.command.specs.declared.Command.{Command}
@@ -12,16 +11,13 @@ use Rattle.command.specs.declared.Decoded.{Decoded}
 use Rattle.command.specs.declared.Decoded.the-variants.{Whole, Refused}
 use Rattle.command.specs.Decode.{decode, refusalOf, commandBytes}
 use Rattle.command.specs.Decoding.{InRange}
-use Rattle.command.proofs.Ranges.{refused-told, decode-range}
+use Rattle.command.proofs.Ranges.{refused-told}
 use Rattle.command.proofs.Encoded.{bytes-decode}
 use Rattle.room.specs.Step.{versionFree, stateTests, stepRefusal, step, clashCount}
 use Rattle.store.specs.Layout.{encode, roomIn, holdsStore}
+use Rattle.unit.specs.declared.Reply.{Reply}
 use Rattle.unit.specs.Calls.{replied, written, commandTests, stepOutcome, commandOutcome}
 use Rattle.unit.proofs.Answered.{Went, written-refused, written-done}
-
--- the reply and the store's bytes are those of the call
-abbrev pub Answers : List ℕ → List ℕ → ℕ → List ℕ → Type 0
-Answers store command n t = Went (replied n 0) t (commandOutcome store command)
 
 -- the number of what was decoded, where that is a refusal
 pub refused-as : (s : List ℕ) (d : Decoded) (m n : ℕ) → d ≡ decode s → d ≡ Refused m → n ≡ refusalOf d → Refused n ≡ decode s
@@ -38,45 +34,35 @@ pub carried-out : (store : List ℕ) (c : Command) → InRange c → holdsStore 
 unfolding commandOutcome stepOutcome
 carried-out store c range held unrefused = rw (bytes-decode c range, held-refused store c held, unrefused)
 
-module _ (store command : List ℕ) where
-  -- a command to judge by the room of the store
-  pub record Ready (c : Command) : Type 0 where
-    pub whole : Whole c ≡ decode command
-    pub held : holdsStore store ≡ true
-    pub range : InRange c
+-- the refusal found in the state of the room, or none
+module _ (store : List ℕ) (c : Command) (held : holdsStore store ≡ true) {free : Bool} {n : ℕ} (f : free ≡ versionFree (roomIn store))
+    (found : n ≡ firstRefusal (stateTests (roomIn store) free c)) where
+  pub is-step-refusal : n ≡ stepRefusal (roomIn store) c
+  unfolding stepRefusal
+  is-step-refusal = rw f at found
 
-  pub undecoded : (n : ℕ) → Refused n ≡ decode command → Answers store command n store
+  is-first : n ≡ firstRefusal (commandTests store c)
+  is-first = is-step-refusal ∙ sym (held-refused store c held)
+
+  pub turned-down : 0 < n → Went (replied n 0) store (stepOutcome store (Whole c))
+  unfolding stepOutcome
+  turned-down p = written-refused (clashCount (roomIn store) c) (encode (step (roomIn store) c)) store is-first p
+
+  pub stepped : n ≡ 0 → {clashes : ℕ} {t : List ℕ} → (t ≡ overwrite (encode (step (roomIn store) c)) store) × (clashes ≡ clashCount (roomIn store) c)
+      → Went (replied 0 clashes) t (stepOutcome store (Whole c))
+  unfolding stepOutcome
+  stepped none done = written-done (clashCount (roomIn store) c) (encode (step (roomIn store) c)) store is-first none (done .1) (done .0)
+
+module _ (store command : List ℕ) where
+  pub undecoded : (n : ℕ) → Refused n ≡ decode command → Went (replied n 0) store (commandOutcome store command)
   unfolding commandOutcome stepOutcome
   undecoded n h = rw (← h) (written-refused 0 [] store refl (refused-told command n h))
 
-  -- a whole command was decoded
-  module _ {d : Decoded} {c : Command} (e : d ≡ decode command) (told : d ≡ Whole c) where
-    whole : Whole c ≡ decode command
-    whole = sym told ∙ e
-
-    pub nothing-held : {b : Bool} → b ≡ holdsStore store → not b ≡ true → Answers store command 11 store
+  module _ (c : Command) (e : Whole c ≡ decode command) where
+    pub nothing-held : holdsStore store ≡ false → Went (replied 11 0) store (commandOutcome store command)
     unfolding commandOutcome stepOutcome firstRefusal
-    nothing-held {b} asked t = rw (← whole, sym asked ∙ not-true b t) (refl, refl)
+    nothing-held h = rw (← e, h) (refl, refl)
 
-    -- and the bytes hold a store
-    pub comes-to-store : {b : Bool} → b ≡ holdsStore store → not b ≡ false → Ready c
-    comes-to-store {b} asked f =
-        record { whole = whole; held = sym asked ∙ not-false b f; range = decode-range command c (sym whole) }
-
-  -- the refusal found in the state of its room, or none
-  module _ {c : Command} (k : Ready c) {free : Bool} {n : ℕ} (f : free ≡ versionFree (roomIn store)) (found : n ≡ firstRefusal (stateTests (roomIn store) free c)) where
-    pub is-step-refusal : n ≡ stepRefusal (roomIn store) c
-    unfolding stepRefusal
-    is-step-refusal = rw f at found
-
-    is-first : n ≡ firstRefusal (commandTests store c)
-    is-first = is-step-refusal ∙ sym (held-refused store c (k .held))
-
-    pub turned-down : 0 < n → Answers store command n store
-    unfolding commandOutcome stepOutcome
-    turned-down p = rw (← k .whole) (written-refused (clashCount (roomIn store) c) (encode (step (roomIn store) c)) store is-first p)
-
-    pub stepped : n ≡ 0 → {clashes : ℕ} {t : List ℕ} → (t ≡ overwrite (encode (step (roomIn store) c)) store) × (clashes ≡ clashCount (roomIn store) c)
-        → Went (replied 0 clashes) t (commandOutcome store command)
-    unfolding commandOutcome stepOutcome
-    stepped none done = rw (← k .whole) (written-done (clashCount (roomIn store) c) (encode (step (roomIn store) c)) store is-first none (done .1) (done .0))
+    pub executed : (r : Reply) (t : List ℕ) → Went r t (stepOutcome store (Whole c)) → Went r t (commandOutcome store command)
+    unfolding commandOutcome
+    executed r t went = rw (← e) went

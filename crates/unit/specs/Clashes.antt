@@ -2,12 +2,10 @@
 -- report 0. Resume uses the same working and reports none." What commands and resume count, on any bytes.
 use Prim.Native.Nat.{ℕ, _+_, _≤_}
 use mathlib.Core.Path.{_≡_}
-use mathlib.Core.Bool.{Bool, not, _&&_}
 use mathlib.Core.List.{List, [], _∷_}
-use lib.Dec.{eqb}
 use Rattle.board.specs.declared.Cell.{Cell}
 use Rattle.board.specs.declared.Cell.the-variants.{Level, Heading}
-use Rattle.board.specs.Board.{stripCount, valueIn}
+use Rattle.board.specs.Board.{stripCount, mergeCell}
 use Rattle.graph.specs.Below.{countBelow}
 use Rattle.command.specs.Code.{mergeCommand}
 use Rattle.command.specs.Decode.{codeIn}
@@ -17,32 +15,31 @@ use Rattle.store.specs.Layout.{roomIn}
 use Rattle.unit.specs.declared.Reply.{Reply}
 use Rattle.unit.specs.Calls.{commandOutcome, resumeOutcome}
 
--- "whether base, receiver and giver all differ"
-abbrev pub allDiffer : ℕ → ℕ → ℕ → Bool
-allDiffer l a b = not (eqb a l) && not (eqb b l) && not (eqb a b)
-
--- on how many strips the levels, or the headings, of three boards all differ
-abbrev pub stripsThatDiffer : Cell → List ℕ → List ℕ → List ℕ → ℕ
-stripsThatDiffer cell l a b = countBelow stripCount (λ k. allDiffer (valueIn cell k l) (valueIn cell k a) (valueIn cell k b))
+-- on how many strips of three boards the level, or the heading, clashes
+abbrev pub stripsThatClash : Cell → List ℕ → List ℕ → List ℕ → ℕ
+stripsThatClash cell l a b = countBelow stripCount (λ k. mergeCell cell k l a b .clash)
 
 -- the board of version v of the room in a store
 abbrev pub boardIn : List ℕ → ℕ → List ℕ
 boardIn store v = boardOf (roomIn store .versions) v
 
--- "how many levels and headings disagreed" between consoles c and d and their common version
-abbrev pub disagreements : List ℕ → ℕ → ℕ → ℕ
-disagreements store c d =
+-- "how many levels and headings disagreed" between consoles c and d, over their common version
+abbrev pub clashesBetween : List ℕ → ℕ → ℕ → ℕ
+clashesBetween store c d =
     let base : List ℕ = boardIn store (common (roomIn store) c d) in
     let mine : List ℕ = boardIn store (head (roomIn store) c) in
     let given : List ℕ = boardIn store (head (roomIn store) d) in
-    stripsThatDiffer Level base mine given + stripsThatDiffer Heading base mine given
+    stripsThatClash Level base mine given + stripsThatClash Heading base mine given
 
-abbrev pub replyOf : List ℕ → List ℕ → Reply
-replyOf store command = commandOutcome store command .reply
+abbrev pub commandReply : List ℕ → List ℕ → Reply
+commandReply store command = commandOutcome store command .reply
 
+-- true of any bytes
 pub record ClashesCounted (store : List ℕ) : Type 0 where
-  pub counted : (c d : ℕ) → replyOf store (mergeCommand ∷ c ∷ d ∷ []) .answer ≡ 0
-      → replyOf store (mergeCommand ∷ c ∷ d ∷ []) .count ≡ disagreements store c d
-  pub within64 : (command : List ℕ) → replyOf store command .count ≤ 64
-  pub othersCountNone : (command : List ℕ) → (codeIn command ≡ mergeCommand → replyOf store command .answer ≡ 0 → ⊥) → replyOf store command .count ≡ 0
+  pub counted : (c d : ℕ) → commandReply store (mergeCommand ∷ c ∷ d ∷ []) .answer ≡ 0
+      → commandReply store (mergeCommand ∷ c ∷ d ∷ []) .count ≡ clashesBetween store c d
+  pub within64 : (command : List ℕ) → commandReply store command .count ≤ 64
+  -- a command that is no merge, or is refused
+  pub othersCountNone : (command : List ℕ) → (codeIn command ≡ mergeCommand → commandReply store command .answer ≡ 0 → ⊥)
+      → commandReply store command .count ≡ 0
   pub resumeCountsNone : (tape : List ℕ) → resumeOutcome tape store .reply .count ≡ 0

@@ -16,8 +16,8 @@ use Rattle.board.proofs.Length.{enter-length, mergeBoard-length}
 use Rattle.graph.specs.declared.Node.{Node}
 use Rattle.graph.specs.declared.Node.the-variants.{Entry, Merge}
 use Rattle.store.specs.Layout.{nodeSize, rowSize, blockSize, entriesAt, blockAt, rowAt, boardAt, entryNodeBytes, mergeNodeBytes, mergeNodeCode}
-use Rattle.store.specs.Check.{rowPart, boardPart, entriesPart}
-use Rattle.update.specs.Append.{mergedBoards, entryBlock, mergeBlock, withEntry, withMerge, nodeWith}
+use Rattle.store.specs.Check.{rowPart, boardPart, mergeOfBoards, entriesPart}
+use Rattle.update.specs.Append.{entryBlock, mergeBlock, withEntry, withMerge, nodeWith}
 
 -- the nodes, from their first byte on
 pub entry-node-made : (node z a b c d : List ℕ) (p code strip operand : ℕ) → length node ≡ nodeSize → z ≡ zeros (length node)
@@ -46,11 +46,11 @@ entered-keeps n code k operand x l = enter-length code k operand x ∙ l
 pub merged-put : (s : List ℕ) (n p q l : ℕ) {new base mine given : List ℕ} {at clashes : ℕ} → at ≡ boardAt n
     → (base ≡ boardPart s l) × (mine ≡ boardPart s p) × (given ≡ boardPart s q)
     → (new ≡ mergeBoard base mine given .bytes) × (clashes ≡ mergeBoard base mine given .clashes)
-    → (take at s ++ (new ++ drop (at + boardSize - at) (drop at s)) ≡ withPart s (boardAt n) (mergedBoards s p q l .bytes))
-    × (clashes ≡ mergedBoards s p q l .clashes)
+    → (take at s ++ (new ++ drop (at + boardSize - at) (drop at s)) ≡ withPart s (boardAt n) (mergeOfBoards s p q l .bytes))
+    × (clashes ≡ mergeOfBoards s p q l .clashes)
 merged-put s n p q l {new} {at = at} {clashes = clashes} place copied e =
-    let merged : (new ≡ mergedBoards s p q l .bytes) × (clashes ≡ mergedBoards s p q l .clashes) = rw (copied .0, copied .1, copied .2) at e in
-    (put-lent s new (mergedBoards s p q l .bytes) at (boardAt n) boardSize place (merged .0) (mergeBoard-length (boardPart s l) (boardPart s p) (boardPart s q)), merged .1)
+    let merged : (new ≡ mergeOfBoards s p q l .bytes) × (clashes ≡ mergeOfBoards s p q l .clashes) = rw (copied .0, copied .1, copied .2) at e in
+    (put-lent s new (mergeOfBoards s p q l .bytes) at (boardAt n) boardSize place (merged .0) (mergeBoard-length (boardPart s l) (boardPart s p) (boardPart s q)), merged .1)
 
 -- the row and the board of a lower version stay as they were
 module _ (s x : List ℕ) (n at v : ℕ) (lower : v < n) (behind : blockAt n ≤ at) (fits : at + length x ≤ length s) where
@@ -129,7 +129,7 @@ module _ (s : List ℕ) (n : ℕ) (fits : blockAt (suc n) ≤ length s) where
     mergeLine = withMember (union (rowPart s p) (rowPart s q)) n
 
     abbrev mergedBoard : List ℕ
-    mergedBoard = mergedBoards s p q l .bytes
+    mergedBoard = mergeOfBoards s p q l .bytes
 
     mergeLine-length : length mergeLine ≡ rowSize
     mergeLine-length = joined-keeps rowSize n (rowPart s q) (rowPart s p) (row-long q second) (row-long p first)
@@ -143,8 +143,8 @@ module _ (s : List ℕ) (n : ℕ) (fits : blockAt (suc n) ≤ length s) where
 
     pub merge-appended : (a b c : List ℕ) (clashes : ℕ) → a ≡ withPart s (blockAt n) (mergeNodeBytes p q l)
         → b ≡ withPart a (rowAt n) (withMember (union (rowPart a p) (rowPart a q)) n)
-        → (c ≡ withPart b (boardAt n) (mergedBoards b p q l .bytes)) × (clashes ≡ mergedBoards b p q l .clashes)
-        → (c ≡ withMerge s n p q l) × (clashes ≡ mergedBoards s p q l .clashes)
+        → (c ≡ withPart b (boardAt n) (mergeOfBoards b p q l .bytes)) × (clashes ≡ mergeOfBoards b p q l .clashes)
+        → (c ≡ withMerge s n p q l) × (clashes ≡ mergeOfBoards s p q l .clashes)
     unfolding withMerge mergeBlock
     merge-appended a b c clashes ea eb ec =
         let node : List ℕ = mergeNodeBytes p q l in
@@ -160,6 +160,6 @@ module _ (s : List ℕ) (n : ℕ) (fits : blockAt (suc n) ≤ length s) where
         ∙ board-kept a mergeLine n (rowAt n) v i (omega arith) (omega arith)
         ∙ ap (λ (t : List ℕ). boardPart t v) ea
         ∙ board-kept s node n (blockAt n) v i (omega arith) (omega arith) in
-        let four : (c ≡ withPart b (boardAt n) mergedBoard) × (clashes ≡ mergedBoards s p q l .clashes) =
+        let four : (c ≡ withPart b (boardAt n) mergedBoard) × (clashes ≡ mergeOfBoards s p q l .clashes) =
         rw (board l third, board p first, board q second) at ec in
         (block-written s node mergeLine mergedBoard n fits ln ll mergedBoard-length ea two (four .0), four .1)

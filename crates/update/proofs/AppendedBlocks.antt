@@ -28,11 +28,11 @@ use Rattle.room.specs.Sound.{maxCapacity}
 use Rattle.room.specs.Boards.{mergeOf, boardMade, boardOf}
 use Rattle.room.proofs.Lengths.{boardOf-length}
 use Rattle.store.specs.Layout.{headerSize, rowSize, entriesAt, blockAt, nodeBytes, block, blockSize}
-use Rattle.store.specs.Check.{rowPart, boardPart, entriesPart}
+use Rattle.store.specs.Check.{rowPart, boardPart, mergeOfBoards, entriesPart}
 use Rattle.store.proofs.Blocks.{block-length, block-row, block-board}
 use Rattle.store.proofs.Lineage.{lineage, entry-lineage, merge-lineage}
 use Rattle.store.proofs.Shown.{Shown, made, shown-old, shown-new, no-entry}
-use Rattle.update.specs.Append.{mergedBoards, entryBlock, mergeBlock, withEntry, withMerge}
+use Rattle.update.specs.Append.{entryBlock, mergeBlock, withEntry, withMerge}
 use Rattle.update.proofs.Appended.{member-keeps, entryBlock-length, mergeBlock-length}
 
 -- the blocks of a graph and the row of its entries stand in the bytes
@@ -163,7 +163,7 @@ module _ (s : List ℕ) (g : Graph) (h : Standing s g) (lower : everyVersion par
         rw (row-shown p first, row-shown q second, board-shown l third, board-shown p first, board-shown q second, merge-lineage g p q n small, base)
         (sym (block-new (merge p q) g (and-i _ _ (lt-ltb p n first) (lt-ltb q n second))))
 
-    pub merge-clashes : mergedBoards s p q l .clashes ≡ mergeOf (boardOf g) (baseOf g) p q .clashes
+    pub merge-clashes : mergeOfBoards s p q l .clashes ≡ mergeOf (boardOf g) (baseOf g) p q .clashes
     merge-clashes = rw (board-shown l third, board-shown p first, board-shown q second, base)
 
     pub merge-grew : Grew s (withMerge s (versionCount g) p q l) g (merge p q)

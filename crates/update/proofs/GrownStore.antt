@@ -26,13 +26,13 @@ use Rattle.room.specs.Step.{behind, someThirdSplits, grown, clashCount}
 use Rattle.room.proofs.Sound.{Sound, capacity-range, facts-sound}
 use Rattle.room.proofs.Steps.{head-named, entry-grown, merge-grown}
 use Rattle.store.specs.Layout.{headerSize, rowSize, countAt, entriesAt, commonsAt, commonsEnd, commonAt, blockAt, commonField, encode, roomIn, holdsStore}
-use Rattle.store.specs.Check.{commonIn}
+use Rattle.store.specs.Check.{mergeOfBoards, commonIn}
 use Rattle.store.proofs.Joined.{Placed, placed}
 use Rattle.store.proofs.Moved.{commonField-sym, grown-self, grown-other, entry-row, entry-column, merge-row, merge-column}
 use Rattle.store.proofs.Changed.{changed-store}
 use Rattle.store.proofs.Reading.{common-read}
 use Rattle.store.proofs.Whole.{whole-sound, whole-front, whole-long, whole-header}
-use Rattle.update.specs.Append.{mergedBoards, withEntry, withMerge}
+use Rattle.update.specs.Append.{withEntry, withMerge}
 use Rattle.update.specs.Commons.{putOthers, joinedField, putHead}
 use Rattle.update.proofs.AppendedBlocks.{Standing, Grew, entry-grew, merge-clashes, merge-grew}
 use Rattle.update.proofs.CommonsTable.{table-length, table-outside, table-stands}
@@ -191,7 +191,7 @@ module _ (s : List ℕ) (t : holdsStore s ≡ true) (free : versionCount (roomIn
           merge-grew s g free-standing (whole-sound s t .lower) free-small free-fits (head r c) (head r d) (common r c d)
           (head-named r (whole-sound s t) c p) (head-named r (whole-sound s t) d q) (common-base r c d)
 
-      joined-clashes : mergedBoards s (head r c) (head r d) (common r c d) .clashes ≡ clashCount r (Merge (record { 0 = c }) (record { 0 = d }))
+      joined-clashes : mergeOfBoards s (head r c) (head r d) (common r c d) .clashes ≡ clashCount r (Merge (record { 0 = c }) (record { 0 = d }))
       unfolding clashCount
       joined-clashes =
           merge-clashes s g free-standing (whole-sound s t .lower) free-small free-fits (head r c) (head r d) (common r c d)
@@ -204,7 +204,7 @@ module _ (s : List ℕ) (t : holdsStore s ≡ true) (free : versionCount (roomIn
       header-fits = omega (arith, counted-long joined m joined-grew, whole-header s t)
 
       pub merged-store : (a b e u : List ℕ) (n h k l clashes : ℕ) → n ≡ versionCount (roomIn s .versions) → h ≡ head (roomIn s) c → k ≡ head (roomIn s) d
-          → l ≡ common (roomIn s) c d → (a ≡ withMerge s n h k l) × (clashes ≡ mergedBoards s h k l .clashes)
+          → l ≡ common (roomIn s) c d → (a ≡ withMerge s n h k l) × (clashes ≡ mergeOfBoards s h k l .clashes)
           → b ≡ putWord a countAt (n + 1) → e ≡ putOthers b c (joinedField b c d) consoleCount → u ≡ putHead e c (suc n)
           → (u ≡ overwrite (encode (grown (roomIn s) c (merge (head (roomIn s) c) (head (roomIn s) d)))) s)
           × (clashes ≡ clashCount (roomIn s) (Merge (record { 0 = c }) (record { 0 = d })))

@@ -3,26 +3,22 @@ use Prim.Native.Nat.{ℕ}
 use mathlib.Core.List.{List, _++_}
 use Rattle.buffer.specs.Field.{withPart}
 use Rattle.buffer.specs.Row.{withMember, union}
-use Rattle.board.specs.Board.{Merged, enter, mergeBoard}
+use Rattle.board.specs.Board.{enter}
 use Rattle.graph.specs.declared.Node.{Node}
 use Rattle.graph.specs.declared.Node.the-variants.{Entry, Merge}
 use Rattle.store.specs.Layout.{entriesAt, blockAt, entryNodeBytes, mergeNodeBytes}
-use Rattle.store.specs.Check.{rowPart, boardPart, entriesPart}
+use Rattle.store.specs.Check.{rowPart, boardPart, mergeOfBoards, entriesPart}
 
 -- the block of version n, an entry on p
 unfoldable pub entryBlock : List ℕ → ℕ → ℕ → ℕ → ℕ → ℕ → List ℕ
 entryBlock s n p code strip operand =
     entryNodeBytes p code strip operand ++ withMember (rowPart s p) n ++ enter code strip operand (boardPart s p)
 
--- the merge of the boards of p and q over that of l
-abbrev pub mergedBoards : List ℕ → ℕ → ℕ → ℕ → Merged
-mergedBoards s p q l = mergeBoard (boardPart s l) (boardPart s p) (boardPart s q)
-
 -- the block of version n, a merge of q into p with the base l
 unfoldable pub mergeBlock : List ℕ → ℕ → ℕ → ℕ → ℕ → List ℕ
 mergeBlock s n p q l =
     mergeNodeBytes p q l ++ withMember (union (rowPart s p) (rowPart s q)) n
-    ++ mergedBoards s p q l .bytes
+    ++ mergeOfBoards s p q l .bytes
 
 -- the store with the entry n on p written, and n among its entries
 unfoldable pub withEntry : List ℕ → ℕ → ℕ → ℕ → ℕ → ℕ → List ℕ

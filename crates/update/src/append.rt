@@ -37,8 +37,8 @@ ghost use Rattle.board.specs.Board.{boardSize, stripCount, enter};
 ghost use Rattle.room.specs.Sound.{maxCapacity};
 ghost use Rattle.store.specs.Layout.{headerSize, nodeSize, entriesAt, blockAt, rowAt, boardAt, entryNodeBytes, mergeNodeBytes};
 ghost use Rattle.store.specs.Rules.{nodeInRange};
-ghost use Rattle.store.specs.Check.{rowPart, boardPart, entriesPart};
-ghost use Rattle.update.specs.Append.{mergedBoards, withEntry, withMerge, appended, nodeWith};
+ghost use Rattle.store.specs.Check.{rowPart, boardPart, mergeOfBoards, entriesPart};
+ghost use Rattle.update.specs.Append.{withEntry, withMerge, appended, nodeWith};
 
 // Writes the lowest 8 bits of a number at a place.
 fn put_byte(s: &mut [u8], at: usize, x: usize)
@@ -177,7 +177,7 @@ fn copy_sides(
 // Puts the board of a merge of q into p over the base l.
 fn put_merge_board(s: &mut [u8], n: Version, p: Version, q: Version, l: Version)
     requires { ⌜ (p .0 < n .0) × (q .0 < n .0) × (l .0 < n .0) × (n .0 < maxCapacity) × (blockAt (suc (n .0)) ≤ length (now s)) ⌝ }
-    ensures { λ _. ⌜ now (s .exit) ≡ withPart (now (s .entry)) (boardAt (n .0)) (mergedBoards (now (s .entry)) (p .0) (q .0) (l .0) .bytes) ⌝ }
+    ensures { λ _. ⌜ now (s .exit) ≡ withPart (now (s .entry)) (boardAt (n .0)) (mergeOfBoards (now (s .entry)) (p .0) (q .0) (l .0) .bytes) ⌝ }
 {
     let mut base = [0u8; BOARD];
     let mut mine = [0u8; BOARD];
@@ -191,7 +191,7 @@ fn put_merge_board(s: &mut [u8], n: Version, p: Version, q: Version, l: Version)
 // The same, and counts its clashes.
 fn put_merge_board_counted(s: &mut [u8], n: Version, p: Version, q: Version, l: Version) -> usize
     requires { ⌜ (p .0 < n .0) × (q .0 < n .0) × (l .0 < n .0) × (n .0 < maxCapacity) × (blockAt (suc (n .0)) ≤ length (now s)) ⌝ }
-    ensures { λ r. ⌜ (now (s .exit) ≡ withPart (now (s .entry)) (boardAt (n .0)) (mergedBoards (now (s .entry)) (p .0) (q .0) (l .0) .bytes)) × (r ≡ mergedBoards (now (s .entry)) (p .0) (q .0) (l .0) .clashes) ⌝ }
+    ensures { λ r. ⌜ (now (s .exit) ≡ withPart (now (s .entry)) (boardAt (n .0)) (mergeOfBoards (now (s .entry)) (p .0) (q .0) (l .0) .bytes)) × (r ≡ mergeOfBoards (now (s .entry)) (p .0) (q .0) (l .0) .clashes) ⌝ }
 {
     let mut base = [0u8; BOARD];
     let mut mine = [0u8; BOARD];
@@ -219,7 +219,7 @@ fn append_merge(s: &mut [u8], n: Version, p: Version, q: Version, l: Version)
 // The same, and counts its clashes.
 pub fn append_merge_counted(s: &mut [u8], n: Version, p: Version, q: Version, l: Version) -> usize
     requires { ⌜ (p .0 < n .0) × (q .0 < n .0) × (l .0 < n .0) × (n .0 < maxCapacity) × (blockAt (suc (n .0)) ≤ length (now s)) ⌝ }
-    ensures { λ r. ⌜ (now (s .exit) ≡ withMerge (now (s .entry)) (n .0) (p .0) (q .0) (l .0)) × (r ≡ mergedBoards (now (s .entry)) (p .0) (q .0) (l .0) .clashes) ⌝ }
+    ensures { λ r. ⌜ (now (s .exit) ≡ withMerge (now (s .entry)) (n .0) (p .0) (q .0) (l .0)) × (r ≡ mergeOfBoards (now (s .entry)) (p .0) (q .0) (l .0) .clashes) ⌝ }
 {
     let node = Node::Merge {
         receiver: p,

@@ -108,7 +108,7 @@ fn the_receivers_value_stays() {
 
 // ---------------------------------------------------------------- which cells
 
-/// Two consoles on version 0 after these commands.
+/// Two consoles forked on version 0, and then these commands.
 fn store_after(commands: &[&[u8]]) -> Store {
     let mut store = Store::open(16);
     store.say_all(&[&FORK]);
@@ -194,13 +194,13 @@ fn no_other_cell_is_counted_alone() {
 // ---------------------------------------------------------------- 0 to 64
 
 /// The levels and headings of a board: level and heading of strip 0, those of strip 1, and so on.
-type Settings = [u16; 64];
+type Values = [u16; 64];
 
 /// Records of entries that write them all, the first on this parent, each later one on the one before it.
-fn records_of(settings: &Settings, parent: u16, first_version: u16) -> Vec<u8> {
+fn records_of(values: &Values, parent: u16, first_version: u16) -> Vec<u8> {
     let parents = [parent].into_iter().chain(first_version..);
     let cells = (0..32).flat_map(|strip| CODES.map(|code| [code, strip]));
-    let entries = parents.zip(cells).zip(settings);
+    let entries = parents.zip(cells).zip(values);
     entries
         .flat_map(|((parent, cell), value)| {
             let fields = [parent.to_be_bytes(), cell, value.to_be_bytes()];
@@ -210,7 +210,7 @@ fn records_of(settings: &Settings, parent: u16, first_version: u16) -> Vec<u8> {
 }
 
 /// Consoles 0 and 1 on versions 128 and 192, both of which stem from version 64, and one version left.
-fn parted_boards(l: &Settings, a: &Settings, b: &Settings) -> Store {
+fn parted_boards(l: &Values, a: &Values, b: &Values) -> Store {
     let versions = [
         records_of(l, 0, 1),
         records_of(a, 64, 65),
@@ -356,6 +356,7 @@ fn a_refused_merge_counts_0() {
     for (merge, refusal) in [([0x09, 0, 16], 3), ([0x09, 0, 0], 6), ([0x09, 0, 2], 12)] {
         assert_eq!(store.reply(&merge), refused(refusal));
     }
+    // A spare byte: the bytes hold no store.
     store.bytes[4] = 1;
     assert_eq!(store.reply(&MERGE), refused(11));
     store.bytes[4] = 0;
