@@ -29,6 +29,7 @@ strips-clashes l a b (suc n) = omega (arith, strips-clashes l a b n, strip-clash
 pub board-clashes : (l a b : List ℕ) → mergeBoard l a b .clashes ≤ 64
 board-clashes l a b = strips-clashes l a b stripCount
 
+-- two cells more, counted together and apart
 two-more : (s t : Bool) (m x y : ℕ) → m ≡ x + y → m + (bit s + bit t) ≡ (x + cond s 1 0) + (y + cond t 1 0)
 two-more true true m x y e = omega (arith, e)
 two-more true false m x y e = omega (arith, e)

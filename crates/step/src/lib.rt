@@ -1,4 +1,4 @@
-// Commands on a store: the refusals by the state in their order, and what an accepted command changes.
+// Commands on a store: the refusals by the state in their order, and what an accepted command changes and counts.
 pub mod changes;
 mod descends;
 pub mod refusals;
