@@ -1,4 +1,5 @@
--- Laws of the tests below a bound: what it says that all of them pass, that some do, which is the highest, and how many.
+-- Laws of the tests below a bound: what it says that all of them pass, that some do, which is the highest, and how many; and which of some
+-- numbers is the first that is not 0.
 -- Assumes nothing.
 use Prim.Native.Nat.{ℕ, zero, suc, pred, _+_, _≤_, _<_}
 use mathlib.Core.Path.{_≡_, refl}
@@ -7,8 +8,9 @@ use mathlib.Core.Bool.{Bool, true, false, cond, _&&_, _||_}
 use mathlib.Core.Option.{some, Option·getD}
 use native.Mathlib.Omega.{arith}
 use native.Mathlib.Decide.{ℕ-discrete}
-use Rattle.laws.proofs.Logic.{clash, decide, and-l, and-r, and-i, or-l, or-r, or-split}
-use Rattle.graph.specs.Below.{everyBelow, someBelow, countBelow, highestBelow}
+use borrow.Author.Tests.{ne-eqb}
+use Rattle.laws.proofs.Logic.{clash, decide, and-l, and-r, and-i, and-rest, or-l, or-r, or-split}
+use Rattle.graph.specs.Below.{everyBelow, someBelow, countBelow, highestBelow, firstNonzero}
 
 -- what holds below n and at n holds below n + 1
 more : (P : ℕ → Type 0) (n : ℕ) → ((k : ℕ) → k < n → P k) → P n → (k : ℕ) → k < suc n → P k
@@ -23,6 +25,16 @@ pub of : (n : ℕ) (f : ℕ → Bool) → ((k : ℕ) → k < n → f k ≡ true)
 unfolding everyBelow
 of zero f h = refl
 of (suc n) f h = and-i (everyBelow n f) (f n) (of n f (λ k l. h k (omega arith))) (h n (omega arith))
+
+-- where not all pass, there is one that does not
+pub fails-at : (n : ℕ) (f : ℕ → Bool) → everyBelow n f ≡ false → (k : ℕ) × (k < n) × (f k ≡ false)
+unfolding everyBelow
+fails-at zero f h = clash refl h
+fails-at (suc n) f h =
+    elim (decide (everyBelow n f)) [
+      | inl t ↦ (n, omega arith, and-rest (everyBelow n f) (f n) t h)
+      | inr e ↦ let r = fails-at n f e in (r .0, omega arith, r .2)
+    ]
 
 pub some-at : (n : ℕ) (f : ℕ → Bool) → someBelow n f ≡ true → (k : ℕ) × (k < n) × (f k ≡ true)
 unfolding someBelow
@@ -117,3 +129,41 @@ pub inclusion-exclusion : (n : ℕ) (f g : ℕ → Bool) → countBelow n (λ k.
 unfolding countBelow
 inclusion-exclusion zero f g = refl
 inclusion-exclusion (suc n) f g = omega (arith, inclusion-exclusion n f g, weight-both (f n) (g n))
+
+-- the first that is not 0: there is none exactly where each is 0
+pub first-none : (n : ℕ) (f : ℕ → ℕ) → ((k : ℕ) → k < n → f k ≡ 0) → firstNonzero n f ≡ 0
+unfolding firstNonzero
+first-none zero f h = refl
+first-none (suc n) f h = rw (h 0 (omega arith)) (first-none n (λ k. f (suc k)) (λ k l. h (suc k) (omega arith)))
+
+none-later : (f : ℕ → ℕ) (n : ℕ) → f 0 ≡ 0 → ((k : ℕ) → k < n → f (suc k) ≡ 0) → (k : ℕ) → k < suc n → f k ≡ 0
+none-later f n e h zero l = e
+none-later f n e h (suc k) l = h k (omega arith)
+
+pub none-first : (n : ℕ) (f : ℕ → ℕ) → firstNonzero n f ≡ 0 → (k : ℕ) → k < n → f k ≡ 0
+unfolding firstNonzero
+none-first zero f h = λ k l. absurd (omega arith)
+none-first (suc n) f h =
+    elim (ℕ-discrete (f 0) 0) [
+      | yes e ↦ none-later f n e (none-first n (λ k. f (suc k)) (rw e at h))
+      | no d ↦ absurd (d (rw (ne-eqb (f 0) 0 d) at h))
+    ]
+
+-- it is that of the lowest number at which it is not
+pub first-is : (n : ℕ) (f : ℕ → ℕ) (k : ℕ) → k < n → (f k ≡ 0 → ⊥) → ((j : ℕ) → j < k → f j ≡ 0) → firstNonzero n f ≡ f k
+unfolding firstNonzero
+first-is zero f k l given before = absurd (omega arith)
+first-is (suc n) f zero l given before = rw (ne-eqb (f 0) 0 given)
+first-is (suc n) f (suc k) l given before =
+    rw (before 0 (omega arith)) (first-is n (λ j. f (suc j)) k (omega arith) given (λ j m. before (suc j) (omega arith)))
+
+pub first-found : (n : ℕ) (f : ℕ → ℕ) → (firstNonzero n f ≡ 0 → ⊥) → (k : ℕ) × (k < n) × (firstNonzero n f ≡ f k) × ((j : ℕ) → j < k → f j ≡ 0)
+unfolding firstNonzero
+first-found zero f given = absurd (given refl)
+first-found (suc n) f given =
+    elim (ℕ-discrete (f 0) 0) [
+      | yes e ↦
+          let r = first-found n (λ k. f (suc k)) (rw e at given) in
+          (suc (r .0), omega arith, rw e (r .2), none-later f (r .0) e (r .3))
+      | no d ↦ (0, omega arith, rw (ne-eqb (f 0) 0 d), λ j l. absurd (omega arith))
+    ]

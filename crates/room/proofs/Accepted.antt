@@ -2,7 +2,7 @@
 -- Assumes nothing.
 use Prim.Native.Nat.{ℕ, _<_}
 use mathlib.Core.Path.{_≡_, refl}
-use mathlib.Core.Bool.{true, false, not, _&&_}
+use mathlib.Core.Bool.{Bool, true, false, not, _&&_, _||_}
 use borrow.Author.Tests.{eqb-false, ltb-true, not-false}
 use lib.Dec.{eqb}
 use Rattle.laws.proofs.Logic.{clash, and-l, and-r, not-e, or-none-l, or-none-r}
@@ -15,7 +15,7 @@ use Rattle.command.specs.declared.Command.the-variants.{Fork, Entry, Merge, Fas
 use Rattle.refusal.specs.Refusal.{firstRefusal}
 use Rattle.refusal.proofs.Refusals.{none-applies}
 use Rattle.room.specs.Room.{Room, present}
-use Rattle.room.specs.Step.{absent, behind, someThirdSplits, otherDescends, someOtherDescends, stateTests, stepRefusal}
+use Rattle.room.specs.Step.{absent, behind, someThirdSplits, otherDescends, someOtherDescends, versionFree, receiverGiverTests, mergeTests, fastForwardTests, stateTests, stepRefusal}
 
 -- console d is present, and c, where it is, is behind d: what a move of c to the head of d asks for
 abbrev pub MayMove : Room → ℕ → ℕ → Type 0
@@ -33,13 +33,6 @@ pub fork-accepts : (r : Room) (new old : Console) → present r (new .0) ≡ fal
 unfolding stepRefusal stateTests firstRefusal
 fork-accepts r new old away here = rw (away, here)
 
-pub forward-accepted : (r : Room) (a b : Console) → stepRefusal r (FastForward a b) ≡ 0 → MayMove r (a .0) (b .0)
-unfolding stepRefusal stateTests
-forward-accepted r a b h =
-    let t = none-applies _ refl h in
-    let ahead : not (behind r (a .0) (b .0)) ≡ false = t .1 .1 .0 in
-    (not-false _ (or-none-r (absent r (a .0)) _ (t .0)), λ p. not-false _ ahead)
-
 pub entry-accepted : (r : Room) (c : Console) (code : ℕ) (k : Strip) (x : ℕ) → stepRefusal r (Entry c code k x) ≡ 0
     → (present r (c .0) ≡ true) × (versionCount (r .versions) < r .settings .capacity)
 unfolding stepRefusal stateTests
@@ -47,31 +40,50 @@ entry-accepted r c code k x h =
     let t = none-applies _ refl h in
     (not-false _ (t .0), ltb-true _ _ (not-false _ (t .1 .0)))
 
--- what a merge asks for
-pub record MayMerge (r : Room) (a b : ℕ) : Type 0 where
+-- what a merge and a fast-forward ask for alike
+pub record MayTake (r : Room) (a b : ℕ) : Type 0 where
   pub receiver : present r a ≡ true
   pub giver : present r b ≡ true
   pub ahead : behind r b a ≡ false
+
+may-take : (r : Room) (a b : ℕ) → absent r a || absent r b ≡ false → behind r b a ≡ false → MayTake r a b
+may-take r a b both ahead = record { receiver = not-false _ (or-none-l _ _ both); giver = not-false _ (or-none-r (absent r a) _ both); ahead = ahead }
+
+pub take-passes : (r : Room) (a b : ℕ) → firstRefusal (receiverGiverTests r a b) ≡ 0 → MayTake r a b
+take-passes r a b h = let t = none-applies _ refl h in may-take r a b (t .0) (t .1 .0)
+
+-- a fast-forward, and that the receiver is behind the giver
+pub forward-passes : (r : Room) (a b : ℕ) → firstRefusal (fastForwardTests r a b) ≡ 0 → MayTake r a b × (behind r a b ≡ true)
+forward-passes r a b h =
+    let t = none-applies _ refl h in
+    (may-take r a b (t .0) (t .1 .0), not-false _ (t .1 .1 .0))
+
+pub forward-accepted : (r : Room) (a b : Console) → stepRefusal r (FastForward a b) ≡ 0 → MayMove r (a .0) (b .0)
+unfolding stepRefusal stateTests
+forward-accepted r a b h = let may = forward-passes r (a .0) (b .0) h in (may .0 .giver, λ p. may .1)
+
+-- a merge, given whether a version is free
+pub record MayMerge (r : Room) (free : Bool) (a b : ℕ) : Type 0 where
+  pub take : MayTake r a b
   pub back : behind r a b ≡ false
   pub unsplit : someThirdSplits r a b ≡ false
-  pub free : versionCount (r .versions) < r .settings .capacity
+  pub is-free : free ≡ true
 
-pub merge-accepted : (r : Room) (a b : Console) → stepRefusal r (Merge a b) ≡ 0 → MayMerge r (a .0) (b .0)
-unfolding stepRefusal stateTests
-merge-accepted r a b h =
+pub merge-passes : (r : Room) (free : Bool) (a b : ℕ) → firstRefusal (mergeTests r free a b) ≡ 0 → MayMerge r free a b
+merge-passes r free a b h =
     let t = none-applies _ refl h in
-    let both = t .0 in
-    let fourteen = t .1 in
-    let fifteen = fourteen .1 in
+    let fifteen = t .1 .1 in
     let seventeen = fifteen .1 in
     record {
-      receiver = not-false _ (or-none-l _ _ both);
-      giver = not-false _ (or-none-r (absent r (a .0)) _ both);
-      ahead = fourteen .0;
+      take = may-take r a b (t .0) (t .1 .0);
       back = fifteen .0;
       unsplit = seventeen .0;
-      free = ltb-true _ _ (not-false _ (seventeen .1 .0));
+      is-free = not-false _ (seventeen .1 .0);
     }
+
+pub merge-accepted : (r : Room) (a b : Console) → stepRefusal r (Merge a b) ≡ 0 → MayMerge r (versionFree r) (a .0) (b .0)
+unfolding stepRefusal stateTests
+merge-accepted r a b h = merge-passes r (versionFree r) (a .0) (b .0) h
 
 -- another console whose head descends from that of c: what a leave of c asks for
 pub record Descends (r : Room) (c d : ℕ) : Type 0 where

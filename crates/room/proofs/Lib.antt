@@ -9,3 +9,4 @@ pub mod Counters
 pub mod Origins
 pub mod Leaving
 pub mod Clashes
+pub mod Mergeable

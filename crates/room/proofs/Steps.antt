@@ -7,7 +7,7 @@ use mathlib.Core.Bool.{true, false, not, _&&_}
 use mathlib.Core.List.{_∷_}
 use mathlib.Core.Logic.{inl, inr}
 use native.Mathlib.Decide.{ℕ-discrete}
-use borrow.Author.Tests.{lt-ltb, le-leb, ne-eqb, eqb-false, not-false}
+use borrow.Author.Tests.{ltb-true, lt-ltb, le-leb, ne-eqb, eqb-false, not-false}
 use lib.Dec.{eqb}
 use Rattle.graph.specs.declared.Strip.{Strip}
 use Rattle.laws.proofs.Logic.{clash, decide, refuted, and-l, and-r, and-i, and-rest, not-e, not-i}
@@ -201,7 +201,8 @@ merge-sound : (r : Room) → Sound r → (a b : Console) → InRange (Merge a b)
 unfolding step
 merge-sound r s a b range h =
     let may = merge-accepted r a b h in
-    merge-grown r s (a .0) (b .0) (may .receiver) (may .giver) (may .ahead) (may .back) (may .unsplit) (may .free)
+    let take = may .take in
+    merge-grown r s (a .0) (b .0) (take .receiver) (take .giver) (take .ahead) (may .back) (may .unsplit) (ltb-true _ _ (may .is-free))
 
 -- each accepted command takes a sound room to a sound room
 pub step-sound : (r : Room) (c : Command) → soundRoom r ≡ true → InRange c → stepRefusal r c ≡ 0 → soundRoom (step r c) ≡ true

@@ -3,3 +3,4 @@ pub mod Sound
 pub mod Boards
 pub mod Origin
 pub mod Step
+pub mod Mergeable

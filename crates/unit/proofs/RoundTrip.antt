@@ -20,7 +20,7 @@ use Rattle.tape.specs.Tape.{Content, contentOf, contentTests, contentRefusal, r
 use Rattle.buffer.proofs.Parts.{Bytes}
 use Rattle.tape.proofs.Accepted.{Accepted, accepted, accepts}
 use Rattle.tape.proofs.RoundTrip.{contentFrom, tape-content, tape-room, tape-accepted, tape-forth}
-use Rattle.unit.specs.Calls.{replied, written, pauseTests, pauseOutcome, resumeTests, resumed, resumeOutcome}
+use Rattle.unit.specs.Calls.{replied, written, roomTests, pauseOutcome, resumeTests, resumed, resumeOutcome}
 use Rattle.unit.proofs.Answered.{buffer-fits, buffer-allowed}
 
 -- a pause that is not refused, of a store whose tape is known
@@ -34,7 +34,7 @@ pause-allowed : (store output : List ℕ) → pauseOutcome store output .reply .
     → (holdsStore store ≡ true) × (length (tapeOf (roomIn store)) ≤ length output)
 unfolding pauseOutcome
 pause-allowed store output h =
-    let n = buffer-allowed (pauseTests store) output (length (tapeOf (roomIn store))) refl h in
+    let n = buffer-allowed (roomTests store) output (length (tapeOf (roomIn store))) refl h in
     (not-false (holdsStore store) (none-applies _ refl (n .0) .0), n .1)
 
 -- the tests of resume on what a tape says

@@ -21,6 +21,7 @@ use Rattle.room.specs.Sound.{settingsInRange}
 use Rattle.room.specs.Boards.{boardOf}
 use Rattle.room.specs.Origin.{origin}
 use Rattle.room.specs.Step.{absent, versionFree, stateTests, step, clashCount}
+use Rattle.room.specs.Mergeable.{mergeable}
 use Rattle.store.specs.Layout.{storeSize, encode, roomIn, holdsStore}
 use Rattle.tape.specs.Tape.{Content, contentOf, tapeTests, roomOf, tapeOf}
 use Rattle.unit.specs.declared.Reply.{Reply}
@@ -152,21 +153,29 @@ boardOutcome store console output =
     let room : Room = roomIn store in
     outputOutcome (consoleTests store console) boardSize (boardOf (room .versions) (head room console)) output
 
--- pause: the tape of the room, and how many bytes it has
-abbrev pub pauseTests : List ℕ → List (ℕ × Bool)
-pauseTests store = 11 when holdsNoStore store ∷ []
+-- why a room as a whole can't be asked about
+abbrev pub roomTests : List ℕ → List (ℕ × Bool)
+roomTests store = 11 when holdsNoStore store ∷ []
 
+-- "Add a question that answers the first pair"
+unfoldable pub mergeableReply : List ℕ → Reply
+mergeableReply store =
+    let room : Room = roomIn store in
+    questionReply (roomTests store) (mergeable room)
+
+-- pause: the tape of the room, and how many bytes it has
 unfoldable pub pauseOutcome : List ℕ → List ℕ → Outcome
 pauseOutcome store output =
     let tape : List ℕ = tapeOf (roomIn store) in
-    outputOutcome (pauseTests store) (length tape) tape output
+    outputOutcome (roomTests store) (length tape) tape output
 
 -- What a store is asked, with the output lent for it: "the three questions (board, heard count, common version)", where a cell comes from,
--- and its tape.
+-- which two can merge or fast-forward, and its tape.
 pub data Question : Type 0 where
   heard : ℕ → Question
   commonVersion : ℕ → ℕ → Question
   cellOrigin : ℕ → ℕ → ℕ → Question
+  mergeablePair : Question
   board : ℕ → List ℕ → Question
   pause : List ℕ → Question
 
@@ -175,6 +184,7 @@ unfoldable pub answerTo : List ℕ → Question → Outcome
 answerTo store (heard console) = record { reply = heardReply store console; buffer = [] }
 answerTo store (commonVersion first second) = record { reply = commonReply store first second; buffer = [] }
 answerTo store (cellOrigin console strip cell) = record { reply = originReply store console strip cell; buffer = [] }
+answerTo store mergeablePair = record { reply = mergeableReply store; buffer = [] }
 answerTo store (board console output) = boardOutcome store console output
 answerTo store (pause output) = pauseOutcome store output
 

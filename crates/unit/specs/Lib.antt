@@ -4,4 +4,5 @@ pub mod Absent
 pub mod Journal
 pub mod Leaving
 pub mod Clashes
+pub mod Mergeable
 pub mod Convergence

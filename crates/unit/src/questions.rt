@@ -1,4 +1,5 @@
-// The calls that ask a store: a console's board and heard count, the common version of two consoles, and where a level or heading comes from.
+// The calls that ask a store: a console's board and heard count, the common version of two consoles, where a level or heading comes from, and which
+// two consoles can merge or fast-forward.
 use crate::Reply;
 use crate::answers::counted;
 use crate::answers::reply_of;
@@ -18,6 +19,7 @@ use query::is_present;
 use query::origin::origin_of;
 use refusal::first_of;
 use refusal::when;
+use step::mergeable::mergeable_pair;
 use store::judge::holds;
 use store::places::BOARD;
 ghost use mathlib.Core.Path.{_≡_};
@@ -25,7 +27,7 @@ ghost use Prim.Native.Nat.{_<_};
 ghost use Rattle.board.specs.Board.{boardSize};
 ghost use Rattle.refusal.specs.Refusal.{firstRefusal};
 ghost use Rattle.command.specs.Code.{consoleCount};
-ghost use Rattle.unit.specs.Calls.{bufferTests, consoleTests, pairStateTests, pairTests, originInputTests, originTests, heardReply, commonReply, originReply, boardOutcome};
+ghost use Rattle.unit.specs.Calls.{bufferTests, consoleTests, pairStateTests, pairTests, originInputTests, originTests, heardReply, commonReply, originReply, mergeableReply, boardOutcome};
 
 // Why these bytes can't be asked about two consoles, or 0.
 fn pair_state_refusal(store: &[u8], c: Console, d: Console) -> u32
@@ -136,4 +138,16 @@ pub extern "C" fn room_origin(store: &[u8], console: u32, strip: u32, cell: u32)
     let v = head_of(store, Console(size(console)));
     let origin = origin_of(store, v, Strip(size(strip)), cell_of(size(cell)));
     counted(origin.0)
+}
+
+// The first two consoles of which one can merge or fast-forward to the other if versions are free; where there are none, whether all agree.
+#[no_mangle]
+pub extern "C" fn room_mergeable(store: &[u8]) -> Reply
+    ensures { λ r. ⌜ r ≡ mergeableReply (now (store .entry)) ⌝ }
+{
+    if !holds(store) {
+        return reply_of(11);
+    }
+    let number = mergeable_pair(store);
+    counted(number)
 }

@@ -48,7 +48,8 @@ merge-requires c κs =
     let accepted = subst (Accepted s) (c .before .before .c3 .given .1) (start .pre .1) in
     let may = merge-accepted _ _ _ (accepted .1) in
     let two = accepted .0 in
-    (start .pre .0, ((two .0, two .1), ((may .receiver, may .giver), ((may .ahead, may .back), (may .unsplit, may .free)))))
+    let take = may .take in
+    (start .pre .0, ((two .0, two .1), ((take .receiver, take .giver), ((take .ahead, may .back), (may .unsplit, ltb-true _ _ (may .is-free))))))
 
 move-console-requires-2 : tie.Need-move-console-requires-2
 move-console-requires-2 c κs =

@@ -6,7 +6,7 @@ use Rattle.refusal.specs.Refusal.{_when_}
 use Rattle.room.specs.Step.{receiverGiverTests}
 use Rattle.store.specs.Layout.{roomIn}
 use Rattle.refusal.proofs.Refusals.{first-three, first-given, first-later}
-use Rattle.step.proofs.Groups.{both-present}
+use Rattle.room.proofs.Accepted.{take-passes}
 use Rattle.step.proofs.refusals.merge_refusal.Statement.{statement}
 use Rattle.step.proofs.refusals.merge_refusal.Tie as tie
 
@@ -22,7 +22,8 @@ some-third-splits-requires c κs =
     let both = passed .before in
     let start = both .before .before in
     let a = start .args in
-    (start .pre .0, (start .pre .1, both-present (roomIn (a .s .now)) (a .receiver .0) (a .giver .0) (sym (both .receiver-giver-refusal .ensures) ∙ passed .if1 .left)))
+    let take = take-passes (roomIn (a .s .now)) (a .receiver .0) (a .giver .0) (sym (both .receiver-giver-refusal .ensures) ∙ passed .if1 .left) in
+    (start .pre .0, (start .pre .1, (take .receiver, take .giver)))
 
 returns-2 : tie.Need-returns-2
 returns-2 c =
