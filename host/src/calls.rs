@@ -3,8 +3,8 @@
 use crate::layout;
 use crate::model::{
     capacity_is_in_range, cell_origin, command_length, common_version, console_board, decode,
-    heard_count, refusal, refuse_if, reported, room_of_tape, sound_boards, step, tape_of, Ancestry,
-    Cell, Room, CONSOLES, STRIPS,
+    heard_count, meeting, refusal, refuse_if, reported, room_of_tape, sound_boards, step, tape_of,
+    Ancestry, Cell, Meeting, Room, CONSOLES, STRIPS,
 };
 
 /// The answer is 0 or the refusal; the count is the question's number, the bytes written or the clashes of a merge, else 0.
@@ -26,6 +26,14 @@ impl Reply {
                 answer: refusal,
                 count: 0,
             },
+        }
+    }
+
+    /// What a reply to the question which two can meet says; nothing for a refusal.
+    pub fn meeting(self) -> Option<Meeting> {
+        match self.answer {
+            0 => Meeting::of_number(self.count),
+            _ => None,
         }
     }
 }
@@ -66,6 +74,10 @@ pub fn common(store: &[u8], first: u32, second: u32) -> Reply {
 
 pub fn origin(store: &[u8], console: u32, strip: u32, cell: u32) -> Reply {
     Reply::of(origin_number(store, console, strip, cell))
+}
+
+pub fn mergeable(store: &[u8]) -> Reply {
+    Reply::of(room_in(store).map(|room| meeting(&room).number()))
 }
 
 // ---------------------------------------------------------------- what they are made of

@@ -1,14 +1,15 @@
 // The comparison of an implementation of the calls with the model, call by call: every reply, and every byte of every
-// lent buffer and of guard bytes around it; and in sessions in which consoles come and go, with the book of demand 3. The cases come
-// from one seed, so that a difference can be met again.
+// lent buffer and of guard bytes around it; in sessions in which consoles come and go, with the book of demand 3; and of the answer which
+// two can meet with what the commands then do. The cases come from one seed, so that a difference can be met again.
 
 use crate::book::Book;
 use crate::calls::Reply;
 use crate::gen;
 use crate::implementations::{Calls, MODEL};
 use crate::layout::{self, store_bytes, BOARD_BYTES};
+use crate::meetings;
 use crate::model::{
-    code, decode, record, refusal, room_of_tape, step, tape_of, Room, CONSOLES, STRIPS,
+    code, decode, record, refusal, room_of_tape, step, tape_of, Meeting, Room, CONSOLES, STRIPS,
 };
 use crate::rng::Rng;
 use std::collections::BTreeMap;
@@ -141,10 +142,11 @@ pub enum Call {
     Heard { console: u32 },
     Common { first: u32, second: u32 },
     Origin { console: u32, strip: u32, cell: u32 },
+    Mergeable,
 }
 
 /// The calls, each with the answers that include/room.h lists for it, in the order of the tests.
-const LISTED: [(&str, &[usize]); 8] = [
+const LISTED: [(&str, &[usize]); 9] = [
     ("open", &[0, 8, 19]),
     (
         "command",
@@ -156,6 +158,7 @@ const LISTED: [(&str, &[usize]); 8] = [
     ("heard", &[0, 3, 11, 12]),
     ("common", &[0, 3, 11, 12]),
     ("origin", &[0, 3, 4, 5, 11, 12]),
+    ("mergeable", &[0, 11]),
 ];
 
 impl Call {
@@ -169,6 +172,7 @@ impl Call {
             Call::Heard { .. } => 5,
             Call::Common { .. } => 6,
             Call::Origin { .. } => 7,
+            Call::Mergeable => 8,
         }
     }
 
@@ -187,6 +191,7 @@ impl Call {
                 strip,
                 cell,
             } => (calls.origin)(store, console, strip, cell),
+            Call::Mergeable => (calls.mergeable)(store),
         }
     }
 }
@@ -211,10 +216,16 @@ enum Figure {
     MergeWithoutClash,
     MergeWithClashes,
     Clash,
+    AllAgree,
+    Stuck,
+    MergeNamed,
+    FastForwardNamed,
+    MergeNamedInFullRoom,
+    HighReceiverNamed,
 }
 
 /// The figures, each with its name and the least that a run must have of it for each of its rounds.
-const FIGURES: [(Figure, &str, u64); 9] = [
+const FIGURES: [(Figure, &str, u64); 15] = [
     (Figure::OriginOfNoEntry, "origins of no entry", 1),
     (Figure::OriginOfAnEntry, "origins of an entry", 1),
     (Figure::Leave, "leaves accepted", 100),
@@ -236,7 +247,28 @@ const FIGURES: [(Figure, &str, u64); 9] = [
         30,
     ),
     (Figure::Clash, "clashes counted", 300),
+    (Figure::AllAgree, "rooms in which all agree", 150),
+    (Figure::Stuck, "stuck rooms", 10),
+    (Figure::MergeNamed, "first pairs that can merge", 150),
+    (
+        Figure::FastForwardNamed,
+        "first pairs that can fast-forward",
+        150,
+    ),
+    (
+        Figure::MergeNamedInFullRoom,
+        "first pairs that could merge in full rooms",
+        40,
+    ),
+    (
+        Figure::HighReceiverNamed,
+        "first pairs with a receiver from 8 on",
+        8,
+    ),
 ];
+
+/// From this console on a receiver is high: many pairs come before it.
+const HIGH_RECEIVER: usize = 8;
 
 /// How often each call gave each answer, the figures, and how many merges counted each number of clashes.
 #[derive(Clone, Default)]
@@ -258,6 +290,29 @@ impl Tally {
             };
             self.count(figure, 1);
         }
+    }
+
+    /// Counts an answer which two can meet, in a room that is full or not.
+    fn note_meeting(&mut self, meeting: Meeting, is_full: bool) {
+        let figure = match meeting {
+            Meeting::AllAgree => Figure::AllAgree,
+            Meeting::Stuck => Figure::Stuck,
+            Meeting::Merge { receiver, .. } => {
+                self.note_receiver(receiver);
+                self.count(Figure::MergeNamedInFullRoom, is_full.into());
+                Figure::MergeNamed
+            }
+            Meeting::FastForward { receiver, .. } => {
+                self.note_receiver(receiver);
+                Figure::FastForwardNamed
+            }
+        };
+        self.count(figure, 1);
+    }
+
+    fn note_receiver(&mut self, receiver: usize) {
+        let is_high = receiver >= HIGH_RECEIVER;
+        self.count(Figure::HighReceiverNamed, is_high.into());
     }
 
     /// Counts an accepted merge with so many clashes.
@@ -451,7 +506,7 @@ impl Comparison {
 
     /// One call of any kind but opening and resume.
     fn any_call(&mut self, rng: &mut Rng, pair: &mut Pair) -> Outcome<Reply> {
-        match rng.below(9) {
+        match rng.below(10) {
             0 => {
                 let needed = 3 + 7 * rng.below(20);
                 let length = output_length(rng, needed);
@@ -470,6 +525,7 @@ impl Comparison {
                 self.call(Call::Common { first, second }, pair)
             }
             4 => self.call(some_origin(rng), pair),
+            5 => self.call(Call::Mergeable, pair),
             _ => self.command(pair, &gen::any_command(rng)),
         }
     }
@@ -504,6 +560,16 @@ impl Comparison {
         Ok(())
     }
 
+    /// Which two can meet in a sound store, and that the commands bear it out.
+    fn meeting(&mut self, pair: &mut Pair) -> Outcome<()> {
+        self.call(Call::Mergeable, pair)?;
+        let store = pair.tested.store.lent();
+        let meeting = meetings::check(&self.tested, store)
+            .map_err(|difference| self.story(Call::Mergeable, pair, &difference))?;
+        self.tally.note_meeting(meeting, meetings::is_full(store));
+        Ok(())
+    }
+
     /// Each call that reads a store, on bytes that may hold none.
     fn all_calls(&mut self, rng: &mut Rng, pair: &mut Pair) -> Outcome<()> {
         let console = rng.below(3) as u32;
@@ -513,6 +579,7 @@ impl Comparison {
         self.call(Call::Heard { console }, pair)?;
         let (first, second) = (0, console);
         self.call(Call::Common { first, second }, pair)?;
+        self.call(Call::Mergeable, pair)?;
         let strip = gen::some_strip(rng).into();
         self.origins(pair, &[console], &[strip], &CELLS)
     }
@@ -623,6 +690,16 @@ impl<'a> Session<'a> {
         self.check_book()
     }
 
+    /// Steps after each of which it is asked which two can meet.
+    fn run_meetings(&mut self, steps: usize) -> Outcome<()> {
+        self.comparison.meeting(&mut self.pair)?;
+        for _ in 0..steps {
+            self.step()?;
+            self.comparison.meeting(&mut self.pair)?;
+        }
+        Ok(())
+    }
+
     fn turnover_step(&mut self, step: usize) -> Outcome<()> {
         match self.rng.below(100) {
             0..=79 => {
@@ -713,6 +790,7 @@ impl<'a> Session<'a> {
         self.comparison.call(Call::Heard { console: first }, pair)?;
         self.comparison.call(Call::Common { first, second }, pair)?;
         self.comparison.call(some_origin(&mut self.rng), pair)?;
+        self.comparison.meeting(pair)?;
         self.ask_origins()
     }
 
@@ -745,6 +823,7 @@ impl<'a> Session<'a> {
             self.pair = Pair::of_store(&damaged);
         }
         self.comparison.resume(&mut self.pair, &tape)?;
+        self.comparison.call(Call::Mergeable, &mut self.pair)?;
         self.book = Book::of_tape(&tape);
         let has_one_left = self.has_left.contains(&true);
         let tally = &mut self.comparison.tally;
@@ -845,6 +924,7 @@ fn compare_tapes(comparison: &mut Comparison, rng: &mut Rng, count: usize) -> Ou
         if comparison.resume(&mut pair, &tape)?.answer == 0 {
             let strip = gen::some_strip(rng).into();
             comparison.origins(&mut pair, &[0, 1], &[strip], &CELLS)?;
+            comparison.meeting(&mut pair)?;
             comparison.any_call(rng, &mut pair)?;
             comparison.output_call(rng, Call::Pause, &mut pair, tape.len())?;
         }
@@ -1002,6 +1082,7 @@ fn compare_every_byte(comparison: &mut Comparison, rng: &mut Rng, capacity: usiz
         };
         pair.change_store(place, bits);
         comparison.call(Call::Heard { console: 0 }, &mut pair)?;
+        comparison.call(Call::Mergeable, &mut pair)?;
         pair.change_store(place, bits);
     }
     compare_cut_store(comparison, &store)
@@ -1011,6 +1092,7 @@ fn compare_cut_store(comparison: &mut Comparison, store: &[u8]) -> Outcome<()> {
     for length in (0..store.len()).step_by(37).chain([store.len() - 1]) {
         let mut cut = Pair::of_store(&store[..length]);
         comparison.call(Call::Heard { console: 0 }, &mut cut)?;
+        comparison.call(Call::Mergeable, &mut cut)?;
     }
     Ok(())
 }
@@ -1113,6 +1195,19 @@ fn compare_long_walks(comparison: &mut Comparison) -> Outcome<()> {
     Ok(())
 }
 
+/// Which two can meet in the largest rooms in which no two can.
+fn compare_full_meetings(comparison: &mut Comparison) -> Outcome<()> {
+    let rooms = [
+        gen::agreeing_room(1024),
+        gen::stuck_room(1024),
+        gen::stuck_apart_room(1024),
+    ];
+    for room in rooms {
+        comparison.meeting(&mut Pair::of_store(&layout::encode(&room)))?;
+    }
+    Ok(())
+}
+
 // ---------------------------------------------------------------- the paper's rooms
 
 /// The paper's rooms as commands, each with its capacity; commands in them meet the rare refusals.
@@ -1164,6 +1259,7 @@ fn compare_paper_rooms(comparison: &mut Comparison, rng: &mut Rng) -> Outcome<()
         let mut pair = comparison.opened(rng, capacity, store_bytes(capacity as usize))?;
         comparison.commands(&mut pair, commands)?;
         compare_next_commands(comparison, &pair)?;
+        comparison.meeting(&mut pair)?;
         comparison.all_calls(rng, &mut pair)?;
     }
     Ok(())
@@ -1243,6 +1339,7 @@ fn small_round(comparison: &mut Comparison, rng: &mut Rng) -> Outcome<()> {
     sessions_from_full_rooms(comparison, rng, 16)?;
     sessions_from_full_rooms(comparison, rng, 64)?;
     sessions_that_clash(comparison, rng)?;
+    sessions_from_stuck_rooms(comparison, rng)?;
     compare_garbage(comparison, rng, 250)?;
     compare_tapes(comparison, rng, 500)?;
     compare_cut_tapes(comparison, rng)?;
@@ -1294,6 +1391,15 @@ fn sessions_that_clash(comparison: &mut Comparison, rng: &mut Rng) -> Outcome<()
     Ok(())
 }
 
+/// Stuck rooms, and what becomes of them.
+fn sessions_from_stuck_rooms(comparison: &mut Comparison, rng: &mut Rng) -> Outcome<()> {
+    for _ in 0..3 {
+        let room = gen::some_stuck_room(rng);
+        resumed_session(comparison, rng, room)?.run_meetings(12)?;
+    }
+    Ok(())
+}
+
 /// The cases that are the same, or nearly so, for every seed.
 fn fixed_cases(comparison: &mut Comparison, rng: &mut Rng) -> Outcome<()> {
     compare_paper_rooms(comparison, rng)?;
@@ -1301,6 +1407,7 @@ fn fixed_cases(comparison: &mut Comparison, rng: &mut Rng) -> Outcome<()> {
     compare_edges(comparison, rng)?;
     compare_long_tapes(comparison, rng)?;
     compare_long_walks(comparison)?;
+    compare_full_meetings(comparison)?;
     for clashes in 0..=gen::VALUES {
         compare_clashes(comparison, rng, clashes)?;
     }

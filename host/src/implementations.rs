@@ -15,6 +15,7 @@ pub struct Calls {
     pub heard: fn(&[u8], u32) -> Reply,
     pub common: fn(&[u8], u32, u32) -> Reply,
     pub origin: fn(&[u8], u32, u32, u32) -> Reply,
+    pub mergeable: fn(&[u8]) -> Reply,
 }
 
 pub const MODEL: Calls = Calls {
@@ -27,6 +28,7 @@ pub const MODEL: Calls = Calls {
     heard: calls::heard,
     common: calls::common,
     origin: calls::origin,
+    mergeable: calls::mergeable,
 };
 
 pub const FAST: Calls = Calls {
@@ -39,6 +41,7 @@ pub const FAST: Calls = Calls {
     heard: fast::heard,
     common: fast::common,
     origin: fast::origin,
+    mergeable: fast::mergeable,
 };
 
 pub const UNIT: Calls = Calls {
@@ -51,4 +54,5 @@ pub const UNIT: Calls = Calls {
     heard: unit::heard,
     common: unit::common,
     origin: unit::origin,
+    mergeable: unit::mergeable,
 };

@@ -1,5 +1,6 @@
 // The test host: an independent model of the room unit, its bytes, its calls, generators of cases, a fast second implementation,
-// the wrapper of the unit itself, the comparison of both, and of the session program, with the model, and the book of demand 3.
+// the wrapper of the unit itself, the comparison of both, and of the session program, with the model, the book of demand 3, and
+// the question which two can meet by its consequences.
 
 pub mod book;
 pub mod calls;
@@ -8,6 +9,7 @@ pub mod fast;
 pub mod gen;
 pub mod implementations;
 pub mod layout;
+pub mod meetings;
 pub mod model;
 pub mod rng;
 pub mod session;

@@ -837,6 +837,88 @@ fn with_head(room: &Room, console: usize, head: Option<usize>) -> Room {
     changed
 }
 
+// ---------------------------------------------------------------- which two can meet
+
+/// What the question which two can meet answers.
+#[derive(Clone, Copy, Debug, PartialEq, Eq)]
+pub enum Meeting {
+    /// Every head is one version.
+    AllAgree,
+    /// Heads differ, and no two can meet.
+    Stuck,
+    Merge {
+        receiver: usize,
+        giver: usize,
+    },
+    FastForward {
+        receiver: usize,
+        giver: usize,
+    },
+}
+
+impl Meeting {
+    /// 256 × the kind, and for a pair 16 × receiver + giver more.
+    pub fn number(self) -> usize {
+        match self {
+            Meeting::AllAgree => 0,
+            Meeting::Stuck => 256,
+            Meeting::Merge { receiver, giver } => 2 * 256 + 16 * receiver + giver,
+            Meeting::FastForward { receiver, giver } => 3 * 256 + 16 * receiver + giver,
+        }
+    }
+
+    /// The answer that a number stands for; nothing for a number that stands for none.
+    pub fn of_number(number: u32) -> Option<Meeting> {
+        let (kind, of_pair) = (number / 256, number as usize % 256);
+        let (receiver, giver) = (of_pair / 16, of_pair % 16);
+        match kind {
+            0 if of_pair == 0 => Some(Meeting::AllAgree),
+            1 if of_pair == 0 => Some(Meeting::Stuck),
+            2 if receiver != giver => Some(Meeting::Merge { receiver, giver }),
+            3 if receiver != giver => Some(Meeting::FastForward { receiver, giver }),
+            _ => None,
+        }
+    }
+}
+
+/// The first pair that can meet, receivers rising and for each the givers; where there is none, whether all agree.
+pub fn meeting(room: &Room) -> Meeting {
+    let receivers = 0..CONSOLES;
+    let pairs = receivers.flat_map(|receiver| (0..CONSOLES).map(move |giver| (receiver, giver)));
+    let mut of_two = pairs.filter(|(receiver, giver)| receiver != giver);
+    let roomier = with_a_version_free(room);
+    let first = of_two.find_map(|(receiver, giver)| meeting_of(&roomier, receiver, giver));
+    first.unwrap_or(if all_agree(room) {
+        Meeting::AllAgree
+    } else {
+        Meeting::Stuck
+    })
+}
+
+/// The one of merge and fast-forward that is accepted of this pair, by the tests of the commands themselves.
+fn meeting_of(room: &Room, receiver: usize, giver: usize) -> Option<Meeting> {
+    if step(room, &Command::Merge { receiver, giver }).is_ok() {
+        Some(Meeting::Merge { receiver, giver })
+    } else if step(room, &Command::FastForward { receiver, giver }).is_ok() {
+        Some(Meeting::FastForward { receiver, giver })
+    } else {
+        None
+    }
+}
+
+/// The room as it would be if a version were free, also where it has as many as a store can hold.
+fn with_a_version_free(room: &Room) -> Room {
+    let mut roomier = room.clone();
+    roomier.capacity = room.versions.len() + 1;
+    roomier
+}
+
+/// Every head is one version.
+fn all_agree(room: &Room) -> bool {
+    let heads = room.present_heads();
+    heads.iter().all(|&head| head == heads[0])
+}
+
 // ---------------------------------------------------------------- the tape
 
 /// The pause tape of a room.

@@ -41,6 +41,7 @@ extern "C" {
         strip: u32,
         cell: u32,
     ) -> Reply;
+    pub fn room_mergeable(store: *const u8, store_length: usize) -> Reply;
 }
 
 // Each call below is sound for every argument: the unit reads and writes within the lengths given and keeps no pointer.
@@ -90,4 +91,9 @@ pub fn common(store: &[u8], first: u32, second: u32) -> Reply {
 
 pub fn origin(store: &[u8], console: u32, strip: u32, cell: u32) -> Reply {
     unsafe { room_origin(store.as_ptr(), store.len(), console, strip, cell) }
+}
+
+/// Which two can meet; `Reply::meeting` says it in words.
+pub fn mergeable(store: &[u8]) -> Reply {
+    unsafe { room_mergeable(store.as_ptr(), store.len()) }
 }

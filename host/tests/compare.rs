@@ -1,16 +1,28 @@
-// The unit and the fast implementation against the model, on fewer cases than the program `compare` runs; and some that count wrongly,
-// which must be found.
+// The unit and the fast implementation against the model, on fewer cases than the program `compare` runs; and some that count wrongly
+// or name a wrong pair, which must be found.
 
 use room_host::calls::Reply;
 use room_host::compare::{compare, seed, Effort};
 use room_host::fast;
 use room_host::implementations::{Calls, FAST, UNIT};
+use room_host::rng::Rng;
+use room_host::{gen, layout, meetings};
 use std::ops::RangeInclusive;
 
 const EFFORT: Effort = Effort {
     rounds: 2,
     steps_at_1024: 8,
 };
+
+fn assert_differs(wrong: Calls) {
+    let found = compare(wrong, seed(), EFFORT).err();
+    let difference = found.unwrap_or_default();
+    let name = wrong.name;
+    assert!(
+        difference.contains("replies differ"),
+        "{name}: {difference}"
+    );
+}
 
 fn check(tested: Calls) {
     let seed = seed();
@@ -90,11 +102,152 @@ fn a_wrong_count_is_found() {
             command,
             ..FAST
         };
-        let found = compare(miscounting, seed(), EFFORT).err();
-        let difference = found.unwrap_or_default();
-        assert!(
-            difference.contains("replies differ"),
-            "{name}: {difference}"
-        );
+        assert_differs(miscounting);
     }
+}
+
+// ---------------------------------------------------------------- which two can meet
+
+/// 2 or 3 for a pair of which a merge, with one of these answers, or a fast-forward passes for accepted.
+fn tried(store: &[u8], receiver: usize, giver: usize, passing: &[u32]) -> Option<usize> {
+    let answer = |code: u8| {
+        let command = [code, receiver as u8, giver as u8];
+        fast::command(&mut store.to_vec(), &command).answer
+    };
+    if passing.contains(&answer(0x09)) {
+        Some(2)
+    } else if answer(0x0A) == 0 {
+        Some(3)
+    } else {
+        None
+    }
+}
+
+/// The number of the first pair, by trying commands: pairs in this order, and a merge that passes for accepted with these answers.
+fn first_pair(store: &[u8], order: fn(usize, usize) -> (usize, usize), passing: &[u32]) -> Reply {
+    let right = fast::mergeable(store);
+    if right.answer != 0 {
+        return right;
+    }
+    let pairs = (0..256).map(|place| order(place / 16, place % 16));
+    let mut of_two = pairs.filter(|(receiver, giver)| receiver != giver);
+    let found = of_two.find_map(|(receiver, giver)| {
+        let kind = tried(store, receiver, giver, passing)?;
+        Some((256 * kind + 16 * receiver + giver) as u32)
+    });
+    let none = if right.count == 0 { 0 } else { 256 };
+    Reply {
+        answer: 0,
+        count: found.unwrap_or(none),
+    }
+}
+
+fn receivers_first(receiver: usize, giver: usize) -> (usize, usize) {
+    (receiver, giver)
+}
+
+fn givers_first(giver: usize, receiver: usize) -> (usize, usize) {
+    (receiver, giver)
+}
+
+fn falling(receiver: usize, giver: usize) -> (usize, usize) {
+    (15 - receiver, 15 - giver)
+}
+
+/// The fast implementation's reply with another number where it is accepted.
+fn renumbered(store: &[u8], number: fn(u32) -> u32) -> Reply {
+    let reply = fast::mergeable(store);
+    match reply.answer {
+        0 => Reply {
+            answer: 0,
+            count: number(reply.count),
+        },
+        _ => reply,
+    }
+}
+
+type MergeableCall = fn(&[u8]) -> Reply;
+
+/// Wrong answers to the question which two can meet.
+const MISNAMED: [(&str, MergeableCall); 9] = [
+    ("givers before receivers", |store| {
+        first_pair(store, givers_first, &[0, 18])
+    }),
+    ("falling", |store| first_pair(store, falling, &[0, 18])),
+    ("17 is not asked", |store| {
+        first_pair(store, receivers_first, &[0, 17, 18])
+    }),
+    ("15 is not asked", |store| {
+        first_pair(store, receivers_first, &[0, 15, 18])
+    }),
+    ("18 is asked", |store| {
+        first_pair(store, receivers_first, &[0])
+    }),
+    ("stuck where all agree", |store| {
+        renumbered(store, |number| number.max(256))
+    }),
+    ("all agree where it is stuck", |store| {
+        renumbered(store, |number| if number == 256 { 0 } else { number })
+    }),
+    ("kinds exchanged", |store| {
+        renumbered(
+            store,
+            |number| if number < 512 { number } else { number ^ 256 },
+        )
+    }),
+    ("giver and receiver exchanged", |store| {
+        renumbered(store, |number| {
+            number / 256 * 256 + number % 16 * 16 + number / 16 % 16
+        })
+    }),
+];
+
+fn misnaming(name: &'static str, mergeable: MergeableCall) -> Calls {
+    Calls {
+        name,
+        mergeable,
+        ..FAST
+    }
+}
+
+#[test]
+fn a_wrong_pair_is_found() {
+    for (name, mergeable) in MISNAMED {
+        assert_differs(misnaming(name, mergeable));
+    }
+}
+
+#[test]
+fn an_answer_without_a_store_is_found() {
+    let answering = misnaming("any bytes", |store| Reply {
+        answer: 0,
+        ..fast::mergeable(store)
+    });
+    assert_differs(answering);
+}
+
+/// The commands alone disprove each wrong answer for a sound store, whatever the model says.
+#[test]
+fn a_wrong_pair_is_not_borne_out() {
+    let rng = &mut Rng::new(28);
+    let stuck = (0..3).map(|_| gen::some_stuck_room(rng)).collect();
+    let rooms = [gen::random_rooms(29, 60), stuck].concat();
+    let stores: Vec<Vec<u8>> = rooms.iter().map(layout::encode).collect();
+    let is_disproved = |calls: &Calls| {
+        let mut checks = stores.iter().map(|store| meetings::check(calls, store));
+        checks.any(|check| check.is_err())
+    };
+    for (name, mergeable) in MISNAMED {
+        assert!(is_disproved(&misnaming(name, mergeable)), "{name}");
+    }
+    assert!(!is_disproved(&FAST));
+}
+
+/// The right order and the right tests by the same trying give no difference, so it is the errors above that are found.
+#[test]
+fn the_right_pair_by_trying_is_no_difference() {
+    let trying = misnaming("trying", |store| {
+        first_pair(store, receivers_first, &[0, 18])
+    });
+    compare(trying, seed(), EFFORT).expect("no difference");
 }

@@ -4,8 +4,8 @@
 
 use room_host::calls::Reply;
 use room_host::unit::{
-    self, room_board, room_command, room_common, room_heard, room_open, room_origin, room_pause,
-    room_resume,
+    self, room_board, room_command, room_common, room_heard, room_mergeable, room_open,
+    room_origin, room_pause, room_resume,
 };
 use std::ptr::{null, null_mut};
 
@@ -154,4 +154,9 @@ fn origins_in_a_null_store() {
         let reply = unsafe { room_origin(null(), 0, console, strip, cell) };
         assert_eq!(reply, refused(due));
     }
+}
+
+#[test]
+fn mergeable_in_a_null_store() {
+    assert_eq!(unsafe { room_mergeable(null(), 0) }, refused(11));
 }

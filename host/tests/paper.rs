@@ -14,6 +14,7 @@ mod model {
     mod cases;
     mod clashes;
     mod leaving;
+    mod mergeable;
     mod origins;
     mod refusals;
     mod store;
@@ -28,6 +29,7 @@ mod unit {
     mod cases;
     mod clashes;
     mod leaving;
+    mod mergeable;
     mod origins;
     mod refusals;
     mod store;
@@ -42,6 +44,7 @@ mod fast {
     mod cases;
     mod clashes;
     mod leaving;
+    mod mergeable;
     mod origins;
     mod refusals;
     mod store;

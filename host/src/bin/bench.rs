@@ -32,7 +32,7 @@ const MEMCMP: &str = "memcmp_of_the_store";
 const SOUNDNESS: &str = "soundness";
 
 /// What each of these may be at most, against what: the limits of docs/PERFORMANCE.md.
-const LIMITS: [(&str, &str, f64); 13] = [
+const LIMITS: [(&str, &str, f64); 18] = [
     ("soundness_entries_1024", MEMCMP, 4.5),
     ("soundness_merges_1024", MEMCMP, 13.0),
     ("entry", SOUNDNESS, 1.3),
@@ -46,6 +46,11 @@ const LIMITS: [(&str, &str, f64); 13] = [
     ("origin_merges_1024", SOUNDNESS, 1.2),
     ("origin_chain_of_entries_1024", SOUNDNESS, 1.2),
     ("origin_chain_of_merges_1024", SOUNDNESS, 1.2),
+    ("mergeable_entries_1024", SOUNDNESS, 1.2),
+    ("mergeable_merges_1024", SOUNDNESS, 1.2),
+    ("mergeable_all_agree_1024", SOUNDNESS, 1.2),
+    ("mergeable_stuck_1024", SOUNDNESS, 1.2),
+    ("mergeable_stuck_apart_1024", SOUNDNESS, 1.2),
 ];
 
 /// A ratio fails at more than so many times its limit.
@@ -301,6 +306,28 @@ fn bench_origin(verdict: &mut Verdict, what: String, room: Room) {
     bench(verdict, &work);
 }
 
+/// Which two can meet in full rooms of 16 consoles: in those of the soundness test one of the first pairs can; in the others all 240 pairs
+/// are tried in vain, in the last with nearly all third consoles. These are chains of entries but for their last versions, and so of the
+/// rooms whose soundness test is the shortest.
+fn bench_mergeable(verdict: &mut Verdict) {
+    let rooms = [
+        ("entries", full_room("entries", 1024)),
+        ("merges", full_room("merges", 1024)),
+        ("all_agree", gen::agreeing_room(1024)),
+        ("stuck", gen::stuck_room(1024)),
+        ("stuck_apart", gen::stuck_apart_room(1024)),
+    ];
+    for (kind, room) in rooms {
+        let work = Work {
+            what: format!("mergeable_{kind}_1024"),
+            call: Call::Mergeable,
+            room,
+            input: Vec::new(),
+        };
+        bench(verdict, &work);
+    }
+}
+
 /// The calls on a store of capacity 1,024 that holds 1,000 versions.
 fn bench_calls(verdict: &mut Verdict) {
     let (room, commands) = busy_room();
@@ -324,6 +351,7 @@ fn bench_calls(verdict: &mut Verdict) {
         cell: 0,
     };
     bench_call("origin", origin, Vec::new());
+    bench_call("mergeable", Call::Mergeable, Vec::new());
     for (what, input) in commands {
         bench_call(what, Call::Command, input);
     }
@@ -382,6 +410,7 @@ fn main() -> ExitCode {
     bench_soundness(&mut verdict);
     bench_calls(&mut verdict);
     bench_origins(&mut verdict);
+    bench_mergeable(&mut verdict);
     bench_tapes(&mut verdict);
     verdict.print_last_line()
 }

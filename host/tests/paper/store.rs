@@ -77,6 +77,10 @@ impl Store {
         tested::origin(&self.bytes, console, strip, cell)
     }
 
+    pub fn mergeable(&self) -> Reply {
+        tested::mergeable(&self.bytes)
+    }
+
     /// The heads of the present consoles, consoles rising: a console's common version with itself.
     pub fn heads(&self) -> Vec<u32> {
         let replies = (0..16).map(|console| self.common(console, console));

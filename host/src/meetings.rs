@@ -1,0 +1,75 @@
+// Which two can meet, by consequence: what an implementation answers is held against its own commands, each tried on a copy of the store.
+
+use crate::calls::Reply;
+use crate::implementations::Calls;
+use crate::layout::{CAPACITY_AT, VERSION_COUNT_AT};
+use crate::model::{code, refusal, Meeting, CONSOLES};
+
+/// The answer for this sound store, where the commands bear it out; else the difference in words.
+pub fn check(calls: &Calls, store: &[u8]) -> Result<Meeting, String> {
+    let reply = (calls.mergeable)(store);
+    let due = by_commands(calls, store)?;
+    if reply.meeting() == Some(due) {
+        Ok(due)
+    } else {
+        Err(format!("{due:?} by the commands, {reply:?} answered"))
+    }
+}
+
+/// Whether the store has no version free, by the fields of docs/LAYOUT.md.
+pub fn is_full(store: &[u8]) -> bool {
+    store[CAPACITY_AT..][..2] == store[VERSION_COUNT_AT..][..2]
+}
+
+/// The first pair of present consoles that a command brings together, receivers rising and for each the givers; where there is none,
+/// whether every head is one version.
+fn by_commands(calls: &Calls, store: &[u8]) -> Result<Meeting, String> {
+    let heads: Vec<(usize, Reply)> = (0..CONSOLES)
+        .map(|console| {
+            (
+                console,
+                (calls.common)(store, console as u32, console as u32),
+            )
+        })
+        .filter(|(_, head)| head.answer == 0)
+        .collect();
+    for &(receiver, _) in &heads {
+        for &(giver, _) in heads.iter().filter(|&&(giver, _)| giver != receiver) {
+            if let Some(meeting) = meeting_of(calls, store, receiver, giver)? {
+                return Ok(meeting);
+            }
+        }
+    }
+    let all_agree = heads.iter().all(|&(_, head)| head == heads[0].1);
+    Ok(if all_agree {
+        Meeting::AllAgree
+    } else {
+        Meeting::Stuck
+    })
+}
+
+/// What this pair can do: a merge that is accepted, or in a full room refused for the version alone, or a fast-forward that is accepted.
+fn meeting_of(
+    calls: &Calls,
+    store: &[u8],
+    receiver: usize,
+    giver: usize,
+) -> Result<Option<Meeting>, String> {
+    let answer = |code: u8| {
+        let command = [code, receiver as u8, giver as u8];
+        (calls.command)(&mut store.to_vec(), &command).answer
+    };
+    let without_hindrance = if is_full(store) {
+        refusal::NO_VERSION_LEFT
+    } else {
+        0
+    };
+    let merges = answer(code::MERGE) == without_hindrance;
+    let forwards = answer(code::FAST_FORWARD) == 0;
+    match (merges, forwards) {
+        (true, true) => Err(format!("{receiver} both merges {giver} and follows it")),
+        (true, false) => Ok(Some(Meeting::Merge { receiver, giver })),
+        (false, true) => Ok(Some(Meeting::FastForward { receiver, giver })),
+        (false, false) => Ok(None),
+    }
+}
