@@ -33,8 +33,8 @@ extern "C" {
 /* The most clashes of a merge: the level and the heading of every strip. */
 #define ROOM_MAX_CLASHES 64
 
-/* Stack in bytes that a caller must have: resume judges a tape with 1,024 rows of 128 bytes of its own before it writes, and origin goes down
-   the versions by recursion, in a full room up to 513 calls deep. */
+/* Stack in bytes that a caller must have: resume judges a tape with 1,024 rows of 128 bytes of its own before it writes, and origin goes
+   down the versions by recursion, in a full room up to 513 calls deep. */
 #define ROOM_STACK 16384
 #define ROOM_RESUME_STACK 151552
 #define ROOM_ORIGIN_STACK 36864
@@ -50,6 +50,17 @@ extern "C" {
 /* Cells that room_origin is asked about. */
 #define ROOM_LEVEL_CELL 0
 #define ROOM_HEADING_CELL 1
+
+/* What room_mergeable counts: 256 times the kind, and for a pair 16 times the receiver, and the giver, more. */
+enum room_pair_kind {
+    ROOM_ALL_AGREE = 0,       /* no pair: every head is one version (one console alone too) */
+    ROOM_STUCK = 1,           /* no pair, but heads that differ */
+    ROOM_CAN_MERGE = 2,       /* the receiver can merge the giver */
+    ROOM_CAN_FAST_FORWARD = 3 /* the receiver can fast-forward to the giver */
+};
+#define ROOM_KIND_OF(count) ((uint32_t)(count) / 256u)
+#define ROOM_RECEIVER_OF(count) ((uint32_t)(count) / 16u % 16u)
+#define ROOM_GIVER_OF(count) ((uint32_t)(count) % 16u)
 
 /* Codes of commands, with the bytes that follow. */
 #define ROOM_FORK 0x01         /* new console, old console */
@@ -123,6 +134,10 @@ struct room_reply room_common(const uint8_t *store, size_t store_length, uint32_
 /* Its count is the version of the entry behind a cell of a console's board; 0 where none was met, and then the cell shows 0.
    Refusals 3 to 5, 11, 12. */
 struct room_reply room_origin(const uint8_t *store, size_t store_length, uint32_t console, uint32_t strip, uint32_t cell);
+
+/* Its count is the first pair of consoles of which a merge or a fast-forward would be accepted if versions were free, and which of the two,
+   or the kind of a room without one: see enum room_pair_kind. Receivers rise, and for each receiver the givers. Refusal 11. */
+struct room_reply room_mergeable(const uint8_t *store, size_t store_length);
 
 #ifdef __cplusplus
 }

@@ -1,4 +1,4 @@
-/* The version graph of a room, read off its pause tape: as a Graphviz file, and an entry of it in words. */
+/* The version graph of a room, read off its pause tape: as a Graphviz file, an entry of it in words, and whether the room is full. */
 #include "panel.h"
 
 #include "room.h"
@@ -117,4 +117,14 @@ void show_entry(const uint8_t *tape, size_t length, unsigned version)
     while ((record = take_record(&place)) != NULL)
         if (record[0] == ENTRY && place.version == version)
             print_entry(version, record);
+}
+
+/* Version 0 has no record, but counts. */
+int is_full_room(const uint8_t *tape, size_t length)
+{
+    struct place place = {tape, length, 0};
+    const uint8_t *start = take_record(&place);
+    while (take_record(&place) != NULL)
+        continue;
+    return start != NULL && place.version + 1 == field(start, 1);
 }

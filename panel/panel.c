@@ -27,6 +27,7 @@ static const char HELP[] =
     "heard CONSOLE                how many entries it has heard\n"
     "common FIRST SECOND          the last version that both have\n"
     "origin CONSOLE STRIP CELL    the entry behind that cell, level or heading\n"
+    "who                          which two can merge or fast-forward, and what to type\n"
     "pause FILE                   and resume\n"
     "graph FILE                   the version graph for Graphviz\n"
     "quit\n";
@@ -97,6 +98,21 @@ static void say_number(struct room_reply reply)
 
 /* ---- the unit's calls ---- */
 
+/* The tape of the room in `tape`; its length, or 0 where there is none. */
+static size_t paused(void)
+{
+    struct room_reply reply = room_pause(store, sizeof store, tape, sizeof tape);
+    return say(reply) ? reply.count : 0;
+}
+
+/* Which two can merge or fast-forward. The question leaves aside whether a version is free, so that is looked up on the tape. */
+static void show_mergeable(void)
+{
+    struct room_reply reply = room_mergeable(store, sizeof store);
+    if (say(reply))
+        show_pair(reply.count, is_full_room(tape, paused()));
+}
+
 /* Writes the command's bytes; how many they are, or 0 where a number does not fit. */
 static size_t encode(const struct named_command *named, const struct line *line, uint8_t bytes[COMMAND_BYTES])
 {
@@ -127,6 +143,9 @@ static void carry_out(const struct named_command *named, const struct line *line
         say_merged(reply);
     else
         say_done(reply);
+    /* Only a merge is refused with it, and the refusal alone does not say what can be done next. */
+    if (reply.answer == ROOM_THIRD_CONSOLE)
+        show_mergeable();
 }
 
 static void show_console(uint32_t console)
@@ -147,13 +166,6 @@ static void show_heads(void)
             return;
         }
     }
-}
-
-/* The tape of the room in `tape`; its length, or 0 where there is none. */
-static size_t paused(void)
-{
-    struct room_reply reply = room_pause(store, sizeof store, tape, sizeof tape);
-    return say(reply) ? reply.count : 0;
 }
 
 static void pause_to(const char *name)
@@ -287,6 +299,8 @@ static void follow(const struct line *line)
         show_origin(line, ROOM_LEVEL_CELL);
     else if (is_cell_word(line, "origin", 2, "heading"))
         show_origin(line, ROOM_HEADING_CELL);
+    else if (is_word(line, "who", 0))
+        show_mergeable();
     else if (is_file_word(line, "pause"))
         pause_to(line->file);
     else if (is_file_word(line, "resume"))

@@ -9,6 +9,9 @@
 /* The meaning of an answer of the unit, in words. */
 const char *refusal_in_words(uint32_t answer);
 
+/* Prints a count of room_mergeable in words, a pair with what to type. In a full room a merge is not offered, as it would be refused. */
+void show_pair(uint32_t count, int is_full);
+
 /* Prints the strips of a board that are not empty, as a table. */
 void show_board(const uint8_t *board);
 
@@ -17,5 +20,8 @@ void write_graph(FILE *file, const uint8_t *tape, size_t length);
 
 /* Prints in words which level or heading an entry of a pause tape gave; nothing where that version is no entry. */
 void show_entry(const uint8_t *tape, size_t length, unsigned version);
+
+/* Whether the room of a pause tape has no version left. */
+int is_full_room(const uint8_t *tape, size_t length);
 
 #endif

@@ -1,4 +1,4 @@
-/* What the panel shows: refusals in words and a board as a table. */
+/* What the panel shows: refusals and the pair that can merge in words, and a board as a table. */
 #include "panel.h"
 
 #include <string.h>
@@ -34,6 +34,29 @@ const char *refusal_in_words(uint32_t answer)
 {
     size_t known = sizeof MEANINGS / sizeof MEANINGS[0];
     return answer < known ? MEANINGS[answer] : "an answer that this panel does not know";
+}
+
+static void show_merge(unsigned receiver, unsigned giver, int is_full)
+{
+    if (is_full)
+        printf("console %u could merge console %u, but the room is full\n", receiver, giver);
+    else
+        printf("console %u can merge console %u: `merge %u %u`\n", receiver, giver, receiver, giver);
+}
+
+void show_pair(uint32_t count, int is_full)
+{
+    unsigned receiver = ROOM_RECEIVER_OF(count);
+    unsigned giver = ROOM_GIVER_OF(count);
+    switch (ROOM_KIND_OF(count)) {
+    case ROOM_ALL_AGREE: printf("nothing to merge: all consoles are on one version\n"); break;
+    case ROOM_STUCK: printf("stuck: no two consoles can merge or fast-forward\n"); break;
+    case ROOM_CAN_MERGE: show_merge(receiver, giver, is_full); break;
+    case ROOM_CAN_FAST_FORWARD:
+        printf("console %u can fast-forward to console %u: `forward %u %u`\n", receiver, giver, receiver, giver);
+        break;
+    default: printf("an answer that this panel does not know\n");
+    }
 }
 
 static unsigned cell(const uint8_t *strip, size_t at)

@@ -1,7 +1,8 @@
 /* How much stack each of the unit's calls uses, against what room.h says: each runs in a thread on a painted stack, and what it left is
    counted. Each is the first call of a process of its own, so that what the loader does to find the unit's C functions counts too.
    Each is made in two rooms: one almost all of entries, one with as many merges as it can have, so that the walk to an origin is a long one
-   over either. The measured fork makes the last of 16 consoles, and the measured entry and merge the last versions. */
+   over either. The measured fork makes the last of 16 consoles, and the measured entry and merge the last versions. Which pair is mergeable
+   is asked twice, as a merge and a fast-forward go by different tests. */
 #define _DEFAULT_SOURCE /* for pthread_attr_setstack and MAP_ANONYMOUS */
 #include <pthread.h>
 #include <stdint.h>
@@ -121,6 +122,12 @@ static struct room_reply ask_origin_for_0(void)
     return room_origin(shared->store, sizeof shared->store, 0, 5, ROOM_LEVEL_CELL);
 }
 
+/* Before the measured merge the answer is that merge; after the fast-forward it is another one, to console 0 by a console on version 0. */
+static struct room_reply ask_mergeable(void)
+{
+    return room_mergeable(shared->store, sizeof shared->store);
+}
+
 static struct room_reply resume_room(void)
 {
     return room_resume(shared->tape, shared->tape_length, shared->store, sizeof shared->store);
@@ -221,6 +228,7 @@ int main(void)
     struct measured measured[] = {
         {"a fork", fork_last_off_1, ROOM_STACK},
         {"an entry", enter_on_1, ROOM_STACK},
+        {"mergeable, a merge", ask_mergeable, ROOM_STACK},
         {"a merge", merge_1_into_0, ROOM_STACK},
         {"a fast-forward", forward_1_to_0, ROOM_STACK},
         {"pause", pause_room, ROOM_STACK},
@@ -228,6 +236,7 @@ int main(void)
         {"heard", ask_heard_by_0, ROOM_STACK},
         {"common", ask_common_of_0_and_1, ROOM_STACK},
         {"origin", ask_origin_for_0, ROOM_ORIGIN_STACK},
+        {"mergeable, a fast-forward", ask_mergeable, ROOM_STACK},
         {"a leave", leave_by_last, ROOM_STACK},
         {"resume", resume_room, ROOM_RESUME_STACK},
         {"open", open_room, ROOM_STACK},
