@@ -3,28 +3,44 @@
 use Prim.Native.Nat.{ℕ, _<_}
 use mathlib.Core.Path.{_≡_, refl, sym, _∙_, ap}
 use mathlib.Core.Logic.{_⊎_, inl, inr}
-use mathlib.Core.Bool.{true, false, cond, not, _||_}
+use mathlib.Core.Bool.{Bool, true, false, cond, not, _||_}
+use mathlib.Core.List.{[], _∷_}
 use native.Mathlib.Omega.{arith}
 use native.Mathlib.Decide.{ℕ-discrete}
 use borrow.Author.Tests.{eqb-true, eq-eqb, ne-eqb, eqb-false, not-false}
 use lib.Dec.{eqb}
-use Rattle.laws.proofs.Logic.{clash, decide, either, refuted, implies-i, implies-e, or-none-l, or-none-r}
+use Rattle.laws.proofs.Logic.{clash, decide, either, refuted, and-swap, implies-i, implies-e, or-none-l, or-none-r}
 use Rattle.graph.specs.Graph.{ancestor}
-use Rattle.graph.proofs.Below.{at, of, fails-at, first-none, none-first, first-is, first-found}
+use Rattle.graph.proofs.Below.{at, of, fails-at, some-at, some-of, first-none, none-first, first-is, first-found}
 use Rattle.graph.proofs.Ancestor.{ancestor-self}
+use Rattle.refusal.specs.Refusal.{_when_, firstRefusal}
 use Rattle.command.specs.Code.{consoleCount}
 use Rattle.room.specs.declared.Settings.{Settings}
 use Rattle.room.specs.Room.{Room, present, head, common}
-use Rattle.room.specs.Step.{absent, behind, stateTests}
+use Rattle.room.specs.Step.{absent, behind, apart, splits, someThirdSplits, mergeTests, stateTests}
 use Rattle.room.specs.Mergeable.{allAgree, stuck, merge, fastForward, numberOf, canMerge, canFastForward, pairNumber, firstGiver, firstPair, headsAgree, mergeable}
 use Rattle.room.proofs.Sound.{Sound}
 use Rattle.room.proofs.Accepted.{MayTake, MayMerge, forward-passes, merge-passes}
-use Rattle.room.proofs.Steps.{head-named}
+use Rattle.room.proofs.Steps.{head-named, split-parts, third-splits}
 
 -- whatever the room is set to: a full one is answered as one with versions free
 pub any-settings : (r : Room) (settings : Settings) → mergeable (record { settings = settings; versions = r .versions; heads = r .heads }) ≡ mergeable r
 unfolding mergeable firstPair pairNumber stateTests headsAgree common
 any-settings r settings = refl
+
+-- a third console that splits two splits them either way round
+apart-either-way : (r : Room) (u v : ℕ) → apart r u v ≡ apart r v u
+apart-either-way r u v = and-swap (not (ancestor (r .versions) u v)) (not (ancestor (r .versions) v u))
+
+splits-either-way : (r : Room) (c d : ℕ) → someThirdSplits r c d ≡ false → someThirdSplits r d c ≡ false
+splits-either-way r c d h =
+    refuted _ (λ t.
+    let found = some-at consoleCount (splits r d c) t in
+    let k = found .0 in
+    let parts = split-parts r d c k (found .2) in
+    let back = third-splits r d c k (parts .na) (parts .nb) (parts .pd) in
+    let over = third-splits r c d k (parts .nb) (parts .na) (parts .pd) in
+    clash (some-of consoleCount (splits r c d) k (found .1) (over ∙ apart-either-way r _ _ ∙ sym back ∙ found .2)) h)
 
 -- a pair
 module _ (r : Room) (c d : ℕ) where
@@ -35,6 +51,25 @@ module _ (r : Room) (c d : ℕ) where
   forward-asks : canFastForward r c d ≡ true → MayTake r c d × (behind r c d ≡ true)
   unfolding stateTests
   forward-asks h = forward-passes r c d (eqb-true _ 0 h)
+
+  -- a merge that would be accepted if versions were free is accepted, or refused with 18, whichever versions are
+  pub eighteen-last : (free : Bool) → (let n : ℕ = firstRefusal (mergeTests r free c d) in eqb n 0 || eqb n 18) ≡ canMerge r c d
+  unfolding stateTests firstRefusal
+  eighteen-last free = go (absent r c || absent r d) (behind r d c) (behind r c d) (someThirdSplits r c d) free
+    where
+      first : Bool → Bool → Bool → Bool → Bool → ℕ
+      first twelve fourteen fifteen seventeen eighteen =
+          firstRefusal (12 when twelve ∷ 14 when fourteen ∷ 15 when fifteen ∷ 17 when seventeen ∷ 18 when eighteen ∷ [])
+
+      go : (twelve fourteen fifteen seventeen free : Bool)
+          → eqb (first twelve fourteen fifteen seventeen (not free)) 0 || eqb (first twelve fourteen fifteen seventeen (not free)) 18
+          ≡ eqb (first twelve fourteen fifteen seventeen false) 0
+      go true fourteen fifteen seventeen free = refl
+      go false true fifteen seventeen free = refl
+      go false false true seventeen free = refl
+      go false false false true free = refl
+      go false false false false true = refl
+      go false false false false false = refl
 
   -- at most one of the two commands would be accepted
   pub one-kind : canMerge r c d ≡ true → canFastForward r c d ≡ false
@@ -59,6 +94,13 @@ module _ (r : Room) (c d : ℕ) where
   unfolding pairNumber
   same-number e = rw (eq-eqb c d e)
 
+  -- two consoles can merge either way round
+  merge-either-way : canMerge r c d ≡ true → canMerge r d c ≡ true
+  unfolding stateTests firstRefusal
+  merge-either-way h =
+      let may = merge-asks h in
+      rw (may .take .giver, may .take .receiver, may .back, may .take .ahead, splits-either-way r c d (may .unsplit))
+
   -- a number of ten bits
   pair-small : c < consoleCount → d < consoleCount → pairNumber r c d < 1024
   unfolding pairNumber
@@ -75,6 +117,11 @@ module _ (r : Room) (c d : ℕ) where
       | inr m ↦ elim (decide (canFastForward r c d)) [ inl f ↦ inr f | inr f ↦ absurd (given (neither-number m f)) ]
     ],
   )
+
+-- a merge that can be made can be made the other way round, and that pair has a number too
+pub merge-not : (r : Room) (c d : ℕ) → (c ≡ d → ⊥) → pairNumber r d c ≡ 0 → canMerge r c d ≡ false
+merge-not r c d two none =
+    refuted _ (λ t. let number = merge-number r d c (λ e. two (sym e)) (merge-either-way r c d t) in absurd (omega arith))
 
 -- all pairs of a room
 module _ (r : Room) where

@@ -2,32 +2,36 @@
 -- Assumes nothing.
 use Prim.Native.Nat.{ℕ, _+_, _≤_, _<_}
 use mathlib.Core.Path.{_≡_, refl, sym, _∙_, ap}
-use mathlib.Core.Bool.{Bool, false, _||_}
+use mathlib.Core.Bool.{Bool, true, false}
 use native.Mathlib.Numerals.{add-one}
 use native.Mathlib.Omega.{arith}
 use native.Mathlib.Decide.{ℕ-discrete}
+use Rattle.laws.proofs.Logic.{or-none}
 use Rattle.graph.specs.Below.{someBelow, firstNonzero}
-use Rattle.graph.proofs.Below.{first-none, first-is}
+use Rattle.graph.proofs.Below.{some-of, first-none, first-is}
 use Rattle.command.specs.Code.{consoleCount}
 
--- For one that asks whether some of them passes a test: what it has found among those before n.
-pub record Found (f : ℕ → Bool) (n : ℕ) (found : Bool) : Type 0 where
+-- For one that asks whether some console passes a test, and stops where it does: none before n did.
+pub record Missed (f : ℕ → Bool) (n : ℕ) : Type 0 where
   pub within : n ≤ consoleCount
-  pub told : found ≡ someBelow n f
+  pub told : someBelow n f ≡ false
 
-pub found-none : (f : ℕ → Bool) → Found f 0 false
+pub missed-none : (f : ℕ → Bool) → Missed f 0
 unfolding someBelow
-found-none f = record { within = omega arith; told = refl }
+missed-none f = record { within = omega arith; told = refl }
 
-module _ {f : ℕ → Bool} {n : ℕ} {found : Bool} (o : Found f n found) where
-  pub found-again : {b : Bool} → n < consoleCount → b ≡ f n → Found f (n + 1) (found || b)
+module _ {f : ℕ → Bool} {n : ℕ} (o : Missed f n) where
+  pub missed-again : {b : Bool} → n < consoleCount → b ≡ f n → b ≡ false → Missed f (n + 1)
   unfolding someBelow
-  found-again l e = record { within = omega arith; told = rw (o .told, e, add-one) }
+  missed-again l e fails = record { within = omega arith; told = rw add-one (or-none _ _ (o .told) (sym e ∙ fails)) }
 
-  pub found-all : consoleCount ≤ n → found ≡ someBelow consoleCount f
-  found-all l = let w = o .within in let e : n ≡ consoleCount = omega arith in rw e at (o .told)
+  pub missed-found : {b : Bool} → n < consoleCount → b ≡ f n → b ≡ true → true ≡ someBelow consoleCount f
+  missed-found l e passes = sym (some-of consoleCount f n l (sym e ∙ passes))
 
--- For a loop over the consoles that stops at the first number that is not 0: there was none before n.
+  pub missed-all : consoleCount ≤ n → false ≡ someBelow consoleCount f
+  missed-all l = let w = o .within in let e : n ≡ consoleCount = omega arith in sym (rw e at (o .told))
+
+-- For one that stops at the first number that is not 0: there was none before n.
 pub record Passed (f : ℕ → ℕ) (n : ℕ) : Type 0 where
   pub within : n ≤ consoleCount
   pub none : (k : ℕ) → k < n → f k ≡ 0

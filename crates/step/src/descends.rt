@@ -37,9 +37,10 @@ pub fn some_other_descends(s: &[u8], c: Console) -> bool
     requires { ⌜ c .0 < consoleCount ⌝ }
     ensures { λ r. ⌜ r ≡ someOtherDescends (roomIn (now (s .entry))) (c .0) ⌝ }
 {
-    let mut found = false;
     for d in 0..CONSOLES {
-        found = found | other_descends(s, c, Console(d));
+        if other_descends(s, c, Console(d)) {
+            return true;
+        }
     }
-    found
+    false
 }

@@ -7,34 +7,40 @@ use query::head_of;
 use query::is_present;
 ghost use mathlib.Core.Path.{_≡_};
 ghost use mathlib.Core.Bool.{true};
-ghost use Prim.Native.Nat.{_<_};
+ghost use Prim.Native.Nat.{ℕ, _<_};
 ghost use Rattle.command.specs.Code.{consoleCount};
 ghost use Rattle.room.specs.Mergeable.{pairNumber, firstGiver, firstPair, agrees, headsAgree, mergeable};
 ghost use Rattle.store.specs.Layout.{roomIn, holdsStore};
 
-// The number of a pair for which a merge or a fast-forward would be accepted if versions were free; 0 for any other.
+// The number of a pair for which a merge or a fast-forward would be accepted if versions were free; 0 for any other. Two consoles can merge either
+// way round, so that a merge by the higher of the two is never the first, and is not asked for.
 fn pair_number(s: &[u8], receiver: Console, giver: Console) -> usize
     requires { ⌜ holdsStore (now s) ≡ true ⌝ }
     requires { ⌜ (receiver .0 < consoleCount) × (giver .0 < consoleCount) ⌝ }
+    requires { ⌜ (giver .0 < receiver .0 → pairNumber (roomIn (now s)) (giver .0) (receiver .0) ≡ 0) ⌝ }
     ensures { λ r. ⌜ r ≡ pairNumber (roomIn (now (s .entry))) (receiver .0) (giver .0) ⌝ }
 {
     if receiver.0 == giver.0 {
         return 0;
     }
     let pair = 16 * receiver.0 + giver.0;
-    if refusal_of(s, true, Command::Merge { receiver, giver }) == 0 {
-        return 256 * 2 + pair;
-    }
     if refusal_of(s, true, Command::FastForward { receiver, giver }) == 0 {
         return 256 * 3 + pair;
+    }
+    if giver.0 < receiver.0 {
+        return 0;
+    }
+    if refusal_of(s, true, Command::Merge { receiver, giver }) == 0 {
+        return 256 * 2 + pair;
     }
     0
 }
 
-// The number of the first pair with this receiver, or 0.
+// The number of the first pair with this receiver, or 0, where there is none with a lower one.
 fn first_giver(s: &[u8], receiver: Console) -> usize
     requires { ⌜ holdsStore (now s) ≡ true ⌝ }
     requires { ⌜ receiver .0 < consoleCount ⌝ }
+    requires { ⌜ ((e : ℕ) → e < receiver .0 → firstGiver (roomIn (now s)) e ≡ 0) ⌝ }
     ensures { λ r. ⌜ r ≡ firstGiver (roomIn (now (s .entry))) (receiver .0) ⌝ }
 {
     for giver in 0..CONSOLES {

@@ -14,12 +14,15 @@ ghost use Rattle.room.specs.Room.{present, common};
 ghost use Rattle.room.specs.Step.{apart, splits, someThirdSplits};
 ghost use Rattle.store.specs.Layout.{roomIn, holdsStore};
 
-// Whether neither of two versions is an ancestor of the other.
+// Whether neither of two versions is an ancestor of the other. Most commons that are asked about are one version: then no row is looked up.
 fn are_apart(s: &[u8], u: Version, v: Version) -> bool
     requires { ⌜ holdsStore (now s) ≡ true ⌝ }
     requires { ⌜ (u .0 < versionCount (roomIn (now s) .versions)) × (v .0 < versionCount (roomIn (now s) .versions)) ⌝ }
     ensures { λ r. ⌜ r ≡ apart (roomIn (now (s .entry))) (u .0) (v .0) ⌝ }
 {
+    if u.0 == v.0 {
+        return false;
+    }
     !is_ancestor(s, u, v) & !is_ancestor(s, v, u)
 }
 
@@ -59,9 +62,10 @@ pub fn some_third_splits(s: &[u8], c: Console, d: Console) -> bool
     requires { ⌜ (present (roomIn (now s)) (c .0) ≡ true) × (present (roomIn (now s)) (d .0) ≡ true) ⌝ }
     ensures { λ r. ⌜ r ≡ someThirdSplits (roomIn (now (s .entry))) (c .0) (d .0) ⌝ }
 {
-    let mut found = false;
     for k in 0..CONSOLES {
-        found = found | splits_at(s, c, d, k);
+        if splits_at(s, c, d, k) {
+            return true;
+        }
     }
-    found
+    false
 }

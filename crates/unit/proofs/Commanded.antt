@@ -2,16 +2,17 @@
 -- Assumes nothing.
 use Prim.Native.Nat.{ℕ, _<_}
 use mathlib.Core.Path.{_≡_, refl, sym, _∙_, ap}
-use mathlib.Core.Bool.{Bool, true, false}
+use mathlib.Core.Bool.{Bool, true, false, cond}
 use mathlib.Core.List.{List, []}
+use lib.Dec.{eqb}
 use Rattle.buffer.specs.Field.{overwrite}
-use Rattle.refusal.specs.Refusal.{firstRefusal}
+use Rattle.refusal.specs.Refusal.{firstRefusal, firstOf}
 use Rattle.command.specs.declared.Command.{Command}
 use Rattle.command.specs.declared.Decoded.{Decoded}
 use Rattle.command.specs.declared.Decoded.the-variants.{Whole, Refused}
-use Rattle.command.specs.Decode.{decode, refusalOf, commandBytes}
+use Rattle.command.specs.Decode.{commandRefusal, decode, refusalOf, commandBytes}
 use Rattle.command.specs.Decoding.{InRange}
-use Rattle.command.proofs.Ranges.{refused-told}
+use Rattle.command.proofs.Ranges.{commandIn, refused-told}
 use Rattle.command.proofs.Encoded.{bytes-decode}
 use Rattle.room.specs.Step.{versionFree, stateTests, stepRefusal, step, clashCount}
 use Rattle.store.specs.Layout.{encode, roomIn, holdsStore}
@@ -27,6 +28,18 @@ refused-as s d m n found told number = ap Refused (number ∙ ap refusalOf told)
 pub held-refused : (store : List ℕ) (c : Command) → holdsStore store ≡ true → firstRefusal (commandTests store c) ≡ stepRefusal (roomIn store) c
 unfolding firstRefusal stepRefusal
 held-refused store c h = rw h
+
+-- whatever its bytes, a command is answered by them, or else by the store
+pub answered-by : (store s : List ℕ)
+    → commandOutcome store s .reply .answer ≡ firstOf (commandRefusal s) (firstRefusal (commandTests store (commandIn s)))
+unfolding commandOutcome stepOutcome decode
+answered-by store s = go (eqb (commandRefusal s) 0)
+  where
+    go : (b : Bool)
+        → stepOutcome store (cond b (Whole (commandIn s)) (Refused (commandRefusal s))) .reply .answer
+        ≡ cond b (firstRefusal (commandTests store (commandIn s))) (commandRefusal s)
+    go true = refl
+    go false = refl
 
 -- a command in range on bytes that hold a store, which its room does not refuse
 pub carried-out : (store : List ℕ) (c : Command) → InRange c → holdsStore store ≡ true → stepRefusal (roomIn store) c ≡ 0

@@ -2,6 +2,7 @@
 -- Assumes nothing.
 use Prim.Native.Nat.{_-_}
 use native.Mathlib.Omega.{arith}
+use Rattle.graph.proofs.Below.{none-first}
 use Rattle.command.specs.Code.{consoleCount}
 use Rattle.room.specs.Mergeable.{pairNumber}
 use Rattle.store.specs.Layout.{roomIn}
@@ -16,7 +17,10 @@ abbrev μ-loop : tie.MeasureT-loop
 μ-loop s receiver giver₀ giver = consoleCount - giver
 
 pair-number-requires : tie.Need-pair-number-requires Inv-loop μ-loop
-pair-number-requires c κs = let start = c .before .before .before in (start .pre .0, omega arith)
+pair-number-requires c κs =
+    let start = c .before .before .before in
+    let a = start .args in
+    (start .pre .0, (omega arith, λ l. none-first consoleCount (pairNumber (roomIn (a .s .now)) (c .before .loop .giver)) (start .pre .1 .1 (c .before .loop .giver) l) (a .receiver .0) (omega arith)))
 
 returns : tie.Need-returns Inv-loop μ-loop
 returns c = passed-found (c .before .before .before .loop .inv) (omega arith) (c .before .pair-number .ensures) (omega arith)

@@ -16,7 +16,7 @@ abbrev μ-loop : tie.MeasureT-loop
 μ-loop s receiver₀ receiver = consoleCount - receiver
 
 first-giver-requires : tie.Need-first-giver-requires Inv-loop μ-loop
-first-giver-requires c κs = let start = c .before .before .before in (start .pre, omega arith)
+first-giver-requires c κs = let start = c .before .before .before in (start .pre, (omega arith, c .before .loop .inv .none))
 
 returns : tie.Need-returns Inv-loop μ-loop
 unfolding firstPair
