@@ -6,6 +6,7 @@ pub mod Matched
 pub mod Absent
 pub mod Leaving
 pub mod Clashes
+pub mod Mergeable
 pub mod Convergence
 pub mod Traced
 pub mod RoundTrip

@@ -30,9 +30,12 @@ abbrev pub Neither : List ℕ → ℕ → ℕ → Type 0
 Neither store c d = (mergesIfFree store c d ≡ false) × (fastForwards store c d ≡ false)
 
 -- "the first pair (receiver, then giver, both rising)": this command would be accepted, and neither for any pair before
+abbrev pub NeitherBefore : List ℕ → ℕ → ℕ → Type 0
+NeitherBefore store c d = (e f : ℕ) → (e < c) ⊎ ((e ≡ c) × (f < d)) → Neither store e f
+
 pub record First (accepts : List ℕ → ℕ → ℕ → Bool) (store : List ℕ) (c d : ℕ) : Type 0 where
   pub accepted : accepts store c d ≡ true
-  pub first : (e f : ℕ) → (e < c) ⊎ ((e ≡ c) × (f < d)) → Neither store e f
+  pub first : NeitherBefore store c d
 
 -- "of a console with itself: its head"; of an absent one there is none, and 12 is answered
 abbrev pub headReply : List ℕ → ℕ → Reply
