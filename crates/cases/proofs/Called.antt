@@ -26,6 +26,7 @@ use Rattle.command.proofs.Ranges.{decode-range}
 use Rattle.room.specs.Room.{Room, headOf, present, common, openSettings, fresh}
 use Rattle.room.specs.Sound.{soundRoom}
 use Rattle.room.specs.Origin.{origin}
+use Rattle.room.specs.Mergeable.{mergeable}
 use Rattle.room.specs.Step.{stepRefusal, step, clashCount}
 use Rattle.room.proofs.Sound.{present-console, sound-facts}
 use Rattle.room.proofs.Steps.{common-self, step-sound, fresh-sound}
@@ -33,7 +34,7 @@ use Rattle.store.specs.Layout.{storeSize, encode}
 use Rattle.store.proofs.RoundTrip.{encode-length, room-encode, holds-encode}
 use Rattle.tape.specs.Tape.{tapeOf}
 use Rattle.unit.specs.declared.Reply.{Reply}
-use Rattle.unit.specs.Calls.{Outcome, replied, written, openOutcome, stepOutcome, commandOutcome, pauseOutcome, commonReply, originReply, command, replyTo, storeAfter}
+use Rattle.unit.specs.Calls.{Outcome, replied, written, openOutcome, stepOutcome, commandOutcome, pauseOutcome, commonReply, originReply, mergeableReply, command, replyTo, storeAfter}
 use Rattle.unit.specs.Journal.{Journal, feed}
 use Rattle.unit.specs.Convergence.{afterCalls}
 use Rattle.unit.proofs.Answered.{origin-answered}
@@ -119,6 +120,11 @@ module _ (r : Room) (rest : List ℕ) (s : soundRoom r ≡ true) where
         here = rw (room-encode r rest s) p;
       })
 
+  -- which two can merge or fast-forward
+  pair-called : mergeableReply (encode r ++ rest) ≡ replied 0 (mergeable r)
+  unfolding mergeableReply firstRefusal
+  pair-called = rw (holds-encode r rest s, room-encode r rest s)
+
 -- a list of commands, one call after the other: the buffer afterwards, the replies, and the room
 module _ (rest : List ℕ) where
   made-called : (r : Room) → soundRoom r ≡ true → (cs : List (List ℕ)) (j : Journal)
@@ -151,6 +157,7 @@ called r rest commands s =
       paused = pause-called (made r commands) rest after;
       heads = head-called (made r commands) rest after;
       origins = origin-called (made r commands) rest after;
+      pair = pair-called (made r commands) rest after;
     }
 
 -- an opening gives such a buffer

@@ -2,7 +2,7 @@
 use mathlib.Core.Path.{_≡_, refl}
 use mathlib.Core.List.{map}
 use Rattle.board.specs.Board.{mergeFlag, mergeStrip, mergeStrips, enter}
-use Rattle.graph.specs.Below.{everyBelow, someBelow, highestBelow}
+use Rattle.graph.specs.Below.{everyBelow, someBelow, highestBelow, firstNonzero}
 use Rattle.graph.specs.Graph.{ancestor, isMeet, meet}
 use Rattle.refusal.specs.Refusal.{firstRefusal}
 use Rattle.command.specs.Code.{consoleCount, shapeOf, lengthOf, numberAt, operandsOf, isOperand, kindOf}
@@ -11,11 +11,12 @@ use Rattle.room.specs.Room.{common}
 use Rattle.room.specs.Boards.{boardMade, boardOf}
 use Rattle.room.specs.Origin.{originOf, origin}
 use Rattle.room.specs.Step.{stateTests, stepRefusal, step, clashCount}
+use Rattle.room.specs.Mergeable.{pairNumber, firstPair, headsAgree, mergeable}
 use Rattle.store.specs.Layout.{holdsStore}
-use Rattle.unit.specs.Calls.{originReply, stepOutcome, commandOutcome}
+use Rattle.unit.specs.Calls.{originReply, mergeableReply, stepOutcome, commandOutcome}
 use Rattle.tape.specs.Tape.{versionRecords, headRecords, tapeOf}
 use Rattle.cases.specs.Run.{Case, merge, forward, answerIn, countIn, roomAfter, made, replies, session}
-use Rattle.cases.specs.Requests.{originCases, leaveCases, everywhere, clashCases}
+use Rattle.cases.specs.Requests.{originCases, leaveCases, everywhere, clashCases, stuckCases, agreeCases, pairCases}
 use Rattle.cases.specs.Starred.{crossed, stuck, acceptedBy, accepted, starred}
 
 -- the stuck room takes no merge and no fast-forward: its own declarations, for the checker's bound on the steps of one
@@ -44,3 +45,15 @@ leaves-hold = refl
 pub clashes-hold : map (λ (c : Case). c .got) clashCases ≡ map (λ (c : Case). c .due) clashCases
 unfolding mergeFlag mergeStrip mergeStrips enter everyBelow someBelow highestBelow ancestor isMeet meet firstRefusal shapeOf lengthOf numberAt operandsOf isOperand kindOf commandRefusal decode common stateTests stepRefusal step clashCount boardMade boardOf answerIn countIn roomAfter made replies everywhere clashCases
 clashes-hold = refl
+
+pub stuck-holds : map (λ (c : Case). c .got) stuckCases ≡ map (λ (c : Case). c .due) stuckCases
+unfolding everyBelow someBelow highestBelow firstNonzero ancestor isMeet meet firstRefusal shapeOf lengthOf numberAt operandsOf isOperand kindOf commandRefusal decode common stateTests stepRefusal step pairNumber firstPair headsAgree mergeable answerIn roomAfter made stuck stuckCases
+stuck-holds = refl
+
+pub agree-hold : map (λ (c : Case). c .got) agreeCases ≡ map (λ (c : Case). c .due) agreeCases
+unfolding everyBelow someBelow highestBelow firstNonzero ancestor isMeet meet firstRefusal shapeOf lengthOf numberAt operandsOf isOperand kindOf commandRefusal decode common stateTests stepRefusal step pairNumber firstPair headsAgree mergeable answerIn roomAfter made agreeCases
+agree-hold = refl
+
+pub pairs-hold : map (λ (c : Case). c .got) pairCases ≡ map (λ (c : Case). c .due) pairCases
+unfolding everyBelow someBelow highestBelow firstNonzero ancestor isMeet meet firstRefusal shapeOf lengthOf numberAt operandsOf isOperand kindOf commandRefusal decode common stateTests stepRefusal step pairNumber firstPair headsAgree mergeable holdsStore mergeableReply answerIn roomAfter made replies crossed pairCases
+pairs-hold = refl

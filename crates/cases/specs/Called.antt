@@ -9,10 +9,11 @@ use Rattle.board.specs.Board.{stripCount, cellCount, cellOf}
 use Rattle.command.specs.Code.{consoleCount}
 use Rattle.room.specs.Room.{Room, headOf, present}
 use Rattle.room.specs.Origin.{origin}
+use Rattle.room.specs.Mergeable.{mergeable}
 use Rattle.store.specs.Layout.{encode}
 use Rattle.tape.specs.Tape.{tapeOf}
 use Rattle.unit.specs.declared.Reply.{Reply}
-use Rattle.unit.specs.Calls.{Call, command, replied, written, pauseOutcome, commonReply, originReply, replyTo, storeAfter}
+use Rattle.unit.specs.Calls.{Call, command, replied, written, pauseOutcome, commonReply, originReply, mergeableReply, replyTo, storeAfter}
 use Rattle.unit.specs.Journal.{Journal}
 use Rattle.unit.specs.Convergence.{afterCalls}
 use Rattle.cases.specs.Run.{made, replies}
@@ -39,3 +40,5 @@ pub record Called (r : Room) (rest : List ℕ) (commands : List (List ℕ)) : Ty
   -- where a cell of a present console comes from
   pub origins : (c k cell : ℕ) → present (made r commands) c ≡ true → k < stripCount → cell < cellCount
       → originReply (encode (made r commands) ++ rest) c k cell ≡ replied 0 (origin (made r commands) c k (cellOf cell))
+  -- which two can merge or fast-forward
+  pub pair : mergeableReply (encode (made r commands) ++ rest) ≡ replied 0 (mergeable (made r commands))

@@ -6,10 +6,12 @@ use lib.ListN.{replicate, getD}
 use Rattle.board.specs.Board.{stripCount, cellOf}
 use Rattle.room.specs.Room.{Room, fresh}
 use Rattle.room.specs.Origin.{origin, valueShown}
+use Rattle.room.specs.Mergeable.{mergeable}
 use Rattle.unit.specs.declared.Reply.{Reply}
 use Rattle.tape.specs.Tape.{tapeOf}
-use Rattle.unit.specs.Calls.{commandOutcome, originReply}
+use Rattle.unit.specs.Calls.{commandOutcome, originReply, mergeableReply}
 use Rattle.cases.specs.Run.{Case, _gives_, fork, level, heading, mark, call, alert, merge, forward, leave, made, answers, counts, nowhere, on, headsShown, session}
+use Rattle.cases.specs.Starred.{crossed, stuck}
 
 -- One: the origin of a cell, and the value shown there
 abbrev pub traced : Room → ℕ → ℕ → ℕ → List ℕ
@@ -110,4 +112,40 @@ clashCases =
     gives 0 ∷ 0 ∷ 0 ∷ 1 ∷ 0 ∷ 0 ∷ 0 ∷ [])
     -- every cell of the board, after 129 commands: l 0, a 1, b 256, and the other way round
     ∷ (getD (counts (fresh 256) (fork 1 0 ∷ everywhere 0 stripCount 1 256 (everywhere 1 stripCount 256 1 (merge 0 1 ∷ [])))) 129 0 ∷ [] gives 64 ∷ [])
+    ∷ []
+
+-- Four: 256 times the kind (0 all agree, 1 stuck, 2 merge, 3 fast-forward), and for a pair 16 times the receiver and the giver more
+abbrev pub pairIn : Room → List ℕ
+pairIn r = mergeable r ∷ []
+
+-- "the stuck room of document 01 is a case"
+unfoldable pub stuckCases : List Case
+stuckCases = (pairIn stuck gives 256 ∷ []) ∷ []
+
+-- all agree: one console alone, also in a full room; three that never left one head; two that came to one by a merge
+unfoldable pub agreeCases : List Case
+agreeCases =
+    (pairIn (fresh 64) ++ pairIn (fresh 1) gives 0 ∷ 0 ∷ [])
+    ∷ (pairIn (after (fork 1 0 ∷ fork 2 0 ∷ [])) gives 0 ∷ [])
+    ∷ (pairIn (after (fork 1 0 ∷ call 0 5 ∷ call 1 5 ∷ merge 0 1 ∷ forward 1 0 ∷ [])) gives 0 ∷ [])
+    ∷ []
+
+-- a pair
+unfoldable pub pairCases : List Case
+pairCases =
+    -- 0 from 1: a merge where both have entries; a fast-forward where only 1 has, though 1 and 2 could merge
+    (pairIn (after (fork 1 0 ∷ call 0 5 ∷ call 1 5 ∷ [])) gives 513 ∷ [])
+    ∷ (pairIn (after (fork 1 0 ∷ fork 2 0 ∷ call 1 5 ∷ call 2 5 ∷ [])) gives 769 ∷ [])
+    -- 2 from 0: heads 1, 1, 0; and 15 from 0, over consoles that are absent
+    ∷ (pairIn (after (fork 1 0 ∷ fork 2 0 ∷ call 0 5 ∷ forward 1 0 ∷ [])) gives 800 ∷ [])
+    ∷ (pairIn (after (fork 15 0 ∷ call 0 5 ∷ [])) gives 1008 ∷ [])
+    -- 0 from 1 is refused with 17, and 0 fast-forwards to 2
+    ∷ (pairIn crossed gives 770 ∷ [])
+    -- 1 leaves, and 0 fast-forwards to 2
+    ∷ (pairIn (after (fork 1 0 ∷ fork 2 0 ∷ leave 1 ∷ call 2 5 ∷ [])) gives 770 ∷ [])
+    -- a full room: the merge is refused with 18, and named
+    ∷ (answers (fresh 3) (fork 1 0 ∷ call 0 5 ∷ call 1 5 ∷ merge 0 1 ∷ []) ++ pairIn (made (fresh 3) (fork 1 0 ∷ call 0 5 ∷ call 1 5 ∷ []))
+    gives 0 ∷ 0 ∷ 0 ∷ 18 ∷ 513 ∷ [])
+    -- by the call itself, on bytes that hold no store
+    ∷ (replyShown (mergeableReply []) gives 11 ∷ 0 ∷ [])
     ∷ []

@@ -6,10 +6,11 @@ use mathlib.Core.Path.{_≡_, refl}
 use mathlib.Core.Logic.{inl, inr}
 use mathlib.Core.Bool.{Bool, true, false, cond, _&&_, _||_}
 use mathlib.Core.Option.{some, Option·getD}
+use native.Mathlib.Numerals.{add-one}
 use native.Mathlib.Omega.{arith}
 use native.Mathlib.Decide.{ℕ-discrete}
 use borrow.Author.Tests.{ne-eqb}
-use Rattle.laws.proofs.Logic.{clash, decide, and-l, and-r, and-i, and-rest, or-l, or-r, or-split}
+use Rattle.laws.proofs.Logic.{clash, decide, refuted, and-l, and-r, and-i, and-rest, or-l, or-r, or-split}
 use Rattle.graph.specs.Below.{everyBelow, someBelow, countBelow, highestBelow, firstNonzero}
 
 -- what holds below n and at n holds below n + 1
@@ -26,7 +27,14 @@ unfolding everyBelow
 of zero f h = refl
 of (suc n) f h = and-i (everyBelow n f) (f n) (of n f (λ k l. h k (omega arith))) (h n (omega arith))
 
--- where not all pass, there is one that does not
+pub every-more : (n : ℕ) (f : ℕ → Bool) → everyBelow n f ≡ true → f n ≡ true → everyBelow (n + 1) f ≡ true
+unfolding everyBelow
+every-more n f h t = rw add-one (and-i (everyBelow n f) (f n) h t)
+
+-- where one does not pass, not all do, and where not all do, there is one that does not
+pub every-fails : (n : ℕ) (f : ℕ → Bool) (k : ℕ) → k < n → f k ≡ false → everyBelow n f ≡ false
+every-fails n f k l e = refuted (everyBelow n f) (λ h. clash (at n f h k l) e)
+
 pub fails-at : (n : ℕ) (f : ℕ → Bool) → everyBelow n f ≡ false → (k : ℕ) × (k < n) × (f k ≡ false)
 unfolding everyBelow
 fails-at zero f h = clash refl h

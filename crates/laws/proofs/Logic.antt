@@ -45,12 +45,6 @@ pub and-rest : (a b : Bool) → a ≡ true → a && b ≡ false → b ≡ false
 and-rest true b p h = h
 and-rest false b p h = clash p refl
 
-pub and-swap : (a b : Bool) → a && b ≡ b && a
-and-swap true true = refl
-and-swap true false = refl
-and-swap false true = refl
-and-swap false false = refl
-
 pub and-both : (a b c : Bool) → a && (b && c) ≡ (a && b) && (a && c)
 and-both true b c = refl
 and-both false b c = refl

@@ -3,13 +3,13 @@
 use Prim.Native.Nat.{ℕ, _<_}
 use mathlib.Core.Path.{_≡_, refl, sym, _∙_, ap}
 use mathlib.Core.Logic.{_⊎_, inl, inr}
-use mathlib.Core.Bool.{Bool, true, false, cond, not, _||_}
+use mathlib.Core.Bool.{Bool, true, false, cond, not, _||_, and-comm}
 use mathlib.Core.List.{[], _∷_}
 use native.Mathlib.Omega.{arith}
 use native.Mathlib.Decide.{ℕ-discrete}
 use borrow.Author.Tests.{eqb-true, eq-eqb, ne-eqb, eqb-false, not-false}
 use lib.Dec.{eqb}
-use Rattle.laws.proofs.Logic.{clash, decide, either, refuted, and-swap, implies-i, implies-e, or-none-l, or-none-r}
+use Rattle.laws.proofs.Logic.{clash, decide, either, refuted, implies-i, implies-e, or-none-l, or-none-r}
 use Rattle.graph.specs.Graph.{ancestor}
 use Rattle.graph.proofs.Below.{at, of, fails-at, some-at, some-of, first-none, none-first, first-is, first-found}
 use Rattle.graph.proofs.Ancestor.{ancestor-self}
@@ -30,7 +30,7 @@ any-settings r settings = refl
 
 -- a third console that splits two splits them either way round
 apart-either-way : (r : Room) (u v : ℕ) → apart r u v ≡ apart r v u
-apart-either-way r u v = and-swap (not (ancestor (r .versions) u v)) (not (ancestor (r .versions) v u))
+apart-either-way r u v = and-comm (not (ancestor (r .versions) u v)) (not (ancestor (r .versions) v u))
 
 splits-either-way : (r : Room) (c d : ℕ) → someThirdSplits r c d ≡ false → someThirdSplits r d c ≡ false
 splits-either-way r c d h =

@@ -13,12 +13,11 @@ ghost use Rattle.room.specs.Mergeable.{pairNumber, firstGiver, firstPair, agree
 ghost use Rattle.store.specs.Layout.{roomIn, holdsStore};
 
 // The number of a pair for which a merge or a fast-forward would be accepted if versions were free; 0 for any other. Two consoles can merge either
-// way round, so that a merge by the higher of the two is never the first, and is not asked for.
+// way round, so that a merge by the higher of the two is not asked for: it counts only where there is none by the lower.
 fn pair_number(s: &[u8], receiver: Console, giver: Console) -> usize
     requires { ⌜ holdsStore (now s) ≡ true ⌝ }
     requires { ⌜ (receiver .0 < consoleCount) × (giver .0 < consoleCount) ⌝ }
-    requires { ⌜ (giver .0 < receiver .0 → pairNumber (roomIn (now s)) (giver .0) (receiver .0) ≡ 0) ⌝ }
-    ensures { λ r. ⌜ r ≡ pairNumber (roomIn (now (s .entry))) (receiver .0) (giver .0) ⌝ }
+    ensures { λ r. ⌜ ((giver .0 < receiver .0 → pairNumber (roomIn (now (s .entry))) (giver .0) (receiver .0) ≡ 0) → r ≡ pairNumber (roomIn (now (s .entry))) (receiver .0) (giver .0)) ⌝ }
 {
     if receiver.0 == giver.0 {
         return 0;
@@ -36,12 +35,11 @@ fn pair_number(s: &[u8], receiver: Console, giver: Console) -> usize
     0
 }
 
-// The number of the first pair with this receiver, or 0, where there is none with a lower one.
+// The number of the first pair with this receiver, or 0; it counts only where there is none with a lower one.
 fn first_giver(s: &[u8], receiver: Console) -> usize
     requires { ⌜ holdsStore (now s) ≡ true ⌝ }
     requires { ⌜ receiver .0 < consoleCount ⌝ }
-    requires { ⌜ ((e : ℕ) → e < receiver .0 → firstGiver (roomIn (now s)) e ≡ 0) ⌝ }
-    ensures { λ r. ⌜ r ≡ firstGiver (roomIn (now (s .entry))) (receiver .0) ⌝ }
+    ensures { λ r. ⌜ (((e : ℕ) → e < receiver .0 → firstGiver (roomIn (now (s .entry))) e ≡ 0) → r ≡ firstGiver (roomIn (now (s .entry))) (receiver .0)) ⌝ }
 {
     for giver in 0..CONSOLES {
         let number = pair_number(s, receiver, Console(giver));

@@ -1,8 +1,7 @@
--- The consoles one after the other: all so far are right, one more, one that fails, what a right console says of its head, and the
--- versions behind the heads.
+-- The consoles one after the other: what a right one says of its head, and the versions behind the heads.
 -- Assumes nothing.
 use mathlib.Core.Path.{_≡_, refl, ap}
-use mathlib.Core.Bool.{Bool, true, false, cond}
+use mathlib.Core.Bool.{true, cond}
 use mathlib.Core.List.{List}
 use Prim.Native.Nat.{ℕ, pred, _+_, _*_, _≤_, _<_}
 use native.Mathlib.Numerals.{add-one}
@@ -10,21 +9,13 @@ use native.Mathlib.Omega.{arith}
 use lib.Dec.{eqb, leb}
 use lib.ListN.{length}
 use borrow.Author.Tests.{leb-true}
-use Rattle.laws.proofs.Logic.{clash, refuted, and-l, and-i}
+use Rattle.laws.proofs.Logic.{and-l}
 use Rattle.buffer.specs.Field.{zeros, part}
 use Rattle.buffer.specs.Row.{union}
 use Rattle.graph.specs.Below.{everyBelow}
 use Rattle.graph.proofs.Below.{at}
 use Rattle.store.specs.Layout.{headerSize, nodeSize, rowSize, blockSize, rowAt}
 use Rattle.store.specs.Check.{rowPart, commonIn, pairRight, consoleRight, behindHeads}
-
-module _ (f : ℕ → Bool) where
-  pub every-more : (k : ℕ) → everyBelow k f ≡ true → f k ≡ true → everyBelow (k + 1) f ≡ true
-  unfolding everyBelow
-  every-more k h e = rw add-one (and-i (everyBelow k f) (f k) h e)
-
-  pub every-fails : (n k : ℕ) → k < n → f k ≡ false → everyBelow n f ≡ false
-  every-fails n k l e = refuted (everyBelow n f) (λ h. clash (at n f h k l) e)
 
 -- the heads of the consoles that are right are versions
 pub heads-versions : (s : List ℕ) (n c : ℕ) → everyBelow c (consoleRight s n) ≡ true → (k : ℕ) → k < c → commonIn s k k ≤ n

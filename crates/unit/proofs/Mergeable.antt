@@ -2,14 +2,14 @@
 -- Assumes nothing.
 use Prim.Native.Nat.{ℕ, _<_}
 use mathlib.Core.Path.{_≡_, refl, sym, _∙_, ap, ap₂, subst}
-use mathlib.Core.Logic.{_⊎_, inl, inr}
+use mathlib.Core.Logic.{inl, inr}
 use mathlib.Core.Bool.{Bool, true, false, cond, not, _&&_, _||_, and-false}
-use mathlib.Core.List.{List, [], _∷_, _++_}
+use mathlib.Core.List.{List, [], _∷_}
 use native.Mathlib.Omega.{arith}
 use native.Mathlib.Decide.{ℕ-discrete}
-use borrow.Author.Tests.{eqb-true, eq-eqb, ne-eqb, eqb-false, ltb-true, lt-ltb, not-false}
+use borrow.Author.Tests.{eqb-true, ne-eqb, eqb-false, ltb-true, lt-ltb, not-false}
 use lib.Dec.{eqb}
-use Rattle.laws.proofs.Logic.{clash, decide, refuted, and-l, and-r, and-i, and-rest, or-none-l, or-none-r}
+use Rattle.laws.proofs.Logic.{decide, refuted, and-l, and-r, and-i, and-rest, or-none-l, or-none-r}
 use Rattle.refusal.specs.Refusal.{_when_, firstRefusal, firstOf}
 use Rattle.refusal.proofs.Refusals.{none-applies}
 use Rattle.command.specs.Code.{consoleCount, mergeCommand, fastForwardCommand, kindOf, shapeOf, lengthOf, operandsOf, numberAt, isConsole}
@@ -19,7 +19,7 @@ use Rattle.room.specs.Step.{versionFree, mergeTests, fastForwardTests, stateTes
 use Rattle.room.specs.Mergeable.{Verdict, allAgree, stuck, merge, fastForward, numberOf, canMerge, canFastForward, pairNumber, firstPair, headsAgree, mergeable}
 use Rattle.room.proofs.Sound.{Sound}
 use Rattle.room.proofs.Steps.{common-self}
-use Rattle.room.proofs.Mergeable.{eighteen-last, one-kind, merge-number, forward-number, neither-number, same-number, numbered-by, no-pair, none-paired, NoneBefore, pair-first, pair-found, pair-answered, none-answered, agree-heads, heads-agree, other-head, agree-none}
+use Rattle.room.proofs.Mergeable.{eighteen-last, one-kind, merge-number, forward-number, neither-number, same-number, numbered-by, no-pair, none-paired, pair-first, pair-found, pair-answered, none-answered, agree-heads, heads-agree, other-head, agree-none}
 use Rattle.store.specs.Layout.{roomIn, holdsStore}
 use Rattle.store.proofs.Whole.{whole-sound}
 use Rattle.unit.specs.declared.Reply.{Reply}

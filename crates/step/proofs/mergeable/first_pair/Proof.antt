@@ -16,14 +16,14 @@ abbrev μ-loop : tie.MeasureT-loop
 μ-loop s receiver₀ receiver = consoleCount - receiver
 
 first-giver-requires : tie.Need-first-giver-requires Inv-loop μ-loop
-first-giver-requires c κs = let start = c .before .before .before in (start .pre, (omega arith, c .before .loop .inv .none))
+first-giver-requires c κs = let start = c .before .before .before in (start .pre, omega arith)
 
 returns : tie.Need-returns Inv-loop μ-loop
 unfolding firstPair
-returns c = passed-found (c .before .before .before .loop .inv) (omega arith) (c .before .first-giver .ensures) (omega arith)
+returns c = passed-found (c .before .before .before .loop .inv) (omega arith) (c .before .first-giver .ensures (c .before .before .before .loop .inv .none)) (omega arith)
 
 loop-again : tie.Need-loop-again Inv-loop μ-loop
-loop-again c = passed-again (c .before .before .before .loop .inv) (omega arith) (c .before .first-giver .ensures) (omega arith)
+loop-again c = passed-again (c .before .before .before .loop .inv) (omega arith) (c .before .first-giver .ensures (c .before .before .before .loop .inv .none)) (omega arith)
 
 returns-2 : tie.Need-returns-2 Inv-loop μ-loop
 unfolding firstPair

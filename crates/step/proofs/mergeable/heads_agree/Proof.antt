@@ -6,10 +6,10 @@ use mathlib.Core.Bool.{true}
 use native.Mathlib.Omega.{arith}
 use borrow.Author.Tests.{not-true, not-false}
 use Rattle.graph.specs.Below.{everyBelow}
+use Rattle.graph.proofs.Below.{every-more, every-fails}
 use Rattle.command.specs.Code.{consoleCount}
 use Rattle.room.specs.Mergeable.{agrees, headsAgree}
 use Rattle.store.specs.Layout.{roomIn}
-use Rattle.store.proofs.Heads.{every-more, every-fails}
 use Rattle.step.proofs.mergeable.heads_agree.Statement.{statement}
 use Rattle.step.proofs.mergeable.heads_agree.Tie as tie
 
@@ -31,13 +31,13 @@ unfolding headsAgree
 returns c =
     let w = c .before .before .before in
     let a = w .before .before .args in
-    sym (every-fails (agrees (roomIn (a .s .now))) consoleCount (w .loop .c) (omega arith) (sym (c .before .agrees .ensures) ∙ not-true (c .before .agrees .result) (c .if1 .taken)))
+    sym (every-fails consoleCount (agrees (roomIn (a .s .now))) (w .loop .c) (omega arith) (sym (c .before .agrees .ensures) ∙ not-true (c .before .agrees .result) (c .if1 .taken)))
 
 loop-again : tie.Need-loop-again Inv-loop μ-loop
 loop-again c =
     let w = c .before .before .before in
     let a = w .before .before .args in
-    (omega arith, every-more (agrees (roomIn (a .s .now))) (w .loop .c) (w .loop .inv .1) (sym (c .before .agrees .ensures) ∙ not-false (c .before .agrees .result) (c .if1 .left)))
+    (omega arith, every-more (w .loop .c) (agrees (roomIn (a .s .now))) (w .loop .inv .1) (sym (c .before .agrees .ensures) ∙ not-false (c .before .agrees .result) (c .if1 .left)))
 
 returns-2 : tie.Need-returns-2 Inv-loop μ-loop
 unfolding headsAgree

@@ -6,8 +6,8 @@ use mathlib.Core.Bool.{true, false}
 use native.Mathlib.Omega.{arith}
 use borrow.Author.Tests.{lt-leb, le-leb, not-true, not-false}
 use Rattle.graph.specs.Below.{everyBelow}
+use Rattle.graph.proofs.Below.{every-more, every-fails}
 use Rattle.store.specs.Check.{commonIn, pairRight, consoleRight}
-use Rattle.store.proofs.Heads.{every-more, every-fails}
 use Rattle.store.proofs.consoles.console_right.Statement.{statement}
 use Rattle.store.proofs.consoles.console_right.Tie as tie
 
@@ -38,7 +38,7 @@ returns-2 c =
     let a = w .before .before .before .before .before .args in
     let f = pairRight (a .s .now) (a .n) (a .c .0) in
     let e : f (w .loop .d) ≡ false = sym (c .before .pair-right .ensures) ∙ not-true (c .before .pair-right .result) (c .if2 .taken) in
-    rw (le-leb (commonIn (a .s .now) (a .c .0) (a .c .0)) (a .n) (omega arith), every-fails f (a .c .0) (w .loop .d) (omega arith) e)
+    rw (le-leb (commonIn (a .s .now) (a .c .0) (a .c .0)) (a .n) (omega arith), every-fails (a .c .0) f (w .loop .d) (omega arith) e)
 
 loop-again : tie.Need-loop-again Inv-loop μ-loop
 loop-again c =
@@ -46,7 +46,7 @@ loop-again c =
     let a = w .before .before .before .before .before .args in
     let f = pairRight (a .s .now) (a .n) (a .c .0) in
     let e : f (w .loop .d) ≡ true = sym (c .before .pair-right .ensures) ∙ not-false (c .before .pair-right .result) (c .if2 .left) in
-    (omega arith, every-more f (w .loop .d) (w .loop .inv .1) e)
+    (omega arith, every-more (w .loop .d) f (w .loop .inv .1) e)
 
 returns-3 : tie.Need-returns-3 Inv-loop μ-loop
 unfolding consoleRight

@@ -6,9 +6,10 @@ use mathlib.Core.Bool.{true, false}
 use native.Mathlib.Omega.{arith}
 use borrow.Author.Tests.{not-true, not-false}
 use Rattle.graph.specs.Below.{everyBelow}
+use Rattle.graph.proofs.Below.{every-more, every-fails}
 use Rattle.command.specs.Code.{consoleCount}
 use Rattle.store.specs.Check.{consoleRight}
-use Rattle.store.proofs.Heads.{every-more, every-fails, heads-versions}
+use Rattle.store.proofs.Heads.{heads-versions}
 use Rattle.store.proofs.consoles.consoles_right.Statement.{statement}
 use Rattle.store.proofs.consoles.consoles_right.Tie as tie
 
@@ -34,7 +35,7 @@ returns c =
     let a = w .before .before .args in
     let f = consoleRight (a .s .now) (a .n) in
     let e : f (w .loop .c) ≡ false = sym (c .before .console-right .ensures) ∙ not-true (c .before .console-right .result) (c .if1 .taken) in
-    sym (every-fails f consoleCount (w .loop .c) (omega arith) e)
+    sym (every-fails consoleCount f (w .loop .c) (omega arith) e)
 
 loop-again : tie.Need-loop-again Inv-loop μ-loop
 loop-again c =
@@ -42,7 +43,7 @@ loop-again c =
     let a = w .before .before .args in
     let f = consoleRight (a .s .now) (a .n) in
     let e : f (w .loop .c) ≡ true = sym (c .before .console-right .ensures) ∙ not-false (c .before .console-right .result) (c .if1 .left) in
-    (omega arith, every-more f (w .loop .c) (w .loop .inv .1) e)
+    (omega arith, every-more (w .loop .c) f (w .loop .inv .1) e)
 
 returns-2 : tie.Need-returns-2 Inv-loop μ-loop
 returns-2 c =
