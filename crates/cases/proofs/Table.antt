@@ -1,6 +1,7 @@
 -- The theorems of the tables: what the definitions give is what the paper and the requests say, by computation.
-use mathlib.Core.Path.{_≡_, refl}
-use mathlib.Core.List.{map}
+use Prim.Native.Nat.{ℕ}
+use mathlib.Core.Path.{_≡_, refl, ap}
+use mathlib.Core.List.{[], _∷_, map}
 use Rattle.board.specs.Board.{mergeFlag, mergeStrip, mergeStrips, enter}
 use Rattle.graph.specs.Below.{everyBelow, someBelow, highestBelow, firstNonzero}
 use Rattle.graph.specs.Graph.{ancestor, isMeet, meet}
@@ -46,9 +47,14 @@ pub clashes-hold : map (λ (c : Case). c .got) clashCases ≡ map (λ (c : Case)
 unfolding mergeFlag mergeStrip mergeStrips enter everyBelow someBelow highestBelow ancestor isMeet meet firstRefusal shapeOf lengthOf numberAt operandsOf isOperand kindOf commandRefusal decode common stateTests stepRefusal step clashCount boardMade boardOf answerIn countIn roomAfter made replies everywhere clashCases
 clashes-hold = refl
 
+-- the stuck room has no pair: its own declaration, for the same bound
+stuck-pair : mergeable stuck ≡ 256
+unfolding everyBelow someBelow highestBelow firstNonzero ancestor isMeet meet firstRefusal shapeOf lengthOf numberAt operandsOf isOperand kindOf commandRefusal decode common stateTests stepRefusal step pairNumber firstPair headsAgree mergeable answerIn roomAfter made stuck
+stuck-pair = refl
+
 pub stuck-holds : map (λ (c : Case). c .got) stuckCases ≡ map (λ (c : Case). c .due) stuckCases
-unfolding everyBelow someBelow highestBelow firstNonzero ancestor isMeet meet firstRefusal shapeOf lengthOf numberAt operandsOf isOperand kindOf commandRefusal decode common stateTests stepRefusal step pairNumber firstPair headsAgree mergeable answerIn roomAfter made stuck stuckCases
-stuck-holds = refl
+unfolding stuckCases
+stuck-holds = ap (λ (n : ℕ). (n ∷ []) ∷ []) stuck-pair
 
 pub agree-hold : map (λ (c : Case). c .got) agreeCases ≡ map (λ (c : Case). c .due) agreeCases
 unfolding everyBelow someBelow highestBelow firstNonzero ancestor isMeet meet firstRefusal shapeOf lengthOf numberAt operandsOf isOperand kindOf commandRefusal decode common stateTests stepRefusal step pairNumber firstPair headsAgree mergeable answerIn roomAfter made agreeCases
