@@ -3,8 +3,8 @@
 use crate::layout;
 use crate::model::{
     capacity_is_in_range, cell_origin, command_length, common_version, console_board, decode,
-    heard_count, meeting, refusal, refuse_if, reported, room_of_tape, sound_boards, step, tape_of,
-    Ancestry, Cell, Meeting, Room, CONSOLES, STRIPS,
+    heard_count, refusal, refuse_if, reported, room_of_tape, sound_boards, step, tape_of, verdict,
+    Ancestry, Cell, Room, Verdict, CONSOLES, STRIPS,
 };
 
 /// The answer is 0 or the refusal; the count is the question's number, the bytes written or the clashes of a merge, else 0.
@@ -30,9 +30,9 @@ impl Reply {
     }
 
     /// What a reply to the question which two can meet says; nothing for a refusal.
-    pub fn meeting(self) -> Option<Meeting> {
+    pub fn verdict(self) -> Option<Verdict> {
         match self.answer {
-            0 => Meeting::of_number(self.count),
+            0 => Verdict::of_number(self.count),
             _ => None,
         }
     }
@@ -77,7 +77,7 @@ pub fn origin(store: &[u8], console: u32, strip: u32, cell: u32) -> Reply {
 }
 
 pub fn mergeable(store: &[u8]) -> Reply {
-    Reply::of(room_in(store).map(|room| meeting(&room).number()))
+    Reply::of(room_in(store).map(|room| verdict(&room).number()))
 }
 
 // ---------------------------------------------------------------- what they are made of

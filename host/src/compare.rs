@@ -7,11 +7,11 @@ use crate::calls::Reply;
 use crate::gen;
 use crate::implementations::{Calls, MODEL};
 use crate::layout::{self, store_bytes, BOARD_BYTES};
-use crate::meetings;
 use crate::model::{
-    code, decode, record, refusal, room_of_tape, step, tape_of, Meeting, Room, CONSOLES, STRIPS,
+    code, decode, record, refusal, room_of_tape, step, tape_of, Room, Verdict, CONSOLES, STRIPS,
 };
 use crate::rng::Rng;
+use crate::verdicts;
 use std::collections::BTreeMap;
 use std::fmt;
 use std::iter::repeat_n;
@@ -293,16 +293,16 @@ impl Tally {
     }
 
     /// Counts an answer which two can meet, in a room that is full or not.
-    fn note_meeting(&mut self, meeting: Meeting, is_full: bool) {
-        let figure = match meeting {
-            Meeting::AllAgree => Figure::AllAgree,
-            Meeting::Stuck => Figure::Stuck,
-            Meeting::Merge { receiver, .. } => {
+    fn note_verdict(&mut self, verdict: Verdict, is_full: bool) {
+        let figure = match verdict {
+            Verdict::AllAgree => Figure::AllAgree,
+            Verdict::Stuck => Figure::Stuck,
+            Verdict::Merge { receiver, .. } => {
                 self.note_receiver(receiver);
                 self.count(Figure::MergeNamedInFullRoom, is_full.into());
                 Figure::MergeNamed
             }
-            Meeting::FastForward { receiver, .. } => {
+            Verdict::FastForward { receiver, .. } => {
                 self.note_receiver(receiver);
                 Figure::FastForwardNamed
             }
@@ -561,12 +561,12 @@ impl Comparison {
     }
 
     /// Which two can meet in a sound store, and that the commands bear it out.
-    fn meeting(&mut self, pair: &mut Pair) -> Outcome<()> {
+    fn verdict(&mut self, pair: &mut Pair) -> Outcome<()> {
         self.call(Call::Mergeable, pair)?;
         let store = pair.tested.store.lent();
-        let meeting = meetings::check(&self.tested, store)
+        let verdict = verdicts::check(&self.tested, store)
             .map_err(|difference| self.story(Call::Mergeable, pair, &difference))?;
-        self.tally.note_meeting(meeting, meetings::is_full(store));
+        self.tally.note_verdict(verdict, verdicts::is_full(store));
         Ok(())
     }
 
@@ -691,11 +691,11 @@ impl<'a> Session<'a> {
     }
 
     /// Steps after each of which it is asked which two can meet.
-    fn run_meetings(&mut self, steps: usize) -> Outcome<()> {
-        self.comparison.meeting(&mut self.pair)?;
+    fn run_verdicts(&mut self, steps: usize) -> Outcome<()> {
+        self.comparison.verdict(&mut self.pair)?;
         for _ in 0..steps {
             self.step()?;
-            self.comparison.meeting(&mut self.pair)?;
+            self.comparison.verdict(&mut self.pair)?;
         }
         Ok(())
     }
@@ -790,7 +790,7 @@ impl<'a> Session<'a> {
         self.comparison.call(Call::Heard { console: first }, pair)?;
         self.comparison.call(Call::Common { first, second }, pair)?;
         self.comparison.call(some_origin(&mut self.rng), pair)?;
-        self.comparison.meeting(pair)?;
+        self.comparison.verdict(pair)?;
         self.ask_origins()
     }
 
@@ -924,7 +924,7 @@ fn compare_tapes(comparison: &mut Comparison, rng: &mut Rng, count: usize) -> Ou
         if comparison.resume(&mut pair, &tape)?.answer == 0 {
             let strip = gen::some_strip(rng).into();
             comparison.origins(&mut pair, &[0, 1], &[strip], &CELLS)?;
-            comparison.meeting(&mut pair)?;
+            comparison.verdict(&mut pair)?;
             comparison.any_call(rng, &mut pair)?;
             comparison.output_call(rng, Call::Pause, &mut pair, tape.len())?;
         }
@@ -1196,14 +1196,14 @@ fn compare_long_walks(comparison: &mut Comparison) -> Outcome<()> {
 }
 
 /// Which two can meet in the largest rooms in which no two can.
-fn compare_full_meetings(comparison: &mut Comparison) -> Outcome<()> {
+fn compare_full_verdicts(comparison: &mut Comparison) -> Outcome<()> {
     let rooms = [
         gen::agreeing_room(1024),
         gen::stuck_room(1024),
         gen::stuck_apart_room(1024),
     ];
     for room in rooms {
-        comparison.meeting(&mut Pair::of_store(&layout::encode(&room)))?;
+        comparison.verdict(&mut Pair::of_store(&layout::encode(&room)))?;
     }
     Ok(())
 }
@@ -1259,7 +1259,7 @@ fn compare_paper_rooms(comparison: &mut Comparison, rng: &mut Rng) -> Outcome<()
         let mut pair = comparison.opened(rng, capacity, store_bytes(capacity as usize))?;
         comparison.commands(&mut pair, commands)?;
         compare_next_commands(comparison, &pair)?;
-        comparison.meeting(&mut pair)?;
+        comparison.verdict(&mut pair)?;
         comparison.all_calls(rng, &mut pair)?;
     }
     Ok(())
@@ -1395,7 +1395,7 @@ fn sessions_that_clash(comparison: &mut Comparison, rng: &mut Rng) -> Outcome<()
 fn sessions_from_stuck_rooms(comparison: &mut Comparison, rng: &mut Rng) -> Outcome<()> {
     for _ in 0..3 {
         let room = gen::some_stuck_room(rng);
-        resumed_session(comparison, rng, room)?.run_meetings(12)?;
+        resumed_session(comparison, rng, room)?.run_verdicts(12)?;
     }
     Ok(())
 }
@@ -1407,7 +1407,7 @@ fn fixed_cases(comparison: &mut Comparison, rng: &mut Rng) -> Outcome<()> {
     compare_edges(comparison, rng)?;
     compare_long_tapes(comparison, rng)?;
     compare_long_walks(comparison)?;
-    compare_full_meetings(comparison)?;
+    compare_full_verdicts(comparison)?;
     for clashes in 0..=gen::VALUES {
         compare_clashes(comparison, rng, clashes)?;
     }

@@ -72,7 +72,7 @@ pub fn origin(store: &[u8], console: u32, strip: u32, cell: u32) -> Reply {
 }
 
 pub fn mergeable(store: &[u8]) -> Reply {
-    Reply::of(find_meeting(store))
+    Reply::of(find_pair(store))
 }
 
 // ---------------------------------------------------------------- fields
@@ -578,10 +578,10 @@ const MERGE: usize = 512;
 const FAST_FORWARD: usize = 768;
 
 /// The number of the first pair that can meet, or of there being none.
-fn find_meeting(store: &[u8]) -> Result<usize, u32> {
+fn find_pair(store: &[u8]) -> Result<usize, u32> {
     let (header, blocks) = sound_parts(store)?;
     let (lowest, heads) = lowest_on_each_head(header);
-    let mut search = MeetingSearch {
+    let mut search = PairSearch {
         header,
         blocks,
         consoles: &lowest[..heads],
@@ -613,7 +613,7 @@ fn lowest_on_each_head(header: &Header) -> ([usize; CONSOLES], usize) {
 }
 
 /// A search among consoles no two of which are on one head.
-struct MeetingSearch<'a> {
+struct PairSearch<'a> {
     header: &'a Header,
     blocks: &'a [Block],
     consoles: &'a [usize],
@@ -621,7 +621,7 @@ struct MeetingSearch<'a> {
     in_the_way: usize,
 }
 
-impl MeetingSearch<'_> {
+impl PairSearch<'_> {
     /// The number of the first pair that can meet.
     fn first(&mut self) -> Option<usize> {
         self.consoles.iter().find_map(|&receiver| {

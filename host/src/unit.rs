@@ -93,7 +93,7 @@ pub fn origin(store: &[u8], console: u32, strip: u32, cell: u32) -> Reply {
     unsafe { room_origin(store.as_ptr(), store.len(), console, strip, cell) }
 }
 
-/// Which two can meet; `Reply::meeting` says it in words.
+/// Which two can meet; `Reply::verdict` takes the number apart.
 pub fn mergeable(store: &[u8]) -> Reply {
     unsafe { room_mergeable(store.as_ptr(), store.len()) }
 }

@@ -6,7 +6,7 @@ use room_host::compare::{compare, seed, Effort};
 use room_host::fast;
 use room_host::implementations::{Calls, FAST, UNIT};
 use room_host::rng::Rng;
-use room_host::{gen, layout, meetings};
+use room_host::{gen, layout, verdicts};
 use std::ops::RangeInclusive;
 
 const EFFORT: Effort = Effort {
@@ -234,7 +234,7 @@ fn a_wrong_pair_is_not_borne_out() {
     let rooms = [gen::random_rooms(29, 60), stuck].concat();
     let stores: Vec<Vec<u8>> = rooms.iter().map(layout::encode).collect();
     let is_disproved = |calls: &Calls| {
-        let mut checks = stores.iter().map(|store| meetings::check(calls, store));
+        let mut checks = stores.iter().map(|store| verdicts::check(calls, store));
         checks.any(|check| check.is_err())
     };
     for (name, mergeable) in MISNAMED {

@@ -3,8 +3,8 @@
 use room_host::gen;
 use room_host::layout::{self, encode};
 use room_host::model::{
-    cell_origin, decode, meeting, parents, reported, room_of_tape, sound, sound_boards, step,
-    tape_of, Ancestry, Board, Cell, Command, Entry, Meeting, Room, Version, Worked, CONSOLES,
+    cell_origin, decode, parents, reported, room_of_tape, sound, sound_boards, step, tape_of,
+    verdict, Ancestry, Board, Cell, Command, Entry, Room, Verdict, Version, Worked, CONSOLES,
     STRIPS,
 };
 use room_host::rng::Rng;
@@ -426,11 +426,11 @@ fn clashing_rooms_have_so_many_clashes() {
 
 /// What two of these consoles can do, told by the sets of their heads' ancestors alone. The ancestors that two heads share are those of
 /// their common version, so of a third one's two common versions one is behind the other where one shared set is within the other.
-fn meeting_by_sets(
+fn verdict_by_sets(
     heads: &[(usize, BTreeSet<usize>)],
     one: usize,
     other: usize,
-) -> Option<Meeting> {
+) -> Option<Verdict> {
     let ((receiver, taking), (giver, giving)) = (&heads[one], &heads[other]);
     let (receiver, giver) = (*receiver, *giver);
     let is_torn = |(_, third): &(usize, BTreeSet<usize>)| {
@@ -440,16 +440,16 @@ fn meeting_by_sets(
     if giving.is_subset(taking) {
         None
     } else if taking.is_subset(giving) {
-        Some(Meeting::FastForward { receiver, giver })
+        Some(Verdict::FastForward { receiver, giver })
     } else if heads.iter().any(is_torn) {
         None
     } else {
-        Some(Meeting::Merge { receiver, giver })
+        Some(Verdict::Merge { receiver, giver })
     }
 }
 
-/// All the meetings of a room, the giver changing faster.
-fn meetings_by_sets(room: &Room) -> Vec<Meeting> {
+/// All the verdicts of a room, the giver changing faster.
+fn verdicts_by_sets(room: &Room) -> Vec<Verdict> {
     let sets = ancestor_sets(room);
     let present = room.present().into_iter();
     let heads: Vec<(usize, BTreeSet<usize>)> = present
@@ -457,27 +457,27 @@ fn meetings_by_sets(room: &Room) -> Vec<Meeting> {
         .collect();
     let pairs = (0..heads.len()).flat_map(|one| (0..heads.len()).map(move |other| (one, other)));
     pairs
-        .filter_map(|(one, other)| meeting_by_sets(&heads, one, other))
+        .filter_map(|(one, other)| verdict_by_sets(&heads, one, other))
         .collect()
 }
 
-/// The first of all meetings is answered; where there is none, whether there is one head. Since of two that can merge each can be the
+/// The first of all verdicts is answered; where there is none, whether there is one head. Since of two that can merge each can be the
 /// receiver, the first pair that merges has the lower console for it.
 #[test]
-fn meetings_agree_with_a_second_telling() {
+fn verdicts_agree_with_a_second_telling() {
     let mut rng = Rng::new(25);
     let stuck = (0..30).map(|_| gen::some_stuck_room(&mut rng)).collect();
     let mut met = [0; 4];
     for room in [gen::random_rooms(26, 300), stuck].concat() {
-        let found = meeting(&room);
+        let found = verdict(&room);
         let heads = BTreeSet::from_iter(room.present_heads());
-        let due = match (meetings_by_sets(&room).first(), heads.len()) {
+        let due = match (verdicts_by_sets(&room).first(), heads.len()) {
             (Some(&first), _) => first,
-            (None, 1) => Meeting::AllAgree,
-            (None, _) => Meeting::Stuck,
+            (None, 1) => Verdict::AllAgree,
+            (None, _) => Verdict::Stuck,
         };
         assert_eq!(found, due, "{room:?}");
-        if let Meeting::Merge { receiver, giver } = found {
+        if let Verdict::Merge { receiver, giver } = found {
             assert!(receiver < giver, "{room:?}");
         }
         met[found.number() / 256] += 1;
@@ -487,15 +487,15 @@ fn meetings_agree_with_a_second_telling() {
 
 /// The number that stands for an answer is its number. There are two answers without a pair, and two for each pair.
 #[test]
-fn numbers_of_meetings() {
-    let mut meetings = 0;
+fn numbers_of_verdicts() {
+    let mut verdicts = 0;
     for number in 0..2000 {
-        if let Some(meeting) = Meeting::of_number(number) {
-            assert_eq!(meeting.number(), number as usize);
-            meetings += 1;
+        if let Some(verdict) = Verdict::of_number(number) {
+            assert_eq!(verdict.number(), number as usize);
+            verdicts += 1;
         }
     }
-    assert_eq!(meetings, 2 + 2 * 16 * 15);
+    assert_eq!(verdicts, 2 + 2 * 16 * 15);
 }
 
 /// How many of the 240 pairs of two consoles have this answer to a merge.
@@ -512,16 +512,16 @@ fn merges_with(room: &Room, due: u32) -> usize {
 #[test]
 fn rooms_in_which_no_two_can_meet() {
     let rooms = [
-        (gen::agreeing_room(64), Meeting::AllAgree, 240),
+        (gen::agreeing_room(64), Verdict::AllAgree, 240),
         // 8, 4 and 4 consoles on a head.
-        (gen::stuck_room(64), Meeting::Stuck, 8 * 7 + 2 * 4 * 3),
-        (gen::stuck_apart_room(128), Meeting::Stuck, 0),
+        (gen::stuck_room(64), Verdict::Stuck, 8 * 7 + 2 * 4 * 3),
+        (gen::stuck_apart_room(128), Verdict::Stuck, 0),
     ];
     for (room, answer, on_one_head) in rooms {
         assert!(sound(&room));
         assert_eq!(room.versions.len(), room.capacity);
         assert_eq!(room.present().len(), CONSOLES);
-        assert_eq!(meeting(&room), answer);
+        assert_eq!(verdict(&room), answer);
         assert_eq!(merges_with(&room, 14), on_one_head);
         assert_eq!(merges_with(&room, 17), 240 - on_one_head);
     }
@@ -529,7 +529,7 @@ fn rooms_in_which_no_two_can_meet() {
     for _ in 0..30 {
         let room = gen::some_stuck_room(&mut rng);
         assert!(sound(&room));
-        assert_eq!(meeting(&room), Meeting::Stuck);
+        assert_eq!(verdict(&room), Verdict::Stuck);
     }
 }
 

@@ -6,9 +6,9 @@ use super::store::{accepted, refused, resumed, Store, FILLER};
 use super::{tested, TESTED};
 use room_host::gen;
 use room_host::layout::store_bytes;
-use room_host::meetings;
-use room_host::model::{Entry, Meeting, Room, Version};
+use room_host::model::{Entry, Room, Verdict, Version};
 use room_host::rng::Rng;
+use room_host::verdicts;
 
 const ALL_AGREE: u32 = 0;
 const STUCK: u32 = 256;
@@ -404,19 +404,19 @@ fn a_damaged_store_gives_11() {
 
 #[test]
 fn a_reply_in_words() {
-    assert_eq!(accepted(0).meeting(), Some(Meeting::AllAgree));
-    assert_eq!(accepted(256).meeting(), Some(Meeting::Stuck));
+    assert_eq!(accepted(0).verdict(), Some(Verdict::AllAgree));
+    assert_eq!(accepted(256).verdict(), Some(Verdict::Stuck));
     let (receiver, giver) = (0, 1);
-    let merge = Meeting::Merge { receiver, giver };
-    assert_eq!(accepted(513).meeting(), Some(merge));
+    let merge = Verdict::Merge { receiver, giver };
+    assert_eq!(accepted(513).verdict(), Some(merge));
     let (receiver, giver) = (15, 14);
-    let follows = Meeting::FastForward { receiver, giver };
-    assert_eq!(accepted(1022).meeting(), Some(follows));
+    let follows = Verdict::FastForward { receiver, giver };
+    assert_eq!(accepted(1022).verdict(), Some(follows));
     // Neither a kind with a pair that has none, nor a console with itself, nor a fifth kind.
     for number in [1, 255, 257, 511, 512, 512 + 17, 768, 1023, 1024, u32::MAX] {
-        assert_eq!(accepted(number).meeting(), None, "{number}");
+        assert_eq!(accepted(number).verdict(), None, "{number}");
     }
-    assert_eq!(refused(11).meeting(), None);
+    assert_eq!(refused(11).verdict(), None);
 }
 
 /// In rooms of every kind the commands themselves bear the answer out.
@@ -428,7 +428,7 @@ fn the_commands_bear_the_answer_out() {
     let mut met = [0; 4];
     for room in rooms {
         let store = Store::of_room(&room);
-        if let Err(difference) = meetings::check(&TESTED, &store.bytes) {
+        if let Err(difference) = verdicts::check(&TESTED, &store.bytes) {
             panic!("{difference}: {room:?}");
         }
         met[store.mergeable().count as usize / 256] += 1;

@@ -3,13 +3,13 @@
 use crate::calls::Reply;
 use crate::implementations::Calls;
 use crate::layout::{CAPACITY_AT, VERSION_COUNT_AT};
-use crate::model::{code, refusal, Meeting, CONSOLES};
+use crate::model::{code, refusal, Verdict, CONSOLES};
 
 /// The answer for this sound store, where the commands bear it out; else the difference in words.
-pub fn check(calls: &Calls, store: &[u8]) -> Result<Meeting, String> {
+pub fn check(calls: &Calls, store: &[u8]) -> Result<Verdict, String> {
     let reply = (calls.mergeable)(store);
     let due = by_commands(calls, store)?;
-    if reply.meeting() == Some(due) {
+    if reply.verdict() == Some(due) {
         Ok(due)
     } else {
         Err(format!("{due:?} by the commands, {reply:?} answered"))
@@ -23,7 +23,7 @@ pub fn is_full(store: &[u8]) -> bool {
 
 /// The first pair of present consoles that a command brings together, receivers rising and for each the givers; where there is none,
 /// whether every head is one version.
-fn by_commands(calls: &Calls, store: &[u8]) -> Result<Meeting, String> {
+fn by_commands(calls: &Calls, store: &[u8]) -> Result<Verdict, String> {
     let heads: Vec<(usize, Reply)> = (0..CONSOLES)
         .map(|console| {
             (
@@ -35,26 +35,26 @@ fn by_commands(calls: &Calls, store: &[u8]) -> Result<Meeting, String> {
         .collect();
     for &(receiver, _) in &heads {
         for &(giver, _) in heads.iter().filter(|&&(giver, _)| giver != receiver) {
-            if let Some(meeting) = meeting_of(calls, store, receiver, giver)? {
-                return Ok(meeting);
+            if let Some(verdict) = verdict_of(calls, store, receiver, giver)? {
+                return Ok(verdict);
             }
         }
     }
     let all_agree = heads.iter().all(|&(_, head)| head == heads[0].1);
     Ok(if all_agree {
-        Meeting::AllAgree
+        Verdict::AllAgree
     } else {
-        Meeting::Stuck
+        Verdict::Stuck
     })
 }
 
 /// What this pair can do: a merge that is accepted, or in a full room refused for the version alone, or a fast-forward that is accepted.
-fn meeting_of(
+fn verdict_of(
     calls: &Calls,
     store: &[u8],
     receiver: usize,
     giver: usize,
-) -> Result<Option<Meeting>, String> {
+) -> Result<Option<Verdict>, String> {
     let answer = |code: u8| {
         let command = [code, receiver as u8, giver as u8];
         (calls.command)(&mut store.to_vec(), &command).answer
@@ -68,8 +68,8 @@ fn meeting_of(
     let forwards = answer(code::FAST_FORWARD) == 0;
     match (merges, forwards) {
         (true, true) => Err(format!("{receiver} both merges {giver} and follows it")),
-        (true, false) => Ok(Some(Meeting::Merge { receiver, giver })),
-        (false, true) => Ok(Some(Meeting::FastForward { receiver, giver })),
+        (true, false) => Ok(Some(Verdict::Merge { receiver, giver })),
+        (false, true) => Ok(Some(Verdict::FastForward { receiver, giver })),
         (false, false) => Ok(None),
     }
 }
