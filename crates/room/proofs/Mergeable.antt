@@ -177,14 +177,14 @@ module _ (r : Room) where
   unfolding mergeable
   pair-answered given = rw (ne-eqb (firstPair r) 0 given)
 
-  pub none-answered : firstPair r ≡ 0 → mergeable r ≡ numberOf (cond (headsAgree r) allAgree stuck)
+  pub none-answered : firstPair r ≡ 0 → {agree : Bool} → headsAgree r ≡ agree → mergeable r ≡ numberOf (cond agree allAgree stuck)
   unfolding mergeable
-  none-answered none = rw none
+  none-answered none e = rw (none, e)
 
   pub mergeable-small : mergeable r < 1024
   mergeable-small =
       elim (ℕ-discrete (firstPair r) 0) [
-        | yes none ↦ rw (none-answered none) (either (λ v. numberOf v < 1024) (headsAgree r) (λ _. omega arith) (omega arith))
+        | yes none ↦ rw (none-answered none refl) (either (λ v. numberOf v < 1024) (headsAgree r) (λ _. omega arith) (omega arith))
         | no given ↦
             let pair = pair-found given in
             omega (arith, pair-answered given, pair .numbered, pair-small r (pair .receiver) (pair .giver) (pair .receiver-console) (pair .giver-console))

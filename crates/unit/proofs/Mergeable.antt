@@ -181,11 +181,9 @@ module _ (store : List ℕ) (held : holdsStore store ≡ true) where
 
   no-pair-verdict : firstPair r ≡ 0 → Verdicted
   no-pair-verdict none =
-      let number : (b : Bool) → headsAgree r ≡ b → mergeable r ≡ numberOf (cond b allAgree stuck) =
-      λ b e. none-answered r none ∙ ap (λ (x : Bool). numberOf (cond x allAgree stuck)) e in
       elim (decide (headsAgree r)) [
-        | inl t ↦ (allAgree, tt, one-head t, number true t)
-        | inr f ↦ (stuck, tt, stuck-room none f, number false f)
+        | inl t ↦ (allAgree, tt, one-head t, none-answered r none t)
+        | inr f ↦ (stuck, tt, stuck-room none f, none-answered r none f)
       ]
 
   pair-verdict : (firstPair r ≡ 0 → ⊥) → Verdicted
@@ -217,13 +215,13 @@ module _ (store : List ℕ) (held : holdsStore store ≡ true) where
 
   -- whatever is true is said
   agree-said : headsAgree r ≡ true → mergeable r ≡ numberOf allAgree
-  agree-said agree = none-answered r (agree-none r s agree) ∙ ap (λ (x : Bool). numberOf (cond x allAgree stuck)) agree
+  agree-said agree = none-answered r (agree-none r s agree) agree
 
   stuck-said : Stuck store → mergeable r ≡ numberOf stuck
   stuck-said here =
       let none = no-pair r (λ c d l m. numbered-not store c d l m held (here .noPair c d)) in
       let differ = refuted (headsAgree r) (λ t. here .twoHeads (one-head t .same (here .one) (here .other) (here .oneIsHere) (here .otherIsHere))) in
-      none-answered r none ∙ ap (λ (x : Bool). numberOf (cond x allAgree stuck)) differ
+      none-answered r none differ
 
   pair-said : (c d : ℕ) → Asked store c d → {n : ℕ} → pairNumber r c d ≡ n → 0 < n → NeitherBefore store c d → mergeable r ≡ n
   pair-said c d a e given first =

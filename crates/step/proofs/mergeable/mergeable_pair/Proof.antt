@@ -15,17 +15,15 @@ returns c =
 
 returns-2 : tie.Need-returns-2
 returns-2 c =
-    let told = c .before .heads-agree in
     let passed = c .before .before in
-    let a = passed .before .before .before .args in
-    sym (rw (sym (told .ensures) ∙ c .if2 .taken) at (none-answered (roomIn (a .s .now)) (sym (passed .before .first-pair .ensures) ∙ passed .if1 .left)))
+    let none = sym (passed .before .first-pair .ensures) ∙ passed .if1 .left in
+    sym (none-answered _ none (sym (c .before .heads-agree .ensures) ∙ c .if2 .taken))
 
 returns-3 : tie.Need-returns-3
 returns-3 c =
-    let told = c .before .heads-agree in
     let passed = c .before .before in
-    let a = passed .before .before .before .args in
-    sym (rw (sym (told .ensures) ∙ c .if2 .left) at (none-answered (roomIn (a .s .now)) (sym (passed .before .first-pair .ensures) ∙ passed .if1 .left)))
+    let none = sym (passed .before .first-pair .ensures) ∙ passed .if1 .left in
+    sym (none-answered _ none (sym (c .before .heads-agree .ensures) ∙ c .if2 .left))
 
 pub mergeable-pair-spec : {M : Type 1} → statement M
 mergeable-pair-spec = tie.close (tie.spec (λ c κs. search needs) returns (λ c κs. search needs) (λ c. search needs) returns-2 (λ c. search needs) returns-3)
