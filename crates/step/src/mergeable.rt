@@ -12,6 +12,15 @@ ghost use Rattle.command.specs.Code.{consoleCount};
 ghost use Rattle.room.specs.Mergeable.{pairNumber, firstGiver, firstPair, agrees, headsAgree, mergeable};
 ghost use Rattle.store.specs.Layout.{roomIn, holdsStore};
 
+// 256 times the kind: the number of a room without a pair, and what the number of a pair begins with.
+const ALL_AGREE: usize = 0;
+
+const STUCK: usize = 256;
+
+const MERGE: usize = 512;
+
+const FAST_FORWARD: usize = 768;
+
 // The number of a pair for which a merge or a fast-forward would be accepted if versions were free; 0 for any other. Two consoles can merge either
 // way round, so that a merge by the higher of the two is not asked for: it counts only where there is none by the lower.
 fn pair_number(s: &[u8], receiver: Console, giver: Console) -> usize
@@ -24,13 +33,13 @@ fn pair_number(s: &[u8], receiver: Console, giver: Console) -> usize
     }
     let pair = 16 * receiver.0 + giver.0;
     if refusal_of(s, true, Command::FastForward { receiver, giver }) == 0 {
-        return 256 * 3 + pair;
+        return FAST_FORWARD + pair;
     }
     if giver.0 < receiver.0 {
         return 0;
     }
     if refusal_of(s, true, Command::Merge { receiver, giver }) == 0 {
-        return 256 * 2 + pair;
+        return MERGE + pair;
     }
     0
 }
@@ -96,7 +105,7 @@ pub fn mergeable_pair(s: &[u8]) -> usize
         return number;
     }
     if heads_agree(s) {
-        return 256 * 0;
+        return ALL_AGREE;
     }
-    256 * 1
+    STUCK
 }
