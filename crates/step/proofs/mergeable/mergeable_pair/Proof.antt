@@ -26,4 +26,4 @@ returns-3 c =
     sym (none-answered _ none (sym (c .before .heads-agree .ensures) ∙ c .if2 .left))
 
 pub mergeable-pair-spec : {M : Type 1} → statement M
-mergeable-pair-spec = tie.close (tie.spec (λ c κs. search needs) returns (λ c κs. search needs) (λ c. search needs) returns-2 (λ c. search needs) returns-3)
+mergeable-pair-spec = tie.close (tie.spec (λ c κs. search needs) returns (λ c κs. search needs) returns-2 returns-3)

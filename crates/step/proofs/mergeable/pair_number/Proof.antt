@@ -43,5 +43,5 @@ returns-5 c =
 pub pair-number-spec : {M : Type 1} → statement M
 pair-number-spec =
     tie.close
-    (tie.spec returns (λ c. omega arith) (λ c. omega arith) (λ c κs. search needs) (λ c. omega arith) (λ c. omega arith) returns-2
-    returns-3 (λ c κs. search needs) (λ c. omega arith) (λ c. omega arith) returns-4 returns-5)
+    (tie.spec returns (λ c. omega arith) (λ c. omega arith) (λ c κs. search needs) (λ c. omega arith) returns-2
+    returns-3 (λ c κs. search needs) (λ c. omega arith) returns-4 returns-5)
