@@ -33,8 +33,8 @@ extern "C" {
 /* The most clashes of a merge: the level and the heading of every strip. */
 #define ROOM_MAX_CLASHES 64
 
-/* Stack in bytes that a caller must have: resume judges a tape with 1,024 rows of 128 bytes of its own before it writes, and origin goes
-   down the versions by recursion, in a full room up to 513 calls deep. */
+/* Stack in bytes that a caller must have: resume judges a tape with 1,024 rows of 128 bytes of its own before it writes, and origin goes down
+   the versions by recursion, in a full room up to 513 calls deep. */
 #define ROOM_STACK 16384
 #define ROOM_RESUME_STACK 151552
 #define ROOM_ORIGIN_STACK 36864

@@ -21,7 +21,7 @@ use Rattle.command.specs.Decoding.{TwoConsoles, InRange}
 use Rattle.command.proofs.CodeKinds.{Says, kind-says}
 use Rattle.command.proofs.Decodes.{passed}
 
-two-consoles : (o : Operands) → firstRefusal (twoConsoleTests o) ≡ 0 → TwoConsoles (o .first) (o .second)
+pub two-consoles : (o : Operands) → firstRefusal (twoConsoleTests o) ≡ 0 → TwoConsoles (o .first) (o .second)
 two-consoles o h =
     let three = none-applies _ refl h in (
       ltb-true _ _ (not-false _ (or-none-l _ _ (three .0))),

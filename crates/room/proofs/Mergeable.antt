@@ -15,18 +15,18 @@ use Rattle.graph.proofs.Below.{at, of, fails-at, some-at, some-of, first-none, 
 use Rattle.graph.proofs.Ancestor.{ancestor-self}
 use Rattle.refusal.specs.Refusal.{_when_, firstRefusal}
 use Rattle.command.specs.Code.{consoleCount}
-use Rattle.room.specs.declared.Settings.{Settings}
 use Rattle.room.specs.Room.{Room, present, head, common}
 use Rattle.room.specs.Step.{absent, behind, apart, splits, someThirdSplits, mergeTests, stateTests}
-use Rattle.room.specs.Mergeable.{allAgree, stuck, merge, fastForward, numberOf, canMerge, canFastForward, pairNumber, firstGiver, firstPair, headsAgree, mergeable}
+use Rattle.room.specs.Mergeable.{allAgree, stuck, merge, fastForward, numberOf, canMerge, canFastForward, pairNumber, firstWithReceiver, firstPair, headsAgree, mergeable}
 use Rattle.room.proofs.Sound.{Sound}
 use Rattle.room.proofs.Accepted.{MayTake, MayMerge, forward-passes, merge-passes}
 use Rattle.room.proofs.Steps.{head-named, split-parts, third-splits}
 
--- whatever the room is set to: a full one is answered as one with versions free
-pub any-settings : (r : Room) (settings : Settings) → mergeable (record { settings = settings; versions = r .versions; heads = r .heads }) ≡ mergeable r
+-- whatever its capacity: a full room is answered as one with versions free
+pub any-capacity : (r : Room) (n : ℕ)
+    → mergeable (record { settings = record { capacity = n }; versions = r .versions; heads = r .heads }) ≡ mergeable r
 unfolding mergeable firstPair pairNumber stateTests headsAgree common
-any-settings r settings = refl
+any-capacity r n = refl
 
 -- a third console that splits two splits them either way round
 apart-either-way : (r : Room) (u v : ℕ) → apart r u v ≡ apart r v u
@@ -52,7 +52,7 @@ module _ (r : Room) (c d : ℕ) where
   unfolding stateTests
   forward-asks h = forward-passes r c d (eqb-true _ 0 h)
 
-  -- a merge that would be accepted if versions were free is accepted, or refused with 18, whichever versions are
+  -- a merge that would be accepted if versions were free is accepted, or refused with 18, whether or not a version is
   pub eighteen-last : (free : Bool) → (let n : ℕ = firstRefusal (mergeTests r free c d) in eqb n 0 || eqb n 18) ≡ canMerge r c d
   unfolding stateTests firstRefusal
   eighteen-last free = go (absent r c || absent r d) (behind r d c) (behind r c d) (someThirdSplits r c d) free
@@ -127,11 +127,11 @@ merge-not r c d two none =
 module _ (r : Room) where
   pub no-pair : ((c d : ℕ) → c < consoleCount → d < consoleCount → pairNumber r c d ≡ 0) → firstPair r ≡ 0
   unfolding firstPair
-  no-pair h = first-none consoleCount (firstGiver r) (λ c l. first-none consoleCount (pairNumber r c) (λ d m. h c d l m))
+  no-pair h = first-none consoleCount (firstWithReceiver r) (λ c l. first-none consoleCount (pairNumber r c) (λ d m. h c d l m))
 
   pub none-paired : firstPair r ≡ 0 → (c d : ℕ) → c < consoleCount → d < consoleCount → pairNumber r c d ≡ 0
   unfolding firstPair
-  none-paired h c d l m = none-first consoleCount (pairNumber r c) (none-first consoleCount (firstGiver r) h c l) d m
+  none-paired h c d l m = none-first consoleCount (pairNumber r c) (none-first consoleCount (firstWithReceiver r) h c l) d m
 
   -- no pair before these two
   abbrev pub NoneBefore : ℕ → ℕ → Type 0
@@ -141,7 +141,7 @@ module _ (r : Room) where
   unfolding firstPair
   pair-first c d l m given none =
       let of-receiver = first-is consoleCount (pairNumber r c) d m given (λ f k. none c f l (omega arith) (inr (refl, k))) in
-      first-is consoleCount (firstGiver r) c l (λ z. given (sym of-receiver ∙ z))
+      first-is consoleCount (firstWithReceiver r) c l (λ z. given (sym of-receiver ∙ z))
       (λ e k. first-none consoleCount (pairNumber r e) (λ f j. none e f (omega arith) j (inl k)))
       ∙ of-receiver
 
@@ -156,7 +156,7 @@ module _ (r : Room) where
   pub pair-found : (firstPair r ≡ 0 → ⊥) → FirstFound
   unfolding firstPair
   pair-found given =
-      let outer = first-found consoleCount (firstGiver r) given in
+      let outer = first-found consoleCount (firstWithReceiver r) given in
       let c = outer .0 in
       let inner = first-found consoleCount (pairNumber r c) (λ z. given (outer .2 ∙ z)) in
       record {

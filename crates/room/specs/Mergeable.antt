@@ -44,12 +44,12 @@ pairNumber r receiver giver =
     (cond (canFastForward r receiver giver) (numberOf (fastForward receiver giver)) 0))
 
 -- the number of the first pair with this receiver, or 0
-abbrev pub firstGiver : Room → ℕ → ℕ
-firstGiver r receiver = firstNonzero consoleCount (pairNumber r receiver)
+abbrev pub firstWithReceiver : Room → ℕ → ℕ
+firstWithReceiver r receiver = firstNonzero consoleCount (pairNumber r receiver)
 
 -- "the first pair (receiver, then giver, both rising)"; 0 where there is none
 unfoldable pub firstPair : Room → ℕ
-firstPair r = firstNonzero consoleCount (firstGiver r)
+firstPair r = firstNonzero consoleCount (firstWithReceiver r)
 
 -- "every head is one version": that of console 0, which is always present
 abbrev pub agrees : Room → ℕ → Bool
@@ -59,5 +59,8 @@ unfoldable pub headsAgree : Room → Bool
 headsAgree r = everyBelow consoleCount (agrees r)
 
 -- "If there is none it says "all agree" when every head is one version, else "stuck"."
+abbrev pub withoutPair : Room → ℕ
+withoutPair r = numberOf (cond (headsAgree r) allAgree stuck)
+
 unfoldable pub mergeable : Room → ℕ
-mergeable r = cond (eqb (firstPair r) 0) (numberOf (cond (headsAgree r) allAgree stuck)) (firstPair r)
+mergeable r = cond (eqb (firstPair r) 0) (withoutPair r) (firstPair r)

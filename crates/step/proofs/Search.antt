@@ -25,27 +25,27 @@ module _ {f : ℕ → Bool} {n : ℕ} (o : Missed f n) where
   unfolding someBelow
   missed-again l e fails = record { within = omega arith; told = rw add-one (or-none _ _ (o .told) (sym e ∙ fails)) }
 
-  pub missed-found : {b : Bool} → n < consoleCount → b ≡ f n → b ≡ true → true ≡ someBelow consoleCount f
-  missed-found l e passes = sym (some-of consoleCount f n l (sym e ∙ passes))
-
   pub missed-all : consoleCount ≤ n → false ≡ someBelow consoleCount f
   missed-all l = let w = o .within in let e : n ≡ consoleCount = omega arith in sym (rw e at (o .told))
 
+pub missed-found : (f : ℕ → Bool) {n : ℕ} {b : Bool} → n < consoleCount → b ≡ f n → b ≡ true → true ≡ someBelow consoleCount f
+missed-found f {n} l e passes = sym (some-of consoleCount f n l (sym e ∙ passes))
+
 -- For one that stops at the first number that is not 0: there was none before n.
-pub record Passed (f : ℕ → ℕ) (n : ℕ) : Type 0 where
+pub record NoneSoFar (f : ℕ → ℕ) (n : ℕ) : Type 0 where
   pub within : n ≤ consoleCount
   pub none : (k : ℕ) → k < n → f k ≡ 0
 
-pub passed-none : (f : ℕ → ℕ) → Passed f 0
-passed-none f = record { within = omega arith; none = λ k l. absurd (omega arith) }
+pub none-at-first : (f : ℕ → ℕ) → NoneSoFar f 0
+none-at-first f = record { within = omega arith; none = λ k l. absurd (omega arith) }
 
-module _ {f : ℕ → ℕ} {n : ℕ} (o : Passed f n) where
-  pub passed-again : {x : ℕ} → n < consoleCount → x ≡ f n → x ≡ 0 → Passed f (n + 1)
-  passed-again l e z =
+module _ {f : ℕ → ℕ} {n : ℕ} (o : NoneSoFar f n) where
+  pub none-again : {x : ℕ} → n < consoleCount → x ≡ f n → x ≡ 0 → NoneSoFar f (n + 1)
+  none-again l e z =
       record { within = omega arith; none = λ k m. elim (ℕ-discrete k n) [ yes same ↦ ap f same ∙ sym e ∙ z | no d ↦ o .none k (omega arith) ] }
 
-  pub passed-found : {x : ℕ} → n < consoleCount → x ≡ f n → (x ≡ 0 → ⊥) → x ≡ firstNonzero consoleCount f
-  passed-found l e given = e ∙ sym (first-is consoleCount f n l (λ z. given (e ∙ z)) (o .none))
+  pub none-but-this : {x : ℕ} → n < consoleCount → x ≡ f n → (x ≡ 0 → ⊥) → x ≡ firstNonzero consoleCount f
+  none-but-this l e given = e ∙ sym (first-is consoleCount f n l (λ z. given (e ∙ z)) (o .none))
 
-  pub passed-all : consoleCount ≤ n → 0 ≡ firstNonzero consoleCount f
-  passed-all l = let w = o .within in sym (first-none consoleCount f (λ k m. o .none k (omega arith)))
+  pub none-at-last : consoleCount ≤ n → 0 ≡ firstNonzero consoleCount f
+  none-at-last l = let w = o .within in sym (first-none consoleCount f (λ k m. o .none k (omega arith)))

@@ -1,11 +1,13 @@
--- Consoles that do not split two others: one of the two, one that is absent, and one that has the same version in common with both.
+-- Consoles that do not split two others, one of the two and one that is absent; and when two versions are apart.
 -- Assumes nothing.
-use Prim.Native.Nat.{ℕ, _<_}
-use mathlib.Core.Path.{_≡_, ap, subst}
-use mathlib.Core.Bool.{true, false, not}
-use Rattle.laws.proofs.Logic.{clash, refuted, and-none}
-use Rattle.graph.specs.Graph.{versionCount, ancestor}
-use Rattle.graph.proofs.Ancestor.{ancestor-self}
+use Prim.Native.Nat.{ℕ, _≤_, _<_}
+use mathlib.Core.Path.{_≡_, sym, subst}
+use mathlib.Core.Logic.{inl, inr}
+use mathlib.Core.Bool.{true, false, not, and-true}
+use native.Mathlib.Omega.{arith}
+use Rattle.laws.proofs.Logic.{clash, decide, refuted}
+use Rattle.graph.specs.Graph.{ancestor}
+use Rattle.graph.proofs.Ancestor.{ancestor-le}
 use Rattle.room.specs.Room.{Room, present}
 use Rattle.room.specs.Step.{apart, splits}
 use Rattle.room.proofs.Steps.{split-parts}
@@ -20,6 +22,19 @@ module _ (r : Room) (c d k : ℕ) where
   pub absent-splits-not : present r k ≡ false → splits r c d k ≡ false
   absent-splits-not f = refuted _ (λ t. clash (split-parts r c d k t .pd) f)
 
--- a version is not apart from itself
-pub same-apart-not : (r : Room) (u v : ℕ) → u ≡ v → u < versionCount (r .versions) → apart r u v ≡ false
-same-apart-not r u v e l = and-none _ _ (ap not (subst (λ w. ancestor (r .versions) u w ≡ true) e (ancestor-self (r .versions) u l)))
+-- of two versions only the lower can be an ancestor of the other, so that one test says whether they are apart
+module _ (r : Room) (u v : ℕ) where
+  pub lower-apart : u < v → apart r u v ≡ not (ancestor (r .versions) u v)
+  lower-apart l =
+      let above-not = refuted (ancestor (r .versions) v u) (λ t. absurd (omega (arith, ancestor-le (r .versions) v u t))) in
+      rw above-not (and-true (not (ancestor (r .versions) u v)))
+
+  pub higher-apart : v ≤ u → apart r u v ≡ not (ancestor (r .versions) v u)
+  higher-apart l =
+      elim (decide (ancestor (r .versions) u v)) [
+        | inl t ↦
+            let same : u ≡ v = omega (arith, ancestor-le (r .versions) u v t) in
+            let back = subst (λ w. ancestor (r .versions) w u ≡ true) same (subst (λ w. ancestor (r .versions) u w ≡ true) (sym same) t) in
+            rw (t, back)
+        | inr f ↦ rw f
+      ]

@@ -9,7 +9,8 @@ ghost use mathlib.Core.Path.{_≡_};
 ghost use mathlib.Core.Bool.{true};
 ghost use Prim.Native.Nat.{ℕ, _<_};
 ghost use Rattle.command.specs.Code.{consoleCount};
-ghost use Rattle.room.specs.Mergeable.{pairNumber, firstGiver, firstPair, agrees, headsAgree, mergeable};
+ghost use Rattle.command.specs.Decoding.{InRange};
+ghost use Rattle.room.specs.Mergeable.{acceptedIfFree, pairNumber, firstWithReceiver, firstPair, agrees, headsAgree, withoutPair, mergeable};
 ghost use Rattle.store.specs.Layout.{roomIn, holdsStore};
 
 // 256 times the kind: the number of a room without a pair, and what the number of a pair begins with.
@@ -21,34 +22,45 @@ const MERGE: usize = 512;
 
 const FAST_FORWARD: usize = 768;
 
-// The number of a pair for which a merge or a fast-forward would be accepted if versions were free; 0 for any other. Two consoles can merge either
-// way round, so that a merge by the higher of the two is not asked for: it counts only where there is none by the lower.
+// Whether a command would be accepted if versions were free.
+fn accepted_if_free(s: &[u8], c: Command) -> bool
+    requires { ⌜ holdsStore (now s) ≡ true ⌝ }
+    requires { ⌜ InRange c ⌝ }
+    ensures { λ r. ⌜ r ≡ acceptedIfFree (roomIn (now (s .entry))) c ⌝ }
+{
+    refusal_of(s, true, c) == 0
+}
+
+// The number of a pair for which a merge or a fast-forward would be accepted if versions were free; 0 for any other. Where the receiver is the
+// higher of the two a merge is not tried: two consoles can merge either way round, and the other way round they have no number.
 fn pair_number(s: &[u8], receiver: Console, giver: Console) -> usize
     requires { ⌜ holdsStore (now s) ≡ true ⌝ }
     requires { ⌜ (receiver .0 < consoleCount) × (giver .0 < consoleCount) ⌝ }
-    ensures { λ r. ⌜ ((giver .0 < receiver .0 → pairNumber (roomIn (now (s .entry))) (giver .0) (receiver .0) ≡ 0) → r ≡ pairNumber (roomIn (now (s .entry))) (receiver .0) (giver .0)) ⌝ }
+    requires { ⌜ (giver .0 < receiver .0 → pairNumber (roomIn (now s)) (giver .0) (receiver .0) ≡ 0) ⌝ }
+    ensures { λ r. ⌜ r ≡ pairNumber (roomIn (now (s .entry))) (receiver .0) (giver .0) ⌝ }
 {
     if receiver.0 == giver.0 {
         return 0;
     }
     let pair = 16 * receiver.0 + giver.0;
-    if refusal_of(s, true, Command::FastForward { receiver, giver }) == 0 {
+    if accepted_if_free(s, Command::FastForward { receiver, giver }) {
         return FAST_FORWARD + pair;
     }
     if giver.0 < receiver.0 {
         return 0;
     }
-    if refusal_of(s, true, Command::Merge { receiver, giver }) == 0 {
+    if accepted_if_free(s, Command::Merge { receiver, giver }) {
         return MERGE + pair;
     }
     0
 }
 
-// The number of the first pair with this receiver, or 0; it counts only where there is none with a lower one.
-fn first_giver(s: &[u8], receiver: Console) -> usize
+// The number of the first pair with this receiver, or 0, where there is none with a lower one.
+fn first_with_receiver(s: &[u8], receiver: Console) -> usize
     requires { ⌜ holdsStore (now s) ≡ true ⌝ }
     requires { ⌜ receiver .0 < consoleCount ⌝ }
-    ensures { λ r. ⌜ (((e : ℕ) → e < receiver .0 → firstGiver (roomIn (now (s .entry))) e ≡ 0) → r ≡ firstGiver (roomIn (now (s .entry))) (receiver .0)) ⌝ }
+    requires { ⌜ ((lower : ℕ) → lower < receiver .0 → firstWithReceiver (roomIn (now s)) lower ≡ 0) ⌝ }
+    ensures { λ r. ⌜ r ≡ firstWithReceiver (roomIn (now (s .entry))) (receiver .0) ⌝ }
 {
     for giver in 0..CONSOLES {
         let number = pair_number(s, receiver, Console(giver));
@@ -65,7 +77,7 @@ fn first_pair(s: &[u8]) -> usize
     ensures { λ r. ⌜ r ≡ firstPair (roomIn (now (s .entry))) ⌝ }
 {
     for receiver in 0..CONSOLES {
-        let number = first_giver(s, Console(receiver));
+        let number = first_with_receiver(s, Console(receiver));
         if number != 0 {
             return number;
         }
@@ -95,7 +107,18 @@ fn heads_agree(s: &[u8]) -> bool
     true
 }
 
-// The number of the first pair; where there is none, that of all agree or of stuck.
+// The number of a room without a pair: all agree, or stuck.
+fn without_pair(s: &[u8]) -> usize
+    requires { ⌜ holdsStore (now s) ≡ true ⌝ }
+    ensures { λ r. ⌜ r ≡ withoutPair (roomIn (now (s .entry))) ⌝ }
+{
+    if heads_agree(s) {
+        return ALL_AGREE;
+    }
+    STUCK
+}
+
+// The number of the first pair, or of there being none.
 pub fn mergeable_pair(s: &[u8]) -> usize
     requires { ⌜ holdsStore (now s) ≡ true ⌝ }
     ensures { λ r. ⌜ r ≡ mergeable (roomIn (now (s .entry))) ⌝ }
@@ -104,8 +127,5 @@ pub fn mergeable_pair(s: &[u8]) -> usize
     if number != 0 {
         return number;
     }
-    if heads_agree(s) {
-        return ALL_AGREE;
-    }
-    STUCK
+    without_pair(s)
 }

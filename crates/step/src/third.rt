@@ -14,16 +14,16 @@ ghost use Rattle.room.specs.Room.{present, common};
 ghost use Rattle.room.specs.Step.{apart, splits, someThirdSplits};
 ghost use Rattle.store.specs.Layout.{roomIn, holdsStore};
 
-// Whether neither of two versions is an ancestor of the other. Most commons that are asked about are one version: then no row is looked up.
+// Whether neither of two versions is an ancestor of the other. Only the lower can be one, so that one row is looked up.
 fn are_apart(s: &[u8], u: Version, v: Version) -> bool
     requires { ⌜ holdsStore (now s) ≡ true ⌝ }
     requires { ⌜ (u .0 < versionCount (roomIn (now s) .versions)) × (v .0 < versionCount (roomIn (now s) .versions)) ⌝ }
     ensures { λ r. ⌜ r ≡ apart (roomIn (now (s .entry))) (u .0) (v .0) ⌝ }
 {
-    if u.0 == v.0 {
-        return false;
+    if u.0 < v.0 {
+        return !is_ancestor(s, u, v);
     }
-    !is_ancestor(s, u, v) & !is_ancestor(s, v, u)
+    !is_ancestor(s, v, u)
 }
 
 // Whether the common versions of console k with two others are apart.

@@ -3,17 +3,19 @@
 use Prim.Native.Nat.{ℕ, _<_}
 use mathlib.Core.Path.{_≡_, refl, sym, _∙_, ap, ap₂, subst}
 use mathlib.Core.Logic.{inl, inr}
-use mathlib.Core.Bool.{Bool, true, false, cond, not, _&&_, _||_, and-false}
-use mathlib.Core.List.{List, [], _∷_}
+use mathlib.Core.Bool.{Bool, true, false, not, _&&_, _||_, and-false}
+use mathlib.Core.List.{List, [], _∷_, _++_}
 use native.Mathlib.Omega.{arith}
 use native.Mathlib.Decide.{ℕ-discrete}
-use borrow.Author.Tests.{eqb-true, ne-eqb, eqb-false, ltb-true, lt-ltb, not-false}
+use borrow.Author.Tests.{eqb-true, ne-eqb, lt-ltb, not-false}
 use lib.Dec.{eqb}
-use Rattle.laws.proofs.Logic.{decide, refuted, and-l, and-r, and-i, and-rest, or-none-l, or-none-r}
+use Rattle.laws.proofs.Logic.{decide, refuted, and-l, and-r, and-i, and-rest}
 use Rattle.refusal.specs.Refusal.{_when_, firstRefusal, firstOf}
-use Rattle.refusal.proofs.Refusals.{none-applies}
+use Rattle.refusal.proofs.Refusals.{none-applies, first-append, first-none}
 use Rattle.command.specs.Code.{consoleCount, mergeCommand, fastForwardCommand, kindOf, shapeOf, lengthOf, operandsOf, numberAt, isConsole}
-use Rattle.command.specs.Decode.{commandRefusal}
+use Rattle.command.specs.declared.Operands.{Operands}
+use Rattle.command.specs.Decode.{twoConsoleTests, commandRefusal}
+use Rattle.command.proofs.Ranges.{two-consoles}
 use Rattle.room.specs.Room.{Room, present, head}
 use Rattle.room.specs.Step.{versionFree, mergeTests, fastForwardTests, stateTests}
 use Rattle.room.specs.Mergeable.{Verdict, allAgree, stuck, merge, fastForward, numberOf, canMerge, canFastForward, pairNumber, firstPair, headsAgree, mergeable}
@@ -29,8 +31,11 @@ use Rattle.unit.proofs.Answered.{pair-allowed, pair-answered as common-
 use Rattle.unit.proofs.Commanded.{answered-by}
 
 -- The tests of both commands before those of the room.
+abbrev consoles : ℕ → ℕ → Operands
+consoles c d = record { first = c; second = d; third = 0; fourth = 0 }
+
 abbrev askedTests : List ℕ → ℕ → ℕ → List (ℕ × Bool)
-askedTests store c d = 3 when (not (isConsole c) || not (isConsole d)) ∷ 6 when eqb c d ∷ 11 when holdsNoStore store ∷ []
+askedTests store c d = twoConsoleTests (consoles c d) ++ (11 when holdsNoStore store ∷ [])
 
 abbrev asked : List ℕ → ℕ → ℕ → Bool
 asked store c d = eqb (firstRefusal (askedTests store c d)) 0
@@ -42,27 +47,17 @@ record Asked (store : List ℕ) (c d : ℕ) : Type 0 where
   two : c ≡ d → ⊥
   held : holdsStore store ≡ true
 
--- the first refusal of them and of the room, with 11 on either side; that of a merge but for 18, which is none of theirs; and of a fast-forward
-module _ (y : ℕ) where
-  eleven-with-them : (three six eleven : Bool)
-      → firstOf (firstRefusal (3 when three ∷ 6 when six ∷ [])) (cond eleven 11 y)
-      ≡ firstOf (firstRefusal (3 when three ∷ 6 when six ∷ 11 when eleven ∷ [])) y
-  unfolding firstRefusal
-  eleven-with-them true six eleven = refl
-  eleven-with-them false true eleven = refl
-  eleven-with-them false false true = refl
-  eleven-with-them false false false = refl
+-- nothing refuses the one and then the other; the same of a merge but for 18, which none of the first tests gives
+none-of-two : (x y : ℕ) → eqb (firstOf x y) 0 ≡ eqb x 0 && eqb y 0
+none-of-two x y = elim (decide (eqb x 0)) [ inl t ↦ rw t | inr f ↦ rw f f ]
 
-  none-but-18 : (three six eleven : Bool) → let x : ℕ = firstRefusal (3 when three ∷ 6 when six ∷ 11 when eleven ∷ []) in
-      eqb (firstOf x y) 0 || eqb (firstOf x y) 18 ≡ eqb x 0 && (eqb y 0 || eqb y 18)
-  unfolding firstRefusal
-  none-but-18 true six eleven = refl
-  none-but-18 false true eleven = refl
-  none-but-18 false false true = refl
-  none-but-18 false false false = refl
-
-  none-at-all : (x : ℕ) → eqb (firstOf x y) 0 ≡ eqb x 0 && eqb y 0
-  none-at-all x = elim (decide (eqb x 0)) [ inl t ↦ rw t | inr f ↦ rw f f ]
+none-but-18 : (three six eleven : Bool) (y : ℕ) → let x : ℕ = firstRefusal (3 when three ∷ 6 when six ∷ 11 when eleven ∷ []) in
+    eqb (firstOf x y) 0 || eqb (firstOf x y) 18 ≡ eqb x 0 && (eqb y 0 || eqb y 18)
+unfolding firstRefusal
+none-but-18 true six eleven y = refl
+none-but-18 false true eleven y = refl
+none-but-18 false false true y = refl
+none-but-18 false false false y = refl
 
 module _ (store : List ℕ) (c d : ℕ) where
   abbrev room : Room
@@ -70,37 +65,45 @@ module _ (store : List ℕ) (c d : ℕ) where
 
   asked-facts : asked store c d ≡ true → Asked store c d
   asked-facts h =
-      let t = none-applies (askedTests store c d) refl (eqb-true _ 0 h) in
-      record {
-        receiver = ltb-true c consoleCount (not-false _ (or-none-l _ _ (t .0)));
-        giver = ltb-true d consoleCount (not-false _ (or-none-r (not (isConsole c)) _ (t .0)));
-        two = eqb-false c d (t .1 .0);
-        held = not-false _ (t .1 .1 .0);
-      }
+      let none = first-none _ _ (sym (first-append (twoConsoleTests (consoles c d)) (11 when holdsNoStore store ∷ []) refl) ∙ eqb-true _ 0 h) in
+      let two = two-consoles (consoles c d) (none .0) in
+      record { receiver = two .0; giver = two .1; two = two .2; held = not-false _ (none-applies _ refl (none .1) .0) }
 
   facts-asked : Asked store c d → asked store c d ≡ true
   unfolding firstRefusal
   facts-asked a = rw (lt-ltb c consoleCount (a .receiver), lt-ltb d consoleCount (a .giver), ne-eqb c d (a .two), a .held)
 
   -- the answers of both commands, and what they say of the room
+  grouped : (tests : List (ℕ × Bool))
+      → firstOf (firstRefusal (twoConsoleTests (consoles c d))) (firstRefusal (11 when holdsNoStore store ∷ tests))
+      ≡ firstOf (firstRefusal (askedTests store c d)) (firstRefusal tests)
+  grouped tests =
+      sym (first-append (twoConsoleTests (consoles c d)) (11 when holdsNoStore store ∷ tests) refl) ∙ first-append (askedTests store c d) tests refl
+
   merge-answer : answerFor store mergeCommand c d ≡ firstOf (firstRefusal (askedTests store c d)) (firstRefusal (mergeTests room (versionFree room) c d))
   unfolding commandRefusal kindOf shapeOf lengthOf operandsOf numberAt stateTests firstRefusal
-  merge-answer = answered-by store (mergeCommand ∷ c ∷ d ∷ []) ∙ eleven-with-them _ (not (isConsole c) || not (isConsole d)) (eqb c d) (holdsNoStore store)
+  merge-answer = answered-by store (mergeCommand ∷ c ∷ d ∷ []) ∙ grouped (mergeTests room (versionFree room) c d)
 
   forward-answer : answerFor store fastForwardCommand c d ≡ firstOf (firstRefusal (askedTests store c d)) (firstRefusal (fastForwardTests room c d))
   unfolding commandRefusal kindOf shapeOf lengthOf operandsOf numberAt stateTests firstRefusal
-  forward-answer = answered-by store (fastForwardCommand ∷ c ∷ d ∷ []) ∙ eleven-with-them _ (not (isConsole c) || not (isConsole d)) (eqb c d) (holdsNoStore store)
+  forward-answer = answered-by store (fastForwardCommand ∷ c ∷ d ∷ []) ∙ grouped (fastForwardTests room c d)
 
   merges-is : mergesIfFree store c d ≡ asked store c d && canMerge room c d
   merges-is =
-      let state : ℕ = firstRefusal (mergeTests room (versionFree room) c d) in
       rw merge-answer
-      (none-but-18 state (not (isConsole c) || not (isConsole d)) (eqb c d) (holdsNoStore store)
+      (none-but-18 (not (isConsole c) || not (isConsole d)) (eqb c d) (holdsNoStore store) (firstRefusal (mergeTests room (versionFree room) c d))
       ∙ ap (λ (b : Bool). asked store c d && b) (eighteen-last room c d (versionFree room)))
 
   forwards-is : fastForwards store c d ≡ asked store c d && canFastForward room c d
   unfolding stateTests
-  forwards-is = rw forward-answer (none-at-all (firstRefusal (fastForwardTests room c d)) (firstRefusal (askedTests store c d)))
+  forwards-is = rw forward-answer (none-of-two (firstRefusal (askedTests store c d)) (firstRefusal (fastForwardTests room c d)))
+
+  -- what both say where they are true
+  both-asked : {t b : Bool} → t ≡ asked store c d && b → t ≡ true → Asked store c d × (b ≡ true)
+  both-asked {t} {b} e h = let both = sym e ∙ h in (asked-facts (and-l _ _ both), and-r (asked store c d) b both)
+
+  refused-not : {t b : Bool} → t ≡ asked store c d && b → (Asked store c d → b ≡ true → ⊥) → t ≡ false
+  refused-not e never = refuted _ (λ t. let both = both-asked e t in never (both .0) (both .1))
 
   -- a merge that would be accepted is, where a version is free
   merge-free : asked store c d ≡ true → canMerge room c d ≡ true → versionFree room ≡ true → answerFor store mergeCommand c d ≡ 0
@@ -119,11 +122,9 @@ module _ (store : List ℕ) (c d : ℕ) where
 
   not-numbered : (c < consoleCount → d < consoleCount → holdsStore store ≡ true → pairNumber room c d ≡ 0) → Neither store c d
   not-numbered none =
-      let refused : (b : Bool) → (Asked store c d → b ≡ true → ⊥) → asked store c d && b ≡ false =
-      λ b no. refuted _ (λ t. no (asked-facts (and-l _ _ t)) (and-r (asked store c d) _ t)) in
       let zero : Asked store c d → pairNumber room c d ≡ 0 = λ a. none (a .receiver) (a .giver) (a .held) in (
-        merges-is ∙ refused _ (λ a t. absurd (omega (arith, zero a, merge-number room c d (a .two) t))),
-        forwards-is ∙ refused _ (λ a t. absurd (omega (arith, zero a, forward-number room c d (a .two) t))),
+        refused-not merges-is (λ a t. absurd (omega (arith, zero a, merge-number room c d (a .two) t))),
+        refused-not forwards-is (λ a t. absurd (omega (arith, zero a, forward-number room c d (a .two) t))),
       )
 
 -- bytes that hold a store
@@ -223,10 +224,13 @@ module _ (store : List ℕ) (held : holdsStore store ≡ true) where
       let differ = refuted (headsAgree r) (λ t. here .twoHeads (one-head t .same (here .one) (here .other) (here .oneIsHere) (here .otherIsHere))) in
       none-answered r none differ
 
-  pair-said : (c d : ℕ) → Asked store c d → {n : ℕ} → pairNumber r c d ≡ n → 0 < n → NeitherBefore store c d → mergeable r ≡ n
-  pair-said c d a e given first =
-      let is-first = pair-first r c d (a .receiver) (a .giver) (omega arith) (λ e f l m before. numbered-not store e f l m held (first e f before)) in
-      pair-answered r (omega arith) ∙ is-first ∙ e
+-- and so is a pair
+module _ (store : List ℕ) (c d : ℕ) where
+  pair-said : Asked store c d → {n : ℕ} → pairNumber (roomIn store) c d ≡ n → 0 < n → NeitherBefore store c d
+      → (holdsStore store ≡ true) × ((c < consoleCount) × (d < consoleCount)) × (mergeable (roomIn store) ≡ n)
+  pair-said a e given first =
+      let is-first = pair-first (roomIn store) c d (a .receiver) (a .giver) (omega arith) (λ e f l m before. numbered-not store e f l m (a .held) (first e f before)) in
+      (a .held, (a .receiver, a .giver), pair-answered (roomIn store) (omega arith) ∙ is-first ∙ e)
 
 -- the numbers of two verdicts differ
 same-verdict : (v w : Verdict) → NamesConsoles v → NamesConsoles w → numberOf v ≡ numberOf w → v ≡ w
@@ -248,25 +252,20 @@ same-verdict (fastForward a b) (merge c d) p q e = absurd (omega arith)
 same-verdict (fastForward a b) (fastForward c d) p q e = ap₂ fastForward (omega arith) (omega arith)
 
 module _ (store : List ℕ) where
-  -- what a true verdict says of the bytes, and of the consoles that it names
-  merging : (c d : ℕ) → mergesIfFree store c d ≡ true → Asked store c d × (canMerge (roomIn store) c d ≡ true)
-  merging c d t = let both = sym (merges-is store c d) ∙ t in (asked-facts store c d (and-l _ _ both), and-r (asked store c d) _ both)
+  -- the bytes of a true verdict hold a store, it names consoles, and its number is the room's
+  abbrev Numbered : Verdict → Type 0
+  Numbered v = (holdsStore store ≡ true) × NamesConsoles v × (mergeable (roomIn store) ≡ numberOf v)
 
-  forwarding : (c d : ℕ) → fastForwards store c d ≡ true → Asked store c d × (canFastForward (roomIn store) c d ≡ true)
-  forwarding c d t = let both = sym (forwards-is store c d) ∙ t in (asked-facts store c d (and-l _ _ both), and-r (asked store c d) _ both)
-
-  number-said : (v : Verdict) → IsTrue store v → (holdsStore store ≡ true) × NamesConsoles v × (mergeable (roomIn store) ≡ numberOf v)
+  number-said : (v : Verdict) → IsTrue store v → Numbered v
   unfolding commonReply
   number-said allAgree one = (one .sound, tt, agree-said store (one .sound) (one-agrees store (one .sound) one))
   number-said stuck here = let held = pair-allowed store (here .one) (here .one) refl (here .oneIsHere) .held in (held, tt, stuck-said store held here)
   number-said (merge c d) pair =
-      let m = merging c d (pair .accepted) in
-      let a = m .0 in
-      (a .held, (a .receiver, a .giver), pair-said store (a .held) c d a (merge-number (roomIn store) c d (a .two) (m .1)) (omega arith) (pair .first))
+      let m = both-asked store c d (merges-is store c d) (pair .accepted) in
+      pair-said store c d (m .0) (merge-number (roomIn store) c d (m .0 .two) (m .1)) (omega arith) (pair .first)
   number-said (fastForward c d) pair =
-      let m = forwarding c d (pair .accepted) in
-      let a = m .0 in
-      (a .held, (a .receiver, a .giver), pair-said store (a .held) c d a (forward-number (roomIn store) c d (a .two) (m .1)) (omega arith) (pair .first))
+      let m = both-asked store c d (forwards-is store c d) (pair .accepted) in
+      pair-said store c d (m .0) (forward-number (roomIn store) c d (m .0 .two) (m .1)) (omega arith) (pair .first)
 
   said : (v : Verdict) → IsTrue store v → Says store v
   said v t = let n = number-said v t in told store (n .0) ∙ ap (replied 0) (n .2)
@@ -288,7 +287,7 @@ module _ (store : List ℕ) where
   accepted : (v : Verdict) → IsTrue store v → IsAccepted store v
   accepted allAgree t = tt
   accepted stuck t = tt
-  accepted (merge c d) t = λ free. let m = merging c d (t .accepted) in merge-free store c d (facts-asked store c d (m .0)) (m .1) free
+  accepted (merge c d) t = λ free. let m = both-asked store c d (merges-is store c d) (t .accepted) in merge-free store c d (facts-asked store c d (m .0)) (m .1) free
   accepted (fastForward c d) t = eqb-true _ 0 (t .accepted)
 
   pub mergeable-told : MergeableTold store
@@ -302,7 +301,7 @@ module _ (store : List ℕ) where
         same-verdict v w (m .1) (n .1) (sym (m .2) ∙ n .2);
     refused = refused;
     oneKind = λ c d t.
-        let m = merging c d t in
+        let m = both-asked store c d (merges-is store c d) t in
         forwards-is store c d ∙ rw (one-kind (roomIn store) c d (m .1)) (and-false (asked store c d));
     accepted = λ v names says. accepted v (only-true v names says);
   }

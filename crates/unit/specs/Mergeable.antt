@@ -29,10 +29,11 @@ fastForwards store c d = eqb (answerFor store fastForwardCommand c d) 0
 abbrev pub Neither : List ℕ → ℕ → ℕ → Type 0
 Neither store c d = (mergesIfFree store c d ≡ false) × (fastForwards store c d ≡ false)
 
--- "the first pair (receiver, then giver, both rising)": this command would be accepted, and neither for any pair before
+-- nor for any pair before, "receiver, then giver, both rising"
 abbrev pub NeitherBefore : List ℕ → ℕ → ℕ → Type 0
 NeitherBefore store c d = (e f : ℕ) → (e < c) ⊎ ((e ≡ c) × (f < d)) → Neither store e f
 
+-- "the first pair": this command would be accepted for it, and neither before
 pub record First (accepts : List ℕ → ℕ → ℕ → Bool) (store : List ℕ) (c d : ℕ) : Type 0 where
   pub accepted : accepts store c d ≡ true
   pub first : NeitherBefore store c d

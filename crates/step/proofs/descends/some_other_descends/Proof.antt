@@ -1,4 +1,4 @@
--- `step::descends::some_other_descends` meets its contract. The loop's invariant: none of the consoles before `d` passed.
+-- `step::descends::some_other_descends` meets its contract. The loop's invariant: no console before `d` passes.
 -- Assumes nothing.
 use Prim.Native.Nat.{_-_}
 use native.Mathlib.Omega.{arith}
@@ -19,7 +19,7 @@ other-descends-requires : tie.Need-other-descends-requires Inv-loop μ-loop
 other-descends-requires c κs = let p = c .before .before .before .pre in (p .0, (p .1, omega arith))
 
 returns : tie.Need-returns Inv-loop μ-loop
-returns c = missed-found (c .before .before .before .loop .inv) (omega arith) (c .before .other-descends .ensures) (c .if1 .taken)
+returns c = missed-found _ (omega arith) (c .before .other-descends .ensures) (c .if1 .taken)
 
 loop-again : tie.Need-loop-again Inv-loop μ-loop
 loop-again c = missed-again (c .before .before .before .loop .inv) (omega arith) (c .before .other-descends .ensures) (c .if1 .left)

@@ -1,4 +1,4 @@
--- `step::third::some_third_splits` meets its contract. The loop's invariant: none of the consoles before `k` passed.
+-- `step::third::some_third_splits` meets its contract. The loop's invariant: no console before `k` passes.
 -- Assumes nothing.
 use Prim.Native.Nat.{_-_}
 use native.Mathlib.Omega.{arith}
@@ -21,7 +21,7 @@ splits-at-requires c κs =
     (p .0, (omega arith, p .1 .1))
 
 returns : tie.Need-returns Inv-loop μ-loop
-returns c = missed-found (c .before .before .before .loop .inv) (omega arith) (c .before .splits-at .ensures) (c .if1 .taken)
+returns c = missed-found _ (omega arith) (c .before .splits-at .ensures) (c .if1 .taken)
 
 loop-again : tie.Need-loop-again Inv-loop μ-loop
 loop-again c = missed-again (c .before .before .before .loop .inv) (omega arith) (c .before .splits-at .ensures) (c .if1 .left)
