@@ -566,7 +566,7 @@ impl Comparison {
         let store = pair.tested.store.lent();
         let verdict = verdicts::check(&self.tested, store)
             .map_err(|difference| self.story(Call::Mergeable, pair, &difference))?;
-        self.tally.note_verdict(verdict, verdicts::is_full(store));
+        self.tally.note_verdict(verdict, layout::is_full(store));
         Ok(())
     }
 
@@ -690,7 +690,7 @@ impl<'a> Session<'a> {
         self.check_book()
     }
 
-    /// Steps after each of which it is asked which two can meet.
+    /// Asks which two can meet, at once and after each of so many steps.
     fn run_verdicts(&mut self, steps: usize) -> Outcome<()> {
         self.comparison.verdict(&mut self.pair)?;
         for _ in 0..steps {

@@ -453,7 +453,7 @@ fn append_merges(room: &mut Room, first: usize, others: &[usize]) -> usize {
     })
 }
 
-/// The versions of the paper's stuck room, and those of the other one below.
+/// The versions of the paper's stuck room, and those that the other one below has at least.
 pub const STUCK_VERSIONS: usize = 7;
 pub const STUCK_APART_VERSIONS: usize = 85;
 
@@ -471,10 +471,10 @@ pub fn stuck_room(capacity: usize) -> Room {
     room
 }
 
-/// A full room of 16 consoles that is stuck with every head another version. A merge of two of the first 14 meets 17 at console 14 and 15
+/// A full room of 16 consoles that is stuck with every head another version. A merge of two of the first 14 meets 17 at consoles 14 and 15
 /// alone, after 12 consoles whose common versions with the two mostly differ but are not apart.
 ///
-/// On top of a chain of entries, the last 14 of which are places to stand on, there are an entry x on the last place, and entries e and g of
+/// On a chain of entries, whose last 14 versions are places to stand on, there are an entry x on the last place, and entries e and g of
 /// each console from 0 to 13 on a place of its own; the console is on a merge of its two. Console 14 is on merges of x and each e, console
 /// 15 on merges of x and each g. So two of the first 14 have the lower of their places in common, one of them and 14 its e, one of them
 /// and 15 its g, and 14 and 15 have x.

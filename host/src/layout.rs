@@ -39,6 +39,11 @@ pub fn common_at(console: usize, other: usize) -> usize {
     COMMONS_AT + 2 * (CONSOLES * console + other)
 }
 
+/// Whether a sound store has no version free.
+pub fn is_full(store: &[u8]) -> bool {
+    get_16_bits(store, VERSION_COUNT_AT) == get_16_bits(store, CAPACITY_AT)
+}
+
 // ---------------------------------------------------------------- writing
 
 /// The one encoding of a sound room.

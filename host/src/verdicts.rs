@@ -2,7 +2,7 @@
 
 use crate::calls::Reply;
 use crate::implementations::Calls;
-use crate::layout::{CAPACITY_AT, VERSION_COUNT_AT};
+use crate::layout::is_full;
 use crate::model::{code, refusal, Verdict, CONSOLES};
 
 /// The answer for this sound store, where the commands bear it out; else the difference in words.
@@ -16,12 +16,7 @@ pub fn check(calls: &Calls, store: &[u8]) -> Result<Verdict, String> {
     }
 }
 
-/// Whether the store has no version free, by the fields of docs/LAYOUT.md.
-pub fn is_full(store: &[u8]) -> bool {
-    store[CAPACITY_AT..][..2] == store[VERSION_COUNT_AT..][..2]
-}
-
-/// The first pair of present consoles that a command brings together, receivers rising and for each the givers; where there is none,
+/// The first pair of present consoles that can meet by the commands, receivers rising and for each the givers; where there is none,
 /// whether every head is one version.
 fn by_commands(calls: &Calls, store: &[u8]) -> Result<Verdict, String> {
     let heads: Vec<(usize, Reply)> = (0..CONSOLES)
@@ -59,12 +54,13 @@ fn verdict_of(
         let command = [code, receiver as u8, giver as u8];
         (calls.command)(&mut store.to_vec(), &command).answer
     };
-    let without_hindrance = if is_full(store) {
+    // The answer to a merge against which nothing but a missing version can stand.
+    let due = if is_full(store) {
         refusal::NO_VERSION_LEFT
     } else {
         0
     };
-    let merges = answer(code::MERGE) == without_hindrance;
+    let merges = answer(code::MERGE) == due;
     let forwards = answer(code::FAST_FORWARD) == 0;
     match (merges, forwards) {
         (true, true) => Err(format!("{receiver} both merges {giver} and follows it")),

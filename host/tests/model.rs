@@ -485,7 +485,7 @@ fn verdicts_agree_with_a_second_telling() {
     assert!(met.iter().all(|&met| met > 20), "{met:?}");
 }
 
-/// The number that stands for an answer is its number. There are two answers without a pair, and two for each pair.
+/// A number that stands for an answer is the number of that answer. There are two answers without a pair, and two for each pair.
 #[test]
 fn numbers_of_verdicts() {
     let mut verdicts = 0;
@@ -498,14 +498,19 @@ fn numbers_of_verdicts() {
     assert_eq!(verdicts, 2 + 2 * 16 * 15);
 }
 
+/// The answers to a merge of each two of the first so many consoles.
+fn merge_answers(room: &Room, consoles: usize) -> impl Iterator<Item = u32> + '_ {
+    let answer = |receiver, giver| step(room, &Command::Merge { receiver, giver }).err();
+    let pairs = (0..consoles).flat_map(move |one| (0..consoles).map(move |other| (one, other)));
+    pairs
+        .filter(|(receiver, giver)| receiver != giver)
+        .map(move |(receiver, giver)| answer(receiver, giver).unwrap_or(0))
+}
+
 /// How many of the 240 pairs of two consoles have this answer to a merge.
 fn merges_with(room: &Room, due: u32) -> usize {
-    let answer = |receiver, giver| step(room, &Command::Merge { receiver, giver }).err();
-    let receivers = 0..CONSOLES;
-    receivers
-        .flat_map(|receiver| (0..CONSOLES).map(move |giver| (receiver, giver)))
-        .filter(|(receiver, giver)| receiver != giver)
-        .filter(|&(receiver, giver)| answer(receiver, giver) == Some(due))
+    merge_answers(room, CONSOLES)
+        .filter(|&answer| answer == due)
         .count()
 }
 
@@ -531,6 +536,23 @@ fn rooms_in_which_no_two_can_meet() {
         assert!(sound(&room));
         assert_eq!(verdict(&room), Verdict::Stuck);
     }
+}
+
+/// What makes the search long: of all third consoles the last two alone, and each of them, keep two others from merging.
+/// The rooms without them are not sound, which no command looks at.
+#[test]
+fn the_last_two_keep_the_others_apart() {
+    let mut room = gen::stuck_apart_room(128);
+    room.capacity += 1;
+    let answers_without = |gone: &[usize]| {
+        let mut rest = room.clone();
+        gone.iter().for_each(|&console| rest.heads[console] = None);
+        BTreeSet::from_iter(merge_answers(&rest, CONSOLES - 2))
+    };
+    for gone in [&[][..], &[14], &[15]] {
+        assert_eq!(answers_without(gone), BTreeSet::from([17]), "{gone:?}");
+    }
+    assert_eq!(answers_without(&[14, 15]), BTreeSet::from([0]));
 }
 
 // ---------------------------------------------------------------- the generators

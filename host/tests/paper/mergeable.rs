@@ -1,5 +1,6 @@
-// Request Four: which two can meet. Every answer is worked out by hand from the paper's refusals of a merge and a fast-forward: heads are
-// told as versions, consoles rising, and "3 and 5 have 1" says that 1 is the common version of the heads 3 and 5.
+// Request Four: which two can meet. Answers are worked out by hand from the paper's refusals of a merge and a fast-forward: heads are
+// told as versions, consoles rising, and "3 and 5 have 1" says that 1 is the common version of the heads 3 and 5. In rooms that are too
+// many for that the commands must bear them out.
 
 use super::cases::{store_of_three_consoles, stuck_store};
 use super::store::{accepted, refused, resumed, Store, FILLER};
@@ -203,7 +204,6 @@ fn the_stuck_room_is_stuck() {
     let store = stuck_store();
     assert_eq!(store.heads(), [6, 6, 3, 5]);
     expect(&store, STUCK);
-    assert_eq!(store.mergeable(), accepted(256));
 }
 
 /// Before its last steps it is not. Heads 2, 4, 3, 5: 0 is on 2, which 3 has merged, 1 on 4, which 5 has. 0 and 1 can still merge: 2 and 3
@@ -270,15 +270,12 @@ fn the_highest_consoles() {
 
     let mut above = store.clone();
     above.say_all(&[&[0x06, 15, 0]]); // 15 on 7, ahead of 14
-    assert_eq!(above.mergeable(), accepted(1007), "14 follows 15");
     expect(&above, fast_forward(14, 15));
 
     store.say_all(&[&[0x06, 14, 0]]); // 14 on 7, ahead of 15
-    assert_eq!(store.mergeable(), accepted(1022), "15 follows 14");
     expect(&store, fast_forward(15, 14));
 
     store.say_all(&[&[0x06, 15, 0]]); // 15 on 8, 7 and 8 have 5
-    assert_eq!(store.mergeable(), accepted(751), "14 merges 15");
     expect(&store, merge(14, 15));
 
     store.say_all(&[&[0x09, 14, 15]]);
@@ -292,9 +289,9 @@ fn the_highest_consoles() {
 #[test]
 fn the_largest_rooms_in_which_no_two_can_meet() {
     let reply = |room: &Room| Store::of_room(room).mergeable();
-    assert_eq!(reply(&gen::agreeing_room(1024)), accepted(0));
-    assert_eq!(reply(&gen::stuck_room(1024)), accepted(256));
-    assert_eq!(reply(&gen::stuck_apart_room(1024)), accepted(256));
+    assert_eq!(reply(&gen::agreeing_room(1024)), accepted(ALL_AGREE));
+    assert_eq!(reply(&gen::stuck_room(1024)), accepted(STUCK));
+    assert_eq!(reply(&gen::stuck_apart_room(1024)), accepted(STUCK));
 }
 
 // ---------------------------------------------------------------- full rooms
@@ -345,7 +342,7 @@ fn a_merge_is_named_where_no_store_has_a_version_more() {
     room.heads[0] = Some(1022);
     room.heads[15] = Some(1023);
     let mut store = Store::of_room(&room);
-    assert_eq!(store.mergeable(), accepted(527), "0 merges 15");
+    assert_eq!(store.mergeable(), accepted(merge(0, 15)));
     assert_eq!(store.say(&[0x09, 0, 15]), 18);
 }
 
@@ -397,7 +394,7 @@ fn a_damaged_store_gives_11() {
         damaged.bytes[place] ^= 1;
         assert_eq!(damaged.mergeable(), refused(11), "{place}");
     }
-    assert_eq!(store.mergeable(), accepted(256));
+    assert_eq!(store.mergeable(), accepted(STUCK));
 }
 
 // ---------------------------------------------------------------- the answer in words, and what follows from it

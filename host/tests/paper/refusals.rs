@@ -274,11 +274,9 @@ fn refusal_11_no_sound_store() {
     let short = &store.bytes[..store_bytes(2) - 1];
     assert_eq!(tested::heard(short, 0), refused(11));
     assert_eq!(tested::origin(short, 0, 0, 0), refused(11));
-    assert_eq!(tested::mergeable(short), refused(11));
     let exact = &store.bytes[..store_bytes(2)];
     assert_eq!(tested::heard(exact, 0), accepted(0));
     assert_eq!(tested::origin(exact, 0, 0, 0), accepted(0));
-    assert_eq!(tested::mergeable(exact), accepted(0));
     for length in [0, 1, 2, 3, 4, 5, 255, 4095, 4096, 4097] {
         assert_eq!(tested::common(&store.bytes[..length], 0, 0), refused(11));
     }
