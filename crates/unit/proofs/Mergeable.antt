@@ -232,7 +232,7 @@ module _ (store : List ℕ) (c d : ℕ) where
       let is-first = pair-first (roomIn store) c d (a .receiver) (a .giver) (omega arith) (λ e f l m before. numbered-not store e f l m (a .held) (first e f before)) in
       (a .held, (a .receiver, a .giver), pair-answered (roomIn store) (omega arith) ∙ is-first ∙ e)
 
--- the numbers of two verdicts differ
+-- verdicts that name consoles are told apart by their numbers
 same-verdict : (v w : Verdict) → NamesConsoles v → NamesConsoles w → numberOf v ≡ numberOf w → v ≡ w
 same-verdict allAgree allAgree p q e = refl
 same-verdict allAgree stuck p q e = absurd (omega arith)
