@@ -6,3 +6,4 @@ pub mod LittleEndian
 pub mod Strips
 pub mod Boards
 pub mod Entries
+pub mod Halves

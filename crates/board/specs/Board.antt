@@ -1,11 +1,11 @@
--- "32 strips of 12 bytes, 384 in all." The cells of a strip, how three boards are merged and which levels and headings clash, what an entry writes, and
--- the cells whose origin can be asked about.
+-- "32 strips of 12 bytes, 384 in all." The cells of a strip, how three boards are merged and which levels and headings clash, what an entry writes and
+-- what it leaves, and the cells whose origin can be asked about.
 use Prim.Native.Nat.{ℕ, zero, suc, _+_, _-_, _*_, _%_, _^_}
 use mathlib.Core.Bool.{Bool, true, false, cond, not, _&&_}
 use mathlib.Core.List.{List, [], _∷_, _++_}
 use lib.Bits.{bitAnd, bitOr}
 use lib.Dec.{eqb, ltb}
-use lib.ListN.{getD, set}
+use lib.ListN.{getD, take, drop, set}
 use Rattle.buffer.specs.Field.{word, wordAt, putWord, zeros}
 use Rattle.buffer.specs.Row.{bit}
 use Rattle.board.specs.declared.Cell.{Cell}
@@ -161,6 +161,10 @@ enter code k x s =
     (cond (eqb code callEntry) (putWord s (callsAt k) (wordAt s (callsAt k) + 1))
     (cond (eqb code alertOnEntry) (set (putWord s (alertsAt k) (wordAt s (alertsAt k) + 1)) (flagAt k) 1)
     (cond (eqb code alertOffEntry) (set s (flagAt k) 0) s))))))
+
+-- "the bytes of the other 31 strips": of a board, all that stand before strip k and all that stand behind it
+abbrev pub otherStrips : ℕ → List ℕ → List ℕ
+otherStrips k s = take (stripSize * k) s ++ drop (stripSize * suc k) s
 
 -- "cell (0 level, 1 heading)": of the cells of a strip, the two whose origin can be asked about, and their numbers. What another number is taken
 -- for does not matter, as it is refused (5).

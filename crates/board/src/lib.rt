@@ -9,12 +9,12 @@ use buffer::wide;
 use buffer::word_at;
 use graph::Strip;
 ghost use mathlib.Core.Path.{_≡_};
-ghost use Prim.Native.Nat.{_+_, _*_, _<_};
+ghost use Prim.Native.Nat.{_+_, _*_, _<_, _≤_};
 ghost use lib.Bits.{bitOr};
 ghost use lib.ListN.{length, set};
 ghost use Rattle.buffer.specs.Field.{wordAt, putWord, part, withPart, same};
 ghost use Rattle.buffer.specs.Row.{bit};
-ghost use Rattle.board.specs.Board.{stripSize, stripCount, boardSize, marksAt, alertsAt, flagAt, flagOn, mergeValue, mergeMarks, mergeCount, mergeFlag, mergeStrip, mergeBoard, markBit, without, enter};
+ghost use Rattle.board.specs.Board.{stripSize, stripCount, boardSize, marksAt, alertsAt, flagAt, flagOn, mergeValue, mergeMarks, mergeCount, mergeFlag, mergeStrip, mergeBoard, markBit, without, enter, otherStrips};
 ghost use Rattle.board.specs.LittleEndian.{swapped};
 
 // The bytes of a strip, the strips of a board, and its bytes.
@@ -23,6 +23,15 @@ const STRIP_SIZE: usize = 12;
 pub const STRIP_COUNT: usize = 32;
 
 pub const BOARD_SIZE: usize = STRIP_SIZE * STRIP_COUNT;
+
+// Half of a board and a quarter of it, in strips and in bytes.
+const HALF_STRIPS: usize = STRIP_COUNT / 2;
+
+const QUARTER_STRIPS: usize = STRIP_COUNT / 4;
+
+const HALF: usize = STRIP_SIZE * HALF_STRIPS;
+
+const QUARTER: usize = STRIP_SIZE * QUARTER_STRIPS;
 
 // The cells of a strip, by their first bytes.
 const LEVEL: usize = 0;
@@ -304,24 +313,71 @@ fn enter_strip(s: &mut [u8], code: usize, operand: usize)
     }
 }
 
-// Makes an entry on a board.
+// Makes an entry on a strip of a board, or of some strips of one that stand together. The bytes of the other strips stay as they were,
+// whatever they are.
 pub fn enter_board(board: &mut [u8], code: usize, strip: Strip, operand: usize)
-    requires { ⌜ (length (now board) ≡ boardSize) × (strip .0 < stripCount) ⌝ }
-    ensures { λ _. ⌜ now (board .exit) ≡ enter code (strip .0) operand (now (board .entry)) ⌝ }
+    requires { ⌜ stripSize * strip .0 + stripSize ≤ length (now board) ⌝ }
+    ensures { λ _. ⌜ (now (board .exit) ≡ enter code (strip .0) operand (now (board .entry))) × (otherStrips (strip .0) (now (board .exit)) ≡ otherStrips (strip .0) (now (board .entry))) ⌝ }
 {
     let at = STRIP_SIZE * strip.0;
     let end = at + STRIP_SIZE;
     enter_strip(&mut board[at..end], code, operand);
 }
 
-// A board is its parent's after an entry. It is made and compared whole too, which was faster than a comparison before, at and behind
-// the strip.
+// Whether two boards, or halves of boards, have the same n bytes at a place.
+fn same_part(s: &[u8], t: &[u8], at: usize, n: usize) -> bool
+    requires { ⌜ (at + n ≤ length (now s)) × (at + n ≤ length (now t)) ⌝ }
+    ensures { λ r. ⌜ r ≡ same (part (now (s .entry)) at n) (part (now (t .entry)) at n) ⌝ }
+{
+    is_same(part_of(s, at, n), part_of(t, at, n))
+}
+
+// A quarter of a board is its parent's after an entry on one of its strips. It is made and compared whole.
+fn is_quarter_entered(
+    quarter: &[u8],
+    parent: &[u8],
+    code: usize,
+    strip: Strip,
+    operand: usize,
+) -> bool
+    requires { ⌜ (length (now quarter) ≡ stripSize * 8) × (length (now parent) ≡ stripSize * 8) × (strip .0 < 8) ⌝ }
+    ensures { λ r. ⌜ r ≡ same (now (quarter .entry)) (enter code (strip .0) operand (now (parent .entry))) ⌝ }
+{
+    let mut entered = [0u8; QUARTER];
+    copy(&mut entered, parent);
+    enter_board(&mut entered, code, strip, operand);
+    is_same(quarter, &entered)
+}
+
+// Half of a board is its parent's after an entry on one of its strips: the quarter without the strip is the parent's, where it stands.
+fn is_half_entered(half: &[u8], parent: &[u8], code: usize, strip: Strip, operand: usize) -> bool
+    requires { ⌜ (length (now half) ≡ stripSize * 16) × (length (now parent) ≡ stripSize * 16) × (strip .0 < 16) ⌝ }
+    ensures { λ r. ⌜ r ≡ same (now (half .entry)) (enter code (strip .0) operand (now (parent .entry))) ⌝ }
+{
+    let at = QUARTER * (strip.0 / QUARTER_STRIPS);
+    is_quarter_entered(
+        part_of(half, at, QUARTER),
+        part_of(parent, at, QUARTER),
+        code,
+        Strip(strip.0 % QUARTER_STRIPS),
+        operand,
+    )
+        & same_part(half, parent, QUARTER - at, QUARTER)
+}
+
+// A board is its parent's after an entry: the half without the strip is the parent's, where it stands. Halves and quarters, as loops of these
+// lengths run on many bytes at a time and shorter ones do not; what is compared last is not kept in registers through the entry.
 pub fn is_entered(board: &[u8], parent: &[u8], code: usize, strip: Strip, operand: usize) -> bool
     requires { ⌜ (length (now board) ≡ boardSize) × (length (now parent) ≡ boardSize) × (strip .0 < stripCount) ⌝ }
     ensures { λ r. ⌜ r ≡ same (now (board .entry)) (enter code (strip .0) operand (now (parent .entry))) ⌝ }
 {
-    let mut entered = [0u8; BOARD_SIZE];
-    copy(&mut entered, parent);
-    enter_board(&mut entered, code, strip, operand);
-    is_same(board, &entered)
+    let at = HALF * (strip.0 / HALF_STRIPS);
+    is_half_entered(
+        part_of(board, at, HALF),
+        part_of(parent, at, HALF),
+        code,
+        Strip(strip.0 % HALF_STRIPS),
+        operand,
+    )
+        & same_part(board, parent, HALF - at, HALF)
 }

@@ -12,7 +12,7 @@ use lib.ListN.{length, getD, take}
 use lib.Seq.{take-suc, length-take-le}
 use Rattle.buffer.specs.Field.{same, allZero, zeros}
 
-same-append : (a b : List ℕ) (x y : List ℕ) → length a ≡ length b → same (a ++ x) (b ++ y) ≡ same a b && same x y
+pub same-append : (a b : List ℕ) (x y : List ℕ) → length a ≡ length b → same (a ++ x) (b ++ y) ≡ same a b && same x y
 unfolding same
 same-append [] [] x y e = refl
 same-append [] (k ∷ b) x y e = absurd (omega arith)

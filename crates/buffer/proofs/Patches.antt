@@ -106,6 +106,12 @@ module _ (s new : List ℕ) (at : ℕ) (fits : at + length new ≤ length s) whe
       let here : at + length new + n ≡ to = omega arith in
       rw (← there, drop-append-add (take at s) (new ++ rest) (length new + n), drop-append-add new rest n, drop-drop n (at + length new) s, there, here)
 
+  -- what lies before the new part and what lies behind it
+  pub with-around : (to : ℕ) → at + length new ≡ to → take at (withPart s at new) ++ drop to (withPart s at new) ≡ take at s ++ drop to s
+  unfolding withPart
+  with-around to e =
+      ap₂ _++_ (take-at (take at s) (new ++ drop (at + length new) s) at front) (behind 0 to (omega arith))
+
   -- a part replaced twice
   with-again : (next : List ℕ) → length next ≡ length new → withPart (withPart s at new) at next ≡ withPart s at next
   unfolding withPart
@@ -141,18 +147,16 @@ put-lent s new xs at to n a e l =
     rw (count, e, a) (put-back s xs to n l)
 
 -- the same, where they had been copied from another place and were changed
-pub changed-lent : (s t new : List ℕ) (f : List ℕ → List ℕ) (from source at to n : ℕ) → from ≡ source → at ≡ to → source + n ≤ length s
-    → to + n ≤ length s → ((x : List ℕ) → length x ≡ n → length (f x) ≡ n) → t ≡ withPart s at (part s from n)
-    → new ≡ f (take (at + n - at) (drop at t)) → take at t ++ (new ++ drop (at + n - at) (drop at t)) ≡ withPart s to (f (part s source n))
-changed-lent s t new f from source at to n d a read write keeps e g =
-    let copied : List ℕ = part s source n in
-    let long : length copied ≡ n = part-length s source n read in
-    let made : t ≡ withPart s to copied = rw (a, d) at e in
+pub changed-lent : (s t new : List ℕ) (f : List ℕ → List ℕ) (from at to n : ℕ) → at ≡ to → from + n ≤ length s → to + n ≤ length s
+    → ((x : List ℕ) → length x ≡ n → length (f x) ≡ n) → t ≡ withPart s to (part s from n) → new ≡ f (take (at + n - at) (drop at t))
+    → take at t ++ (new ++ drop (at + n - at) (drop at t)) ≡ withPart s to (f (part s from n))
+changed-lent s t new f from at to n a read write keeps e g =
+    let copied : List ℕ = part s from n in
+    let long : length copied ≡ n = part-length s from n read in
     let count : at + n - at ≡ n = omega arith in
-    let same : new ≡ f copied =
-    g ∙ rw (count, a, made) (ap f (with-here s copied to (omega arith) n long)) in
+    let same : new ≡ f copied = g ∙ rw (count, a, e) (ap f (with-here s copied to (omega arith) n long)) in
     put-lent t new (f copied) at to n a same (keeps copied long)
-    ∙ rw made (with-again s copied to (omega arith) (f copied) (keeps copied long ∙ sym long))
+    ∙ rw e (with-again s copied to (omega arith) (f copied) (keeps copied long ∙ sym long))
 
 -- n bytes copied to a place behind them, the first i of them done
 pub record Copied (s : List ℕ) (from to n i : ℕ) (t : List ℕ) : Type 0 where

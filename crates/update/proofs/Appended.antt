@@ -10,7 +10,7 @@ use Rattle.buffer.specs.Field.{byte, putWord, zeros, withPart}
 use Rattle.buffer.specs.Row.{withMember, union}
 use Rattle.buffer.proofs.Fields.{part-length}
 use Rattle.buffer.proofs.Bytewise.{bytewise-length}
-use Rattle.buffer.proofs.Patches.{put-lent, with-length, with-part, with-next}
+use Rattle.buffer.proofs.Patches.{put-lent, with-length, with-part, with-here, with-next}
 use Rattle.board.specs.Board.{boardSize, enter, mergeBoard}
 use Rattle.board.proofs.Length.{enter-length, mergeBoard-length}
 use Rattle.graph.specs.declared.Node.{Node}
@@ -41,6 +41,13 @@ joined-keeps n v other x k l = member-keeps n v (union x other) (bytewise-length
 
 pub entered-keeps : (n code k operand : ℕ) (x : List ℕ) → length x ≡ n → length (enter code k operand x) ≡ n
 entered-keeps n code k operand x l = enter-length code k operand x ∙ l
+
+-- the board of version p, copied over whatever stands in the part of version n: the part is then that board
+pub parent-put : (s : List ℕ) (n p : ℕ) {t : List ℕ} → p < n → blockAt (suc n) ≤ length s → t ≡ withPart s (boardAt n) (boardPart s p)
+    → (t ≡ withPart s (boardAt n) (boardPart s p)) × (boardPart t n ≡ boardPart s p)
+parent-put s n p lower fits e =
+    let long : length (boardPart s p) ≡ boardSize = part-length s (boardAt p) boardSize (omega arith) in
+    (e, ap (λ (u : List ℕ). boardPart u n) e ∙ with-here s (boardPart s p) (boardAt n) (omega arith) boardSize long)
 
 -- a merge of copies of three boards, written where the board of version n was lent
 pub merged-put : (s : List ℕ) (n p q l : ℕ) {new base mine given : List ℕ} {at clashes : ℕ} → at ≡ boardAt n

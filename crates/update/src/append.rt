@@ -106,15 +106,23 @@ fn put_entry_row(s: &mut [u8], n: Version, p: Version)
     put_extended(s, row_at(p), row_at(n), n.0);
 }
 
-// Puts the board of an entry: its parent's, with the entry made on it.
+// Writes the board of version p into the part of version n, which is then that board, whatever stood there.
+fn put_parent_board(s: &mut [u8], n: Version, p: Version)
+    requires { ⌜ (p .0 < n .0) × (n .0 < maxCapacity) × (blockAt (suc (n .0)) ≤ length (now s)) ⌝ }
+    ensures { λ _. ⌜ (now (s .exit) ≡ withPart (now (s .entry)) (boardAt (n .0)) (boardPart (now (s .entry)) (p .0))) × (boardPart (now (s .exit)) (n .0) ≡ boardPart (now (s .entry)) (p .0)) ⌝ }
+{
+    copy_within(s, board_at(p), board_at(n), BOARD);
+}
+
+// Puts the board of an entry: its parent's, written once, and the entry made on it there.
 fn put_entry_board(s: &mut [u8], n: Version, p: Version, code: usize, strip: Strip, operand: usize)
     requires { ⌜ (p .0 < n .0) × (n .0 < maxCapacity) × (blockAt (suc (n .0)) ≤ length (now s)) ⌝ }
     requires { ⌜ (strip .0 < stripCount) ⌝ }
     ensures { λ _. ⌜ now (s .exit) ≡ withPart (now (s .entry)) (boardAt (n .0)) (enter code (strip .0) operand (boardPart (now (s .entry)) (p .0))) ⌝ }
 {
+    put_parent_board(s, n, p);
     let at = board_at(n);
     let end = at + BOARD;
-    copy_within(s, board_at(p), at, BOARD);
     enter_board(&mut s[at..end], code, strip, operand);
 }
 

@@ -12,7 +12,7 @@ returns : tie.Need-returns
 returns c =
     let copied = c .before .before .before .before .before .before in
     let a = copied .before .before .before .args in
-    changed-lent (a .s .now) _ _ (λ x. withMember x (a .v)) (a .from) (a .from) (a .to) (a .to) rowWidth refl refl (omega arith) (omega arith)
+    changed-lent (a .s .now) _ _ (λ x. withMember x (a .v)) (a .from) (a .to) (a .to) rowWidth refl (omega arith) (omega arith)
     (λ x e. withMember-length x (a .v) ∙ e) (copied .copy-within .ensures) (c .before .before .add-member .ensures)
 
 pub put-extended-spec : {M : Type 1} → statement M

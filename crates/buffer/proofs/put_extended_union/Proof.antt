@@ -21,7 +21,7 @@ returns c =
     let s = a .s .now in
     let other = part s (a .q) rowWidth in
     let long = part-length s (a .q) rowWidth (omega arith) in
-    changed-lent s _ _ (λ x. withMember (union x other) (a .v)) (a .p) (a .p) (a .to) (a .to) rowWidth refl refl (omega arith) (omega arith)
+    changed-lent s _ _ (λ x. withMember (union x other) (a .v)) (a .p) (a .to) (a .to) rowWidth refl (omega arith) (omega arith)
     (λ x l. withMember-length (union x other) (a .v) ∙ bytewise-length bitOr x other (l ∙ sym long) ∙ l)
     (copied .copy-within .ensures) (rw (kept .copy .ensures, kept .before .part-of .ensures .0) at (added .add-extended .ensures))
 
