@@ -9,7 +9,7 @@ use buffer::wide;
 use buffer::word_at;
 use graph::Strip;
 ghost use mathlib.Core.Path.{_≡_};
-ghost use Prim.Native.Nat.{_+_, _*_, _<_, _≤_};
+ghost use Prim.Native.Nat.{_+_, _*_, _/_, _<_, _≤_};
 ghost use lib.Bits.{bitOr};
 ghost use lib.ListN.{length, set};
 ghost use Rattle.buffer.specs.Field.{wordAt, putWord, part, withPart, same};
@@ -313,8 +313,7 @@ fn enter_strip(s: &mut [u8], code: usize, operand: usize)
     }
 }
 
-// Makes an entry on a strip of a board, or of some strips of one that stand together. The bytes of the other strips stay as they were,
-// whatever they are.
+// Makes an entry on a strip of a board, or of a run of strips of a board. The bytes of the other strips stay as they were, whatever they are.
 pub fn enter_board(board: &mut [u8], code: usize, strip: Strip, operand: usize)
     requires { ⌜ stripSize * strip .0 + stripSize ≤ length (now board) ⌝ }
     ensures { λ _. ⌜ (now (board .exit) ≡ enter code (strip .0) operand (now (board .entry))) × (otherStrips (strip .0) (now (board .exit)) ≡ otherStrips (strip .0) (now (board .entry))) ⌝ }
@@ -340,7 +339,7 @@ fn is_quarter_entered(
     strip: Strip,
     operand: usize,
 ) -> bool
-    requires { ⌜ (length (now quarter) ≡ stripSize * 8) × (length (now parent) ≡ stripSize * 8) × (strip .0 < 8) ⌝ }
+    requires { ⌜ (length (now quarter) ≡ stripSize * (stripCount / 4)) × (length (now parent) ≡ stripSize * (stripCount / 4)) × (strip .0 < stripCount / 4) ⌝ }
     ensures { λ r. ⌜ r ≡ same (now (quarter .entry)) (enter code (strip .0) operand (now (parent .entry))) ⌝ }
 {
     let mut entered = [0u8; QUARTER];
@@ -349,9 +348,10 @@ fn is_quarter_entered(
     is_same(quarter, &entered)
 }
 
-// Half of a board is its parent's after an entry on one of its strips: the quarter without the strip is the parent's, where it stands.
+// Half of a board is its parent's after an entry on one of its strips: the quarter with the strip is so, and the other quarter is the
+// parent's, compared where it stands.
 fn is_half_entered(half: &[u8], parent: &[u8], code: usize, strip: Strip, operand: usize) -> bool
-    requires { ⌜ (length (now half) ≡ stripSize * 16) × (length (now parent) ≡ stripSize * 16) × (strip .0 < 16) ⌝ }
+    requires { ⌜ (length (now half) ≡ stripSize * (stripCount / 2)) × (length (now parent) ≡ stripSize * (stripCount / 2)) × (strip .0 < stripCount / 2) ⌝ }
     ensures { λ r. ⌜ r ≡ same (now (half .entry)) (enter code (strip .0) operand (now (parent .entry))) ⌝ }
 {
     let at = QUARTER * (strip.0 / QUARTER_STRIPS);
@@ -365,8 +365,9 @@ fn is_half_entered(half: &[u8], parent: &[u8], code: usize, strip: Strip, operan
         & same_part(half, parent, QUARTER - at, QUARTER)
 }
 
-// A board is its parent's after an entry: the half without the strip is the parent's, where it stands. Halves and quarters, as loops of these
-// lengths run on many bytes at a time and shorter ones do not; what is compared last is not kept in registers through the entry.
+// A board is its parent's after an entry: the half with the strip is so, and the other half is the parent's, compared where it stands. Halves
+// and quarters, as loops of these lengths run on many bytes at a time and shorter ones do not. What is made stands first in each line: what is
+// compared before it is kept on the stack through the `match` of the entry.
 pub fn is_entered(board: &[u8], parent: &[u8], code: usize, strip: Strip, operand: usize) -> bool
     requires { ⌜ (length (now board) ≡ boardSize) × (length (now parent) ≡ boardSize) × (strip .0 < stripCount) ⌝ }
     ensures { λ r. ⌜ r ≡ same (now (board .entry)) (enter code (strip .0) operand (now (parent .entry))) ⌝ }
