@@ -3,6 +3,7 @@ pub mod values;
 
 use buffer::copy;
 use buffer::is_same;
+use buffer::is_same_at;
 use buffer::part_of;
 use buffer::put_word;
 use buffer::wide;
@@ -29,9 +30,9 @@ const HALF_STRIPS: usize = STRIP_COUNT / 2;
 
 const QUARTER_STRIPS: usize = STRIP_COUNT / 4;
 
-const HALF: usize = STRIP_SIZE * HALF_STRIPS;
+const HALF_SIZE: usize = STRIP_SIZE * HALF_STRIPS;
 
-const QUARTER: usize = STRIP_SIZE * QUARTER_STRIPS;
+const QUARTER_SIZE: usize = STRIP_SIZE * QUARTER_STRIPS;
 
 // The cells of a strip, by their first bytes.
 const LEVEL: usize = 0;
@@ -313,7 +314,8 @@ fn enter_strip(s: &mut [u8], code: usize, operand: usize)
     }
 }
 
-// Makes an entry on a strip of a board, or of a run of strips of a board. The bytes of the other strips stay as they were, whatever they are.
+// Makes an entry on a strip of a board, or of a run of its strips, in which the strip's number counts from the first of the run. The bytes
+// of the other strips, 31 of a whole board, stay as they were, whatever they are.
 pub fn enter_board(board: &mut [u8], code: usize, strip: Strip, operand: usize)
     requires { ⌜ stripSize * strip .0 + stripSize ≤ length (now board) ⌝ }
     ensures { λ _. ⌜ (now (board .exit) ≡ enter code (strip .0) operand (now (board .entry))) × (otherStrips (strip .0) (now (board .exit)) ≡ otherStrips (strip .0) (now (board .entry))) ⌝ }
@@ -321,14 +323,6 @@ pub fn enter_board(board: &mut [u8], code: usize, strip: Strip, operand: usize)
     let at = STRIP_SIZE * strip.0;
     let end = at + STRIP_SIZE;
     enter_strip(&mut board[at..end], code, operand);
-}
-
-// Whether two boards, or halves of boards, have the same n bytes at a place.
-fn same_part(s: &[u8], t: &[u8], at: usize, n: usize) -> bool
-    requires { ⌜ (at + n ≤ length (now s)) × (at + n ≤ length (now t)) ⌝ }
-    ensures { λ r. ⌜ r ≡ same (part (now (s .entry)) at n) (part (now (t .entry)) at n) ⌝ }
-{
-    is_same(part_of(s, at, n), part_of(t, at, n))
 }
 
 // A quarter of a board is its parent's after an entry on one of its strips. It is made and compared whole.
@@ -342,7 +336,7 @@ fn is_quarter_entered(
     requires { ⌜ (length (now quarter) ≡ stripSize * (stripCount / 4)) × (length (now parent) ≡ stripSize * (stripCount / 4)) × (strip .0 < stripCount / 4) ⌝ }
     ensures { λ r. ⌜ r ≡ same (now (quarter .entry)) (enter code (strip .0) operand (now (parent .entry))) ⌝ }
 {
-    let mut entered = [0u8; QUARTER];
+    let mut entered = [0u8; QUARTER_SIZE];
     copy(&mut entered, parent);
     enter_board(&mut entered, code, strip, operand);
     is_same(quarter, &entered)
@@ -354,15 +348,15 @@ fn is_half_entered(half: &[u8], parent: &[u8], code: usize, strip: Strip, operan
     requires { ⌜ (length (now half) ≡ stripSize * (stripCount / 2)) × (length (now parent) ≡ stripSize * (stripCount / 2)) × (strip .0 < stripCount / 2) ⌝ }
     ensures { λ r. ⌜ r ≡ same (now (half .entry)) (enter code (strip .0) operand (now (parent .entry))) ⌝ }
 {
-    let at = QUARTER * (strip.0 / QUARTER_STRIPS);
+    let at = QUARTER_SIZE * (strip.0 / QUARTER_STRIPS);
     is_quarter_entered(
-        part_of(half, at, QUARTER),
-        part_of(parent, at, QUARTER),
+        part_of(half, at, QUARTER_SIZE),
+        part_of(parent, at, QUARTER_SIZE),
         code,
         Strip(strip.0 % QUARTER_STRIPS),
         operand,
     )
-        & same_part(half, parent, QUARTER - at, QUARTER)
+        & is_same_at(half, parent, QUARTER_SIZE - at, QUARTER_SIZE)
 }
 
 // A board is its parent's after an entry: the half with the strip is so, and the other half is the parent's, compared where it stands. Halves
@@ -372,13 +366,13 @@ pub fn is_entered(board: &[u8], parent: &[u8], code: usize, strip: Strip, operan
     requires { ⌜ (length (now board) ≡ boardSize) × (length (now parent) ≡ boardSize) × (strip .0 < stripCount) ⌝ }
     ensures { λ r. ⌜ r ≡ same (now (board .entry)) (enter code (strip .0) operand (now (parent .entry))) ⌝ }
 {
-    let at = HALF * (strip.0 / HALF_STRIPS);
+    let at = HALF_SIZE * (strip.0 / HALF_STRIPS);
     is_half_entered(
-        part_of(board, at, HALF),
-        part_of(parent, at, HALF),
+        part_of(board, at, HALF_SIZE),
+        part_of(parent, at, HALF_SIZE),
         code,
         Strip(strip.0 % HALF_STRIPS),
         operand,
     )
-        & same_part(board, parent, HALF - at, HALF)
+        & is_same_at(board, parent, HALF_SIZE - at, HALF_SIZE)
 }

@@ -56,6 +56,14 @@ pub fn is_same(s: &[u8], t: &[u8]) -> bool
     acc == 0
 }
 
+// Whether two slices hold the same n bytes at a place.
+pub fn is_same_at(s: &[u8], t: &[u8], at: usize, n: usize) -> bool
+    requires { ⌜ (at + n ≤ length (now s)) × (at + n ≤ length (now t)) ⌝ }
+    ensures { λ r. ⌜ r ≡ same (part (now (s .entry)) at n) (part (now (t .entry)) at n) ⌝ }
+{
+    is_same(part_of(s, at, n), part_of(t, at, n))
+}
+
 // Whether every byte is 0.
 pub fn is_zero(s: &[u8]) -> bool
     ensures { λ r. ⌜ r ≡ allZero (now (s .entry)) ⌝ }

@@ -173,8 +173,8 @@ fn times_of(work: &Work) -> Times {
     }
 }
 
-/// Does a turn so many small frames further down the stack. The soundness test has boards there, and takes up to a tenth longer at some
-/// places than at others, 16 bytes apart; so each work is measured at several.
+/// Does a turn so many small frames further down the stack. The soundness test has boards and quarters of boards there, and took up to a
+/// tenth longer at some places than at others, 16 bytes apart; so each work is measured at several.
 #[inline(never)]
 fn at_depth(depth: usize, turn: &mut dyn FnMut()) {
     let held = black_box([depth; 2]);
