@@ -21,10 +21,10 @@ use Rattle.command.specs.declared.Shape.{Shape}
 use Rattle.command.specs.declared.Shape.the-variants.{Known, Unknown}
 use Rattle.command.specs.declared.Operands.{Operands}
 use Rattle.command.specs.declared.Command.{Command}
-use Rattle.command.specs.declared.Command.the-variants.{Fork, Entry, Merge, FastForward, Leave}
+use Rattle.command.specs.declared.Command.the-variants.{Fork, Entry, Merge, FastForward, Leave, MakeHub}
 use Rattle.command.specs.declared.Decoded.{Decoded}
 use Rattle.command.specs.declared.Decoded.the-variants.{Whole, Refused}
-use Rattle.command.specs.Code.{consoleCount, forkCommand, mergeCommand, fastForwardCommand, leaveCommand, kindOf, kindRefusal, shapeOf, shapeRefusal, lengthOf, numberAt, operandsOf, isEntryCode, isStrip, isOperand}
+use Rattle.command.specs.Code.{consoleCount, forkCommand, mergeCommand, fastForwardCommand, leaveCommand, makeHubCommand, kindOf, kindRefusal, shapeOf, shapeRefusal, lengthOf, numberAt, operandsOf, isEntryCode, isStrip, isOperand}
 use Rattle.command.specs.Decode.{codeIn, operandsIn, twoConsoleTests, entryNumberTests, leaveNumberTests, numberTests, commandOf, decode, refusalOf, operandBytes, commandBytes, decodedBytes}
 use Rattle.command.specs.Decoding.{narrow, TwoConsoles, InRange}
 use Rattle.command.proofs.Limits.{each-entry, operand-below}
@@ -83,6 +83,7 @@ spells kind-is.Entry code o e z =
 spells kind-is.Merge code o e z = rw e
 spells kind-is.FastForward code o e z = rw e
 spells kind-is.Leave code o e z = rw e
+spells kind-is.MakeHub code o e z = rw e
 spells kind-is.Unknown code o e z = absurd (omega arith)
 
 pub decode-bytes : (s : List ℕ) (c : Command) → Bytes s → decode s ≡ Whole c → commandBytes c ≡ s
@@ -127,6 +128,14 @@ leave-decodes a h =
     (decoded (leaveCommand ∷ a ∷ []) leaveCommand refl kind-is.Leave refl 0 refl refl (Known 1 0 0 0) refl 2 refl refl (three-numbers a 0 0) refl
     0 (leave-passes a h) refl)
 
+-- the command without operands has no tests to pass
+hub-decodes : decode (makeHubCommand ∷ []) ≡ Whole MakeHub
+unfolding kindOf shapeOf lengthOf operandsOf numberAt firstRefusal
+hub-decodes =
+    sym
+    (decoded (makeHubCommand ∷ []) makeHubCommand refl kind-is.MakeHub refl 0 refl refl (Known 0 0 0 0) refl 1 refl refl (three-numbers 0 0 0) refl
+    0 refl refl)
+
 -- an entry passes its tests, is as long as its code says, and has its numbers where they are read
 module _ (a code b x : ℕ) (h : (a < consoleCount) × (isEntryCode code && isStrip b && isOperand code x ≡ true)) where
   entry-code : isEntryCode code ≡ true
@@ -169,3 +178,4 @@ bytes-decode (Merge receiver giver) h =
 bytes-decode (FastForward receiver giver) h =
     pair-decodes kind-is.FastForward fastForwardCommand (receiver .0) (giver .0) refl refl refl (pair-passes (receiver .0) (giver .0) h)
 bytes-decode (Leave console) h = leave-decodes (console .0) h
+bytes-decode MakeHub h = hub-decodes

@@ -50,6 +50,7 @@ in-range kind-is.Entry code o e z h = one-console code o e h
 in-range kind-is.Merge code o e z h = two-consoles o h
 in-range kind-is.FastForward code o e z h = two-consoles o h
 in-range kind-is.Leave code o e z h = leaving-console o h
+in-range kind-is.MakeHub code o e z h = tt
 in-range kind-is.Unknown code o e z h = absurd (omega arith)
 
 -- the command at the front of a list of bytes, by its code

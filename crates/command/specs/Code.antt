@@ -20,7 +20,7 @@ consoleCount = 16
 abbrev pub within : ℕ → ℕ → ℕ → Bool
 within low high x = leb low x && leb x high
 
--- Codes of commands: "01 fork", "09 merge, 0A fast-forward", "Code 0B with one console removes it"; 02 to 08 make an entry.
+-- Codes of commands: "01 fork", "09 merge, 0A fast-forward", "Code 0B with one console removes it", "Code 0C, no operands"; 02 to 08 make an entry.
 abbrev pub forkCommand : ℕ
 forkCommand = 0x01
 
@@ -33,7 +33,11 @@ fastForwardCommand = 0x0A
 abbrev pub leaveCommand : ℕ
 leaveCommand = 0x0B
 
--- Codes of tape records: "20, capacity", "21: parent ..", "22: receiver's version ..", "23: console ..", "24, the last byte".
+abbrev pub makeHubCommand : ℕ
+makeHubCommand = 0x0C
+
+-- Codes of tape records: "20, capacity", "21: parent ..", "22: receiver's version ..", "23: console ..", "24, the last byte"; "25 just
+-- before 24".
 abbrev pub startRecord : ℕ
 startRecord = 0x20
 
@@ -49,29 +53,34 @@ headRecord = 0x23
 abbrev pub endRecord : ℕ
 endRecord = 0x24
 
+abbrev pub hubRecord : ℕ
+hubRecord = 0x25
+
 -- "Codes 02 to 08 make an entry version": also on tapes and in stores
 abbrev pub isEntryCode : ℕ → Bool
 isEntryCode code = within levelEntry alertOffEntry code
 
--- The kind of a code. The codes of commands are those of a kind other than Unknown: 01 to 0B.
+-- The kind of a code. The codes of commands are those of a kind other than Unknown: 01 to 0C.
 unfoldable pub kindOf : ℕ → Kind
 kindOf code =
     cond (eqb code forkCommand) kind-is.Fork
     (cond (isEntryCode code) kind-is.Entry
     (cond (eqb code mergeCommand) kind-is.Merge
     (cond (eqb code fastForwardCommand) kind-is.FastForward
-    (cond (eqb code leaveCommand) kind-is.Leave kind-is.Unknown))))
+    (cond (eqb code leaveCommand) kind-is.Leave
+    (cond (eqb code makeHubCommand) kind-is.MakeHub kind-is.Unknown)))))
 
--- the paper's number for a kind: 0, or "1 empty command, or code outside 01 to 0A.", which request Two makes 01 to 0B
+-- the paper's number for a kind: 0, or "1 empty command, or code outside 01 to 0A.", which the requests make 01 to 0C
 abbrev pub kindRefusal : Kind → ℕ
 kindRefusal kind-is.Fork = 0
 kindRefusal kind-is.Entry = 0
 kindRefusal kind-is.Merge = 0
 kindRefusal kind-is.FastForward = 0
 kindRefusal kind-is.Leave = 0
+kindRefusal kind-is.MakeHub = 0
 kindRefusal kind-is.Unknown = 1
 
--- "01 fork", "02 level", .. "0A fast-forward", "0B with one console"; the tape's records are 20 to 24
+-- "01 fork", "02 level", .. "0A fast-forward", "0B with one console", "0C, no operands"; the tape's records are 20 to 25
 unfoldable pub shapeOf : ℕ → Shape
 shapeOf code =
     cond (eqb code forkCommand) (Known 1 1 0 0)
@@ -80,11 +89,13 @@ shapeOf code =
     (cond (within callEntry alertOffEntry code) (Known 1 1 0 0)
     (cond (within mergeCommand fastForwardCommand code) (Known 1 1 0 0)
     (cond (eqb code leaveCommand) (Known 1 0 0 0)
+    (cond (eqb code makeHubCommand) (Known 0 0 0 0)
     (cond (eqb code startRecord) (Known 2 0 0 0)
     (cond (eqb code entryRecord) (Known 2 1 1 2)
     (cond (eqb code mergeRecord) (Known 2 2 0 0)
     (cond (eqb code headRecord) (Known 1 2 0 0)
-    (cond (eqb code endRecord) (Known 0 0 0 0) Unknown))))))))))
+    (cond (eqb code endRecord) (Known 0 0 0 0)
+    (cond (eqb code hubRecord) (Known 0 0 0 0) Unknown))))))))))))
 
 -- what refuses a shape: nothing (0), or for an unknown code the number given by whoever asks
 abbrev pub shapeRefusal : ℕ → Shape → ℕ

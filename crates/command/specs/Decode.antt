@@ -10,11 +10,11 @@ use Rattle.command.specs.declared.Kind.{Kind}
 use Rattle.command.specs.declared.Kind.the-variants as kind-is
 use Rattle.command.specs.declared.Operands.{Operands}
 use Rattle.command.specs.declared.Command.{Command}
-use Rattle.command.specs.declared.Command.the-variants.{Fork, Entry, Merge, FastForward, Leave}
+use Rattle.command.specs.declared.Command.the-variants.{Fork, Entry, Merge, FastForward, Leave, MakeHub}
 use Rattle.command.specs.declared.Decoded.{Decoded}
 use Rattle.command.specs.declared.Decoded.the-variants.{Whole, Refused}
 use Rattle.refusal.specs.Refusal.{_when_, firstRefusal}
-use Rattle.command.specs.Code.{within, forkCommand, mergeCommand, fastForwardCommand, leaveCommand, kindOf, kindRefusal, shapeOf, lengthOf, operandsOf, isConsole, isStrip, isOperand}
+use Rattle.command.specs.Code.{within, forkCommand, mergeCommand, fastForwardCommand, leaveCommand, makeHubCommand, kindOf, kindRefusal, shapeOf, lengthOf, operandsOf, isConsole, isStrip, isOperand}
 
 -- the code of a command; an empty one has none, and reads as 0, which is no command's
 abbrev pub codeIn : List ℕ → ℕ
@@ -57,9 +57,10 @@ numberTests kind-is.Entry code o = entryNumberTests code o
 numberTests kind-is.Merge code o = twoConsoleTests o
 numberTests kind-is.FastForward code o = twoConsoleTests o
 numberTests kind-is.Leave code o = leaveNumberTests o
+numberTests kind-is.MakeHub code o = []
 numberTests kind-is.Unknown code o = []
 
--- "1 empty command, or code outside 01 to 0A.", which request Two makes 01 to 0B. "2 length not the code's."
+-- "1 empty command, or code outside 01 to 0A.", which the requests make 01 to 0C. "2 length not the code's."
 unfoldable pub commandRefusal : List ℕ → ℕ
 commandRefusal s =
     let code : ℕ = codeIn s in
@@ -76,6 +77,7 @@ commandOf kind-is.Entry code o = Entry (record { 0 = o .first }) code (record { 
 commandOf kind-is.Merge code o = Merge (record { 0 = o .first }) (record { 0 = o .second })
 commandOf kind-is.FastForward code o = FastForward (record { 0 = o .first }) (record { 0 = o .second })
 commandOf kind-is.Leave code o = Leave (record { 0 = o .first })
+commandOf kind-is.MakeHub code o = MakeHub
 commandOf kind-is.Unknown code o = FastForward (record { 0 = o .first }) (record { 0 = o .second })
 
 unfoldable pub decode : List ℕ → Decoded
@@ -99,6 +101,7 @@ commandBytes (Entry console code strip operand) = code ∷ console .0 ∷ strip 
 commandBytes (Merge receiver giver) = mergeCommand ∷ receiver .0 ∷ giver .0 ∷ []
 commandBytes (FastForward receiver giver) = fastForwardCommand ∷ receiver .0 ∷ giver .0 ∷ []
 commandBytes (Leave console) = leaveCommand ∷ console .0 ∷ []
+commandBytes MakeHub = makeHubCommand ∷ []
 
 -- the paper's code and values for what was decoded: those of a whole command, none for a refusal
 abbrev pub decodedBytes : Decoded → List ℕ

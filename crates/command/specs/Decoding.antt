@@ -6,7 +6,7 @@ use mathlib.Core.Bool.{true, _&&_}
 use Rattle.command.specs.declared.Shape.{Shape}
 use Rattle.command.specs.declared.Shape.the-variants.{Known, Unknown}
 use Rattle.command.specs.declared.Command.{Command}
-use Rattle.command.specs.declared.Command.the-variants.{Fork, Entry, Merge, FastForward, Leave}
+use Rattle.command.specs.declared.Command.the-variants.{Fork, Entry, Merge, FastForward, Leave, MakeHub}
 use Rattle.command.specs.Code.{consoleCount, isEntryCode, isStrip, isOperand}
 
 -- no operand is wider than two bytes
@@ -26,3 +26,4 @@ InRange (Entry console code strip operand) =
 InRange (Merge receiver giver) = TwoConsoles (receiver .0) (giver .0)
 InRange (FastForward receiver giver) = TwoConsoles (receiver .0) (giver .0)
 InRange (Leave console) = (console .0 < consoleCount) × (0 < console .0)
+InRange MakeHub = Unit {0}

@@ -7,6 +7,8 @@ pub const FAST_FORWARD_COMMAND: usize = 0x0A;
 
 pub const LEAVE_COMMAND: usize = 0x0B;
 
+pub const MAKE_HUB_COMMAND: usize = 0x0C;
+
 pub const START_RECORD: usize = 0x20;
 
 pub const ENTRY_RECORD: usize = 0x21;
@@ -16,3 +18,5 @@ pub const MERGE_RECORD: usize = 0x22;
 pub const HEAD_RECORD: usize = 0x23;
 
 pub const END_RECORD: usize = 0x24;
+
+pub const HUB_RECORD: usize = 0x25;

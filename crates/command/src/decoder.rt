@@ -9,7 +9,9 @@ use crate::codes::ENTRY_RECORD;
 use crate::codes::FAST_FORWARD_COMMAND;
 use crate::codes::FORK_COMMAND;
 use crate::codes::HEAD_RECORD;
+use crate::codes::HUB_RECORD;
 use crate::codes::LEAVE_COMMAND;
+use crate::codes::MAKE_HUB_COMMAND;
 use crate::codes::MERGE_COMMAND;
 use crate::codes::MERGE_RECORD;
 use crate::codes::START_RECORD;
@@ -47,6 +49,7 @@ fn kind_of(code: usize) -> Kind
         MERGE_COMMAND => Kind::Merge,
         FAST_FORWARD_COMMAND => Kind::FastForward,
         LEAVE_COMMAND => Kind::Leave,
+        MAKE_HUB_COMMAND => Kind::MakeHub,
         _ => Kind::Unknown,
     }
 }
@@ -61,6 +64,7 @@ fn kind_refusal(kind: Kind) -> u32
         Kind::Merge => 0,
         Kind::FastForward => 0,
         Kind::Leave => 0,
+        Kind::MakeHub => 0,
         Kind::Unknown => 1,
     }
 }
@@ -83,11 +87,13 @@ pub fn widths_of(code: usize) -> Shape
         CALL_ENTRY..=ALERT_OFF_ENTRY => Shape::Known(1, 1, 0, 0),
         MERGE_COMMAND..=FAST_FORWARD_COMMAND => Shape::Known(1, 1, 0, 0),
         LEAVE_COMMAND => Shape::Known(1, 0, 0, 0),
+        MAKE_HUB_COMMAND => Shape::Known(0, 0, 0, 0),
         START_RECORD => Shape::Known(2, 0, 0, 0),
         ENTRY_RECORD => Shape::Known(2, 1, 1, 2),
         MERGE_RECORD => Shape::Known(2, 2, 0, 0),
         HEAD_RECORD => Shape::Known(1, 2, 0, 0),
         END_RECORD => Shape::Known(0, 0, 0, 0),
+        HUB_RECORD => Shape::Known(0, 0, 0, 0),
         _ => Shape::Unknown,
     }
 }
@@ -182,6 +188,7 @@ fn numbers_refused(kind: Kind, code: usize, o: Operands) -> u32
         Kind::Merge => two_consoles_refused(o),
         Kind::FastForward => two_consoles_refused(o),
         Kind::Leave => leave_number_refused(o),
+        Kind::MakeHub => 0,
         Kind::Unknown => 0,
     }
 }
@@ -212,6 +219,7 @@ fn command_from(kind: Kind, code: usize, o: Operands) -> Command
         Kind::Leave => Command::Leave {
             console: Console(o.first),
         },
+        Kind::MakeHub => Command::MakeHub,
         Kind::Unknown => Command::FastForward {
             receiver: Console(o.first),
             giver: Console(o.second),

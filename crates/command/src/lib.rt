@@ -13,6 +13,7 @@ pub enum Kind {
     Merge,
     FastForward,
     Leave,
+    MakeHub,
     Unknown,
 }
 
@@ -52,6 +53,8 @@ pub enum Command {
     Leave {
         console: Console,
     },
+    // Console 0 is made the hub of the room, for good: the others merge and fast-forward with it alone, and are forked from it.
+    MakeHub,
 }
 
 // A command is decoded whole, or refused with the number of its refusal.

@@ -14,7 +14,7 @@ use Rattle.laws.proofs.Logic.{clash, decide, refuted, and-l, and-r, and-i, and-
 use Rattle.graph.specs.Below.{everyBelow, someBelow, countBelow, highestBelow, firstNonzero}
 
 -- what holds below n and at n holds below n + 1
-more : (P : ℕ → Type 0) (n : ℕ) → ((k : ℕ) → k < n → P k) → P n → (k : ℕ) → k < suc n → P k
+pub more : (P : ℕ → Type 0) (n : ℕ) → ((k : ℕ) → k < n → P k) → P n → (k : ℕ) → k < suc n → P k
 more P n h p k l = elim (ℕ-discrete k n) [ yes e ↦ rw e p | no d ↦ h k (omega arith) ]
 
 pub at : (n : ℕ) (f : ℕ → Bool) → everyBelow n f ≡ true → (k : ℕ) → k < n → f k ≡ true
@@ -30,6 +30,12 @@ of (suc n) f h = and-i (everyBelow n f) (f n) (of n f (λ k l. h k (omega arith)
 pub every-more : (n : ℕ) (f : ℕ → Bool) → everyBelow n f ≡ true → f n ≡ true → everyBelow (n + 1) f ≡ true
 unfolding everyBelow
 every-more n f h t = rw add-one (and-i (everyBelow n f) (f n) h t)
+
+-- a test that agrees with another below the bound
+pub every-ext : (n : ℕ) (f g : ℕ → Bool) → ((k : ℕ) → k < n → f k ≡ g k) → everyBelow n f ≡ everyBelow n g
+unfolding everyBelow
+every-ext zero f g h = refl
+every-ext (suc n) f g h = rw (every-ext n f g (λ k l. h k (omega arith)), h n (omega arith))
 
 -- where one does not pass, not all do, and where not all do, there is one that does not
 pub every-fails : (n : ℕ) (f : ℕ → Bool) (k : ℕ) → k < n → f k ≡ false → everyBelow n f ≡ false
@@ -118,6 +124,16 @@ count-past n (suc m) f l h =
     elim (ℕ-discrete n (suc m)) [
       | yes e ↦ rw e
       | no d ↦ rw (h m (omega arith)) (omega (arith, count-past n m f (omega arith) h))
+    ]
+
+-- a higher bound counts no fewer
+pub count-rises : (n m : ℕ) (f : ℕ → Bool) → n ≤ m → countBelow n f ≤ countBelow m f
+unfolding countBelow
+count-rises n zero f l = let e : n ≡ 0 = omega arith in rw e (omega arith)
+count-rises n (suc m) f l =
+    elim (ℕ-discrete n (suc m)) [
+      | yes e ↦ rw e (omega arith)
+      | no d ↦ omega (arith, count-rises n m f (omega arith))
     ]
 
 count-le : (n : ℕ) (f : ℕ → Bool) → countBelow n f ≤ n

@@ -1,4 +1,5 @@
 pub mod Below
+pub mod Passing
 pub mod Parent
 pub mod Ancestor
 pub mod Closure

@@ -68,6 +68,11 @@ pub or-r : (a b : Bool) → b ≡ true → a || b ≡ true
 or-r true b h = refl
 or-r false b h = h
 
+-- where its first part fails, a disjunction is its second
+pub or-rest : (a b : Bool) → a ≡ false → a || b ≡ b
+or-rest true b h = clash refl h
+or-rest false b h = refl
+
 pub or-split : (a b : Bool) → a || b ≡ true → (a ≡ true) ⊎ (b ≡ true)
 or-split true b h = inl refl
 or-split false b h = inr h

@@ -48,6 +48,17 @@ none-applies (r ∷ later) k h =
     let one = none-given (r .0) (r .1) later (eqb-false (r .0) 0 (not-e _ (and-l _ _ k))) h in
     (one .0, none-applies later (and-r (not (eqb (r .0) 0)) _ k) (one .1))
 
+-- A list has no test with this number, which is then not given. Of a list that is written out it holds by computation.
+abbrev pub lacks : ℕ → List (ℕ × Bool) → Bool
+lacks n [] = not (eqb 0 n)
+lacks n (r ∷ later) = not (eqb (r .0) n) && lacks n later
+
+pub not-given : (n : ℕ) (tests : List (ℕ × Bool)) → lacks n tests ≡ true → firstRefusal tests ≡ n → ⊥
+unfolding firstRefusal
+not-given n [] l h = eqb-false 0 n (not-e _ l) h
+not-given n ((number, true) ∷ later) l h = eqb-false number n (not-e _ (and-l _ _ l)) h
+not-given n ((number, false) ∷ later) l h = not-given n later (and-r (not (eqb number n)) _ l) h
+
 -- two groups of tests one after the other: the first refusal of the first group, or else of the second
 pub first-append : (a b : List (ℕ × Bool)) → numbered a ≡ true → firstRefusal (a ++ b) ≡ firstOf (firstRefusal a) (firstRefusal b)
 unfolding firstRefusal

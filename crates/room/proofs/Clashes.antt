@@ -5,7 +5,7 @@ use mathlib.Core.Path.{_≡_}
 use native.Mathlib.Omega.{arith}
 use Rattle.board.proofs.Clashes.{board-clashes}
 use Rattle.command.specs.declared.Command.{Command}
-use Rattle.command.specs.declared.Command.the-variants.{Fork, Entry, Merge, FastForward, Leave}
+use Rattle.command.specs.declared.Command.the-variants.{Fork, Entry, Merge, FastForward, Leave, MakeHub}
 use Rattle.room.specs.Room.{Room}
 use Rattle.room.specs.Step.{clashCount}
 
@@ -16,6 +16,7 @@ few-clashes r (Entry console code strip operand) = omega arith
 few-clashes r (Merge receiver giver) = board-clashes _ _ _
 few-clashes r (FastForward receiver giver) = omega arith
 few-clashes r (Leave console) = omega arith
+few-clashes r MakeHub = omega arith
 
 pub few-counted : (r : Room) (c : Command) {n : ℕ} → n ≡ clashCount r c → n ≤ 64
 few-counted r c e = rw e (few-clashes r c)

@@ -33,7 +33,7 @@ meets-ordered {g} {u} {v} {x} {y} {k} {l} {m} {n} b ux uy vx vy order =
     uy .lowest k (ux .first) (ancestor-trans g k n y (ancestor-trans g k m n early order) (vy .second))
 
 module _ (r : Room) (s : Sound r) where
-  met : (c d : ℕ) → present r c ≡ true → present r d ≡ true → Meet (r .versions) (head r c) (head r d) (common r c d)
+  pub met : (c d : ℕ) → present r c ≡ true → present r d ≡ true → Meet (r .versions) (head r c) (head r d) (common r c d)
   met c d p q = let m = s .meets c d p q in rw (common-meet r c d (m .1)) (m .1)
 
   -- the common version of consoles k and a is behind that of k and b

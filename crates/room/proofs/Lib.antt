@@ -10,3 +10,5 @@ pub mod Origins
 pub mod Leaving
 pub mod Clashes
 pub mod Mergeable
+pub mod Hub
+pub mod Gathering

@@ -3,7 +3,7 @@
 use Prim.Native.Nat.{ℕ, _<_}
 use mathlib.Core.Path.{_≡_, refl, sym, _∙_, ap}
 use mathlib.Core.Logic.{_⊎_, inl, inr}
-use mathlib.Core.Bool.{Bool, true, false, cond, not, _||_, and-comm}
+use mathlib.Core.Bool.{Bool, true, false, cond, not, _&&_, _||_, and-comm}
 use mathlib.Core.List.{[], _∷_}
 use native.Mathlib.Omega.{arith}
 use native.Mathlib.Decide.{ℕ-discrete}
@@ -16,7 +16,7 @@ use Rattle.graph.proofs.Ancestor.{ancestor-self}
 use Rattle.refusal.specs.Refusal.{_when_, firstRefusal}
 use Rattle.command.specs.Code.{consoleCount}
 use Rattle.room.specs.Room.{Room, present, head, common}
-use Rattle.room.specs.Step.{absent, behind, apart, splits, someThirdSplits, mergeTests, stateTests}
+use Rattle.room.specs.Step.{absent, behind, besideHub, apart, splits, someThirdSplits, mergeTests, stateTests}
 use Rattle.room.specs.Mergeable.{allAgree, stuck, merge, fastForward, numberOf, canMerge, canFastForward, pairNumber, firstWithReceiver, firstPair, headsAgree, mergeable}
 use Rattle.room.proofs.Sound.{Sound}
 use Rattle.room.proofs.Accepted.{MayTake, MayMerge, forward-passes, merge-passes}
@@ -24,7 +24,7 @@ use Rattle.room.proofs.Steps.{head-named, split-parts, third-splits}
 
 -- whatever its capacity: a full room is answered as one with versions free
 pub any-capacity : (r : Room) (n : ℕ)
-    → mergeable (record { settings = record { capacity = n }; versions = r .versions; heads = r .heads }) ≡ mergeable r
+    → mergeable (record { settings = record { capacity = n; hub = r .settings .hub }; versions = r .versions; heads = r .heads }) ≡ mergeable r
 unfolding mergeable firstPair pairNumber stateTests headsAgree common
 any-capacity r n = refl
 
@@ -55,21 +55,22 @@ module _ (r : Room) (c d : ℕ) where
   -- a merge that would be accepted if versions were free is accepted, or refused with 18, whether or not a version is
   pub eighteen-last : (free : Bool) → (let n : ℕ = firstRefusal (mergeTests r free c d) in eqb n 0 || eqb n 18) ≡ canMerge r c d
   unfolding stateTests firstRefusal
-  eighteen-last free = go (absent r c || absent r d) (behind r d c) (behind r c d) (someThirdSplits r c d) free
+  eighteen-last free = go (absent r c || absent r d) (besideHub r c && besideHub r d) (behind r d c) (behind r c d) (someThirdSplits r c d) free
     where
-      first : Bool → Bool → Bool → Bool → Bool → ℕ
-      first twelve fourteen fifteen seventeen eighteen =
-          firstRefusal (12 when twelve ∷ 14 when fourteen ∷ 15 when fifteen ∷ 17 when seventeen ∷ 18 when eighteen ∷ [])
+      first : Bool → Bool → Bool → Bool → Bool → Bool → ℕ
+      first twelve twenty-two fourteen fifteen seventeen eighteen =
+          firstRefusal (12 when twelve ∷ 22 when twenty-two ∷ 14 when fourteen ∷ 15 when fifteen ∷ 17 when seventeen ∷ 18 when eighteen ∷ [])
 
-      go : (twelve fourteen fifteen seventeen free : Bool)
-          → eqb (first twelve fourteen fifteen seventeen (not free)) 0 || eqb (first twelve fourteen fifteen seventeen (not free)) 18
-          ≡ eqb (first twelve fourteen fifteen seventeen false) 0
-      go true fourteen fifteen seventeen free = refl
-      go false true fifteen seventeen free = refl
-      go false false true seventeen free = refl
-      go false false false true free = refl
-      go false false false false true = refl
-      go false false false false false = refl
+      go : (twelve twenty-two fourteen fifteen seventeen free : Bool)
+          → (let n : ℕ = first twelve twenty-two fourteen fifteen seventeen (not free) in eqb n 0 || eqb n 18)
+          ≡ eqb (first twelve twenty-two fourteen fifteen seventeen false) 0
+      go true twenty-two fourteen fifteen seventeen free = refl
+      go false true fourteen fifteen seventeen free = refl
+      go false false true fifteen seventeen free = refl
+      go false false false true seventeen free = refl
+      go false false false false true free = refl
+      go false false false false false true = refl
+      go false false false false false false = refl
 
   -- at most one of the two commands would be accepted
   pub one-kind : canMerge r c d ≡ true → canFastForward r c d ≡ false
@@ -99,7 +100,7 @@ module _ (r : Room) (c d : ℕ) where
   unfolding stateTests firstRefusal
   merge-either-way h =
       let may = merge-asks h in
-      rw (may .take .giver, may .take .receiver, may .back, may .take .ahead, splits-either-way r c d (may .unsplit))
+      rw (may .take .giver, may .take .receiver, and-comm (besideHub r d) (besideHub r c) ∙ may .take .through, may .back, may .take .ahead, splits-either-way r c d (may .unsplit))
 
   -- a number of ten bits
   pair-small : c < consoleCount → d < consoleCount → pairNumber r c d < 1024

@@ -4,23 +4,25 @@ use Prim.Native.Nat.{ℕ, suc, _<_}
 use mathlib.Core.Path.{_≡_, refl, sym, _∙_, ap, subst₂}
 use mathlib.Core.Bool.{true, false}
 use mathlib.Core.List.{_∷_}
+use mathlib.Core.Logic.{inl, inr}
 use mathlib.Core.Option.{Option, none, some, Option·getD}
 use native.Mathlib.Omega.{arith}
 use native.Mathlib.Decide.{ℕ-discrete, decLt}
 use lib.ListN.{length, length-set}
 use lib.Seq.{getD-set-same, getD-set-other}
-use Rattle.laws.proofs.Logic.{and-i}
+use Rattle.laws.proofs.Logic.{clash, and-i}
 use Rattle.graph.specs.declared.Node.{Node}
 use Rattle.graph.specs.Graph.{versionCount, ancestor, isSome, everyVersion, parentsLower, mergeHasBase}
 use Rattle.graph.proofs.Parent.{Parent}
-use Rattle.graph.proofs.Ancestor.{ancestor-old, ancestor-same, ancestor-above, ancestor-trans, ancestor-named}
+use Rattle.graph.proofs.Ancestor.{ancestor-old, ancestor-same, ancestor-above, ancestor-self, ancestor-trans, ancestor-named}
 use Rattle.graph.proofs.Meet.{Meet, meet-sym, meet-self, Meet-new}
 use Rattle.command.specs.Code.{consoleCount}
 use Rattle.room.specs.Room.{Room, headOf, present, head}
 use Rattle.room.specs.Sound.{entryInRange}
 use Rattle.room.specs.Step.{someOtherDescends, moved, grown}
-use Rattle.room.proofs.Accepted.{some-descends}
-use Rattle.room.proofs.Sound.{Sound, no-head, present-console}
+use Rattle.room.proofs.NewMeets.{by-parent}
+use Rattle.room.proofs.Accepted.{MayMove, through-hub, some-descends}
+use Rattle.room.proofs.Sound.{BehindHub, Sound, no-head, present-console, present-head}
 
 module _ (r : Room) (c : ℕ) (h : Option ℕ) where
   head-set : c < length (r .heads) → headOf (moved r c h) c ≡ h
@@ -52,15 +54,33 @@ module _ (r : Room) (s : Sound r) (c : ℕ) (l : c < consoleCount) (h : Option �
   slot-self : Follows (moved r c h) r c d
   slot-self = record { slot = head-set r c h (omega (arith, s .sixteen)) ∙ from }
 
-  source : (k : ℕ) → (j : ℕ) × Follows (moved r c h) r k j
+  pub source : (k : ℕ) → (j : ℕ) × Follows (moved r c h) r k j
   source k = elim (ℕ-discrete k c) [ yes e ↦ (d, record { slot = ap (headOf (moved r c h)) e ∙ slot-self .slot }) | no ne ↦ (k, slot-other r c h k ne) ]
 
   -- version v is behind a head of the room after
   abbrev Behind : ℕ → Type 0
   Behind v = (x : ℕ) × (present (moved r c h) x ≡ true) × (ancestor (r .versions) v (head (moved r c h) x) ≡ true)
 
-  -- where c's own head is, and console 0 is there, the room is sound
-  module _ (own : present r c ≡ true → Behind (head r c)) (first : present (moved r c h) 0 ≡ true) where
+  -- what a console has in common with another is behind the hub, where what c hears is
+  slot-hub : ancestor (r .versions) (head r 0) (head (moved r c h) 0) ≡ true
+      → ((w : ℕ) → present (moved r c h) c ≡ true → ancestor (r .versions) w (head (moved r c h) c) ≡ true → ancestor (r .versions) w (head (moved r c h) 0) ≡ true)
+      → BehindHub r → BehindHub (moved r c h)
+  slot-hub onward own hub k k′ w two p p′ a a′ =
+      elim (ℕ-discrete k c) [
+        | yes e ↦ own w (rw e at p) (rw e at a)
+        | no ne ↦
+            elim (ℕ-discrete k′ c) [
+              | yes e′ ↦ own w (rw e′ at p′) (rw e′ at a′)
+              | no ne′ ↦
+                  let f = slot-other r c h k ne in
+                  let f′ = slot-other r c h k′ ne′ in
+                  ancestor-trans (r .versions) w (head r 0) (head (moved r c h) 0)
+                  (hub k k′ w two (back f p) (back f′ p′) (rw (number f) at a) (rw (number f′) at a′)) onward
+            ]
+      ]
+
+  -- where c's own head is, and console 0 is there, and so is what the hub must have, the room is sound
+  module _ (own : present r c ≡ true → Behind (head r c)) (first : present (moved r c h) 0 ≡ true) (hub : r .settings .hub ≡ true → BehindHub (moved r c h)) where
     behind-one : (v k : ℕ) → present r k ≡ true → ancestor (r .versions) v (head r k) ≡ true → Behind v
     behind-one v k p a =
         elim (ℕ-discrete k c) [
@@ -87,19 +107,46 @@ module _ (r : Room) (s : Sound r) (c : ℕ) (l : c < consoleCount) (h : Option �
       settings = s .settings;
       fits = s .fits;
       ranged = s .ranged;
+      hub = hub;
     }
+
+-- the hub is where it was, or further on
+hub-stays : (r : Room) → Sound r → (c : ℕ) (h : Option ℕ) → (0 ≡ c → ⊥) → ancestor (r .versions) (head r 0) (head (moved r c h) 0) ≡ true
+hub-stays r s c h ne =
+    ap (ancestor (r .versions) (head r 0)) (number (slot-other r c h 0 ne)) ∙ ancestor-self (r .versions) (head r 0) (s .named 0 (head r 0) (present-head r 0 (s .first)))
 
 -- console c on the head of console d, a present one
 module _ (r : Room) (s : Sound r) (c d : ℕ) (l : c < consoleCount) where
   pub onto : Follows (moved r c (headOf r d)) r c d
   onto = slot-self r s c l (headOf r d) d refl
 
-  pub moved-sound : present r d ≡ true → (present r c ≡ true → ancestor (r .versions) (head r c) (head r d) ≡ true) → Sound (moved r c (headOf r d))
-  moved-sound q b =
+  -- c is the hub, which goes on to a head that it is behind, or it comes to the hub
+  moved-hub : MayMove r c d → r .settings .hub ≡ true → BehindHub (moved r c (headOf r d))
+  moved-hub may t =
+      elim (ℕ-discrete 0 c) [
+        | yes e ↦
+            let b : ancestor (r .versions) (head r 0) (head r d) ≡ true = rw (← e) at (may .ahead (ap (present r) (sym e) ∙ s .first)) in
+            slot-hub r s c l (headOf r d) d refl
+            (ap (ancestor (r .versions) (head r 0)) (ap (head (moved r c (headOf r d))) e ∙ number onto) ∙ b)
+            (λ w p a. ap (λ (k : ℕ). ancestor (r .versions) w (head (moved r c (headOf r d)) k)) e ∙ a)
+            (s .hub t)
+        | no ne ↦
+            let same : head (moved r c (headOf r d)) 0 ≡ head r 0 = number (slot-other r c (headOf r d) 0 ne) in
+            slot-hub r s c l (headOf r d) d refl (hub-stays r s c (headOf r d) ne)
+            (elim (through-hub r c d t (may .through)) [
+              | inl c0 ↦ absurd (ne (sym c0))
+              | inr d0 ↦ λ w p a. ap (ancestor (r .versions) w) (same ∙ sym (ap (head r) d0) ∙ sym (number onto)) ∙ a
+            ])
+            (s .hub t)
+      ]
+
+  pub moved-sound : MayMove r c d → Sound (moved r c (headOf r d))
+  moved-sound may =
       slot-sound r s c l (headOf r d) d refl
-      (λ p. (c, there onto q, ap (ancestor (r .versions) (head r c)) (number onto) ∙ b p))
+      (λ p. (c, there onto (may .target), ap (ancestor (r .versions) (head r c)) (number onto) ∙ may .ahead p))
       (elim (ℕ-discrete 0 c)
-      [ yes e ↦ ap (present (moved r c (headOf r d))) e ∙ there onto q | no ne ↦ there (slot-other r c (headOf r d) 0 ne) (s .first) ])
+      [ yes e ↦ ap (present (moved r c (headOf r d))) e ∙ there onto (may .target) | no ne ↦ there (slot-other r c (headOf r d) 0 ne) (s .first) ])
+      (moved-hub may)
 
 -- console c, which is not console 0, gone home
 module _ (r : Room) (s : Sound r) (c : ℕ) (l : c < consoleCount) where
@@ -113,6 +160,9 @@ module _ (r : Room) (s : Sound r) (c : ℕ) (l : c < consoleCount) where
       slot-sound r s c l none consoleCount (sym (no-head r consoleCount (s .sixteen) (omega arith)))
       (λ p. (d .0, there f (d .1 .here), ap (ancestor (r .versions) (head r c)) (number f) ∙ d .1 .descends))
       (there (slot-other r c none 0 (omega arith)) (s .first))
+      (λ t.
+      slot-hub r s c l none consoleCount (sym (no-head r consoleCount (s .sixteen) (omega arith))) (hub-stays r s c none (omega arith))
+      (λ w p a. clash p left-absent) (s .hub t))
 
 -- console c on a new version: every other console follows itself
 pub kept : (r : Room) (c : ℕ) (n : Node) (k : ℕ) → (k ≡ c → ⊥) → Follows (grown r c n) r k k
@@ -205,17 +255,62 @@ module _ (r : Room) (s : Sound r) (c : ℕ) (p : present r c ≡ true) (n : Node
               )
         ]
 
-    pub grown-sound : versionCount (r .versions) < r .settings .capacity → Sound (grown r c n)
-    unfolding everyVersion
-    grown-sound free = record {
-      lower = and-i (parentsLower (r .versions) n) _ lower (s .lower);
-      based = and-i (mergeHasBase (r .versions) n) _ based (s .based);
-      sixteen = length-set (r .heads) c (some (versionCount (r .versions))) ∙ s .sixteen;
-      named = grown-named;
-      meets = grown-meets meeting;
-      first = grown-first;
-      behind = grown-behind;
-      settings = s .settings;
-      fits = free;
-      ranged = and-i (entryInRange (r .versions) n) _ ranged (s .ranged);
-    }
+    -- where what c hears by its new version, and another console does, was behind the hub, it is
+    module _ (from-parent : r .settings .hub ≡ true → (c ≡ 0 → ⊥) → (p k w : ℕ) → Parent n p → (k ≡ c → ⊥) → present r k ≡ true
+        → ancestor (r .versions) w p ≡ true → ancestor (r .versions) w (head r k) ≡ true → ancestor (r .versions) w (head r 0) ≡ true) where
+      -- the hub is where it was, or on the new version
+      onward : (w : ℕ) → ancestor (r .versions) w (head r 0) ≡ true → ancestor (n ∷ r .versions) w (head (grown r c n) 0) ≡ true
+      onward w a =
+          elim (ℕ-discrete 0 c) [
+            | yes e ↦ ap (ancestor (n ∷ r .versions) w) (at-new 0 e) ∙ ancestor-above (r .versions) w own (ap (λ (k : ℕ). ancestor (r .versions) w (head r k)) (sym e) ∙ a)
+            | no ne ↦ ap (ancestor (n ∷ r .versions) w) (number (kept r c n 0 ne)) ∙ ancestor-old n (r .versions) w (head r 0) (ancestor-named (r .versions) w (head r 0) a) ∙ a
+          ]
+
+      -- an ancestor of a head that did not move
+      before : (k w : ℕ) → (k ≡ c → ⊥) → present (grown r c n) k ≡ true → ancestor (n ∷ r .versions) w (head (grown r c n) k) ≡ true
+          → ancestor (r .versions) w (head r k) ≡ true
+      before k w ne q a =
+          let f = kept r c n k ne in
+          sym (ancestor-old n (r .versions) w (head r k) (s .named k (head r k) (present-head r k (back f q)))) ∙ (rw (number f) at a)
+
+      with-mover : r .settings .hub ≡ true → (k w : ℕ) → (k ≡ c → ⊥) → present (grown r c n) k ≡ true
+          → ancestor (n ∷ r .versions) w (head (grown r c n) c) ≡ true → ancestor (n ∷ r .versions) w (head (grown r c n) k) ≡ true
+          → ancestor (n ∷ r .versions) w (head (grown r c n) 0) ≡ true
+      with-mover t k w ne q a b =
+          elim (ℕ-discrete 0 c) [
+            | yes e ↦ ap (λ (j : ℕ). ancestor (n ∷ r .versions) w (head (grown r c n) j)) e ∙ a
+            | no not-0 ↦
+                let f = kept r c n k ne in
+                let old = s .named k (head r k) (present-head r k (back f q)) in
+                let x = by-parent n (r .versions) (head r k) w old (rw new-number at a) (rw (number f) at b) in
+                onward w (from-parent t (λ e. not-0 (sym e)) (x .0) k w (x .1) ne (back f q) (x .2) (x .3))
+          ]
+
+      grown-hub : r .settings .hub ≡ true → BehindHub (grown r c n)
+      grown-hub t k k′ w two q q′ a a′ =
+          elim (ℕ-discrete k c) [
+            | yes e ↦ with-mover t k′ w (λ e′. two (e ∙ sym e′)) q′ (rw e at a) a′
+            | no ne ↦
+                elim (ℕ-discrete k′ c) [
+                  | yes e′ ↦ with-mover t k w ne q (rw e′ at a′) a
+                  | no ne′ ↦
+                      onward w
+                      (s .hub t k k′ w two (back (kept r c n k ne) q) (back (kept r c n k′ ne′) q′) (before k w ne q a) (before k′ w ne′ q′ a′))
+                ]
+          ]
+
+      pub grown-sound : versionCount (r .versions) < r .settings .capacity → Sound (grown r c n)
+      unfolding everyVersion
+      grown-sound free = record {
+        lower = and-i (parentsLower (r .versions) n) _ lower (s .lower);
+        based = and-i (mergeHasBase (r .versions) n) _ based (s .based);
+        sixteen = length-set (r .heads) c (some (versionCount (r .versions))) ∙ s .sixteen;
+        named = grown-named;
+        meets = grown-meets meeting;
+        first = grown-first;
+        behind = grown-behind;
+        settings = s .settings;
+        fits = free;
+        ranged = and-i (entryInRange (r .versions) n) _ ranged (s .ranged);
+        hub = grown-hub;
+      }

@@ -14,9 +14,9 @@ use Rattle.graph.proofs.Ancestor.{same, above, before, ways, ancestor-old, ance
 use Rattle.graph.proofs.Meet.{Meet}
 
 -- a common ancestor of the new version and an older one is one of a parent and that one
-through : (n : Node) (g : Graph) (h w : ℕ) → h < versionCount g → ancestor (n ∷ g) w (versionCount g) ≡ true → ancestor (n ∷ g) w h ≡ true
+pub by-parent : (n : Node) (g : Graph) (h w : ℕ) → h < versionCount g → ancestor (n ∷ g) w (versionCount g) ≡ true → ancestor (n ∷ g) w h ≡ true
     → (p : ℕ) × Parent n p × (ancestor g w p ≡ true) × (ancestor g w h ≡ true)
-through n g h w l a b =
+by-parent n g h w l a b =
     let old : ancestor g w h ≡ true = sym (ancestor-old n g w h l) ∙ b in
     elim (ways n g w (versionCount g) a) [
       | same e f ↦ absurd (omega (arith, ancestor-le g w h old))
@@ -33,7 +33,7 @@ new-meet n g p h m r l b all =
       first = ancestor-above g m r (b .first);
       second = ancestor-old n g m h l ∙ old;
       lowest = λ w x y.
-          let t = through n g h w l x y in
+          let t = by-parent n g h w l x y in
           ancestor-old n g w m (omega (arith, ancestor-le g m h old)) ∙ all (t .0) w (t .1) (t .2) (t .3);
     }
 
@@ -60,7 +60,7 @@ module _ {g : Graph} {p q h k m : ℕ} (l : h < versionCount g) (b : Meet g p h 
   pub merge-meet-ordered : {z : ℕ} → Meet (merge p q ∷ g) (versionCount g) h z → (ancestor g k m ≡ true) ⊎ (ancestor g m k ≡ true)
   merge-meet-ordered {z} d =
       let n : Node = merge p q in
-      let t = through n g h z l (d .first) (d .second) in
+      let t = by-parent n g h z l (d .first) (d .second) in
       let old : (x : ℕ) → ancestor (n ∷ g) x z ≡ true → ancestor g x z ≡ true =
       λ x e. sym (ancestor-old n g x z (omega (arith, ancestor-le g z h (t .3)))) ∙ e in
       let kz : ancestor g k z ≡ true =

@@ -8,25 +8,31 @@ use native.Mathlib.Omega.{arith}
 use native.Mathlib.Decide.{decLt}
 use borrow.Author.Tests.{eqb-true, eq-eqb, ltb-true, lt-ltb, leb-true, le-leb}
 use lib.ListN.{length, List·getD-eq-default}
-use Rattle.laws.proofs.Logic.{clash, and-l, and-r, and-i, implies-i2, implies-e2}
+use Rattle.laws.proofs.Logic.{clash, and-l, and-r, and-i, implies-i, implies-e, implies-i2, implies-e2}
 use Rattle.graph.specs.Graph.{Graph, versionCount, ancestor, meet, isSome, everyVersion, parentsLower, mergeHasBase}
 use Rattle.graph.proofs.Below.{at, of, some-at, some-of}
-use Rattle.graph.proofs.Meet.{Meet, meet-is, meet-found}
+use Rattle.graph.proofs.Ancestor.{ancestor-trans}
+use Rattle.graph.proofs.Meet.{Meet, meet-is, meet-found, meet-number}
 use Rattle.command.specs.Code.{consoleCount}
 use Rattle.command.proofs.Limits.{within-true}
-use Rattle.room.specs.Room.{Room, headOf, present, head}
+use Rattle.room.specs.Room.{Room, headOf, present, head, common}
 use Rattle.room.specs.declared.Settings.{Settings}
-use Rattle.room.specs.Sound.{maxCapacity, settingsInRange, entryInRange, namesVersion, headsNameVersions, twoMeet, headsMeet, allBehindHeads, soundRoom}
+use Rattle.room.specs.Sound.{maxCapacity, settingsInRange, entryInRange, namesVersion, headsNameVersions, twoMeet, headsMeet, allBehindHeads, canMakeHub, hubIsRight, soundRoom}
 
 -- what a room can be set to: its capacity, and that each of its numbers fits a field of 16 bits
 pub capacity-range : (settings : Settings) → settingsInRange settings ≡ true → (1 ≤ settings .capacity) × (settings .capacity ≤ maxCapacity)
-capacity-range settings h = within-true 1 maxCapacity (settings .capacity) (search (and-l, and-r))
+capacity-range settings h = within-true 1 maxCapacity (settings .capacity) h
 
 abbrev pub SettingsFit : Settings → Type 0
 SettingsFit settings = settings .capacity < 65536
 
 pub settings-fit : (settings : Settings) → settingsInRange settings ≡ true → SettingsFit settings
 settings-fit settings h = omega (arith, capacity-range settings h)
+
+-- what two consoles have in common is behind the hub
+abbrev pub BehindHub : Room → Type 0
+BehindHub r = (c d w : ℕ) → (c ≡ d → ⊥) → present r c ≡ true → present r d ≡ true
+    → ancestor (r .versions) w (head r c) ≡ true → ancestor (r .versions) w (head r d) ≡ true → ancestor (r .versions) w (head r 0) ≡ true
 
 pub record Sound (r : Room) : Type 0 where
   pub lower : everyVersion parentsLower (r .versions) ≡ true
@@ -39,6 +45,7 @@ pub record Sound (r : Room) : Type 0 where
   pub settings : settingsInRange (r .settings) ≡ true
   pub fits : versionCount (r .versions) ≤ r .settings .capacity
   pub ranged : everyVersion entryInRange (r .versions) ≡ true
+  pub hub : r .settings .hub ≡ true → BehindHub r
 
 -- a sound room has no more versions than the largest capacity
 pub versions-small : (r : Room) → Sound r → versionCount (r .versions) ≤ maxCapacity
@@ -82,29 +89,60 @@ module _ (r : Room) (c d : ℕ) where
       implies-i2 (present r c) (present r d) (isSome (meet (r .versions) (head r c) (head r d)))
       (λ p q. ap isSome (meet-found (h p q .1)))
 
+-- the test of the hub: of two consoles' common ancestors their common version, behind which all others are
+module _ (r : Room) (l : length (r .heads) ≡ consoleCount)
+    (meets : (c d : ℕ) → present r c ≡ true → present r d ≡ true → (m : ℕ) × Meet (r .versions) (head r c) (head r d) m) where
+  behind-higher : canMakeHub r ≡ true → (c d w : ℕ) → d < c → present r c ≡ true → present r d ≡ true
+      → ancestor (r .versions) w (head r c) ≡ true → ancestor (r .versions) w (head r d) ≡ true → ancestor (r .versions) w (head r 0) ≡ true
+  unfolding canMakeHub common
+  behind-higher h c d w order p q a b =
+      let m = meets c d p q in
+      let behind = implies-e2 (present r c) (present r d) _ (at c _ (at consoleCount _ h c (present-console r c l p)) d order) p q in
+      ancestor-trans (r .versions) w (m .0) (head r 0) (m .1 .lowest w a b) (rw (meet-number (m .1)) at behind)
+
+  pub can-behind : canMakeHub r ≡ true → BehindHub r
+  can-behind h c d w two p q a b =
+      elim (decLt d c) [
+        | yes lt ↦ behind-higher h c d w lt p q a b
+        | no ge ↦ behind-higher h d c w (omega arith) q p b a
+      ]
+
+  pub behind-can : BehindHub r → canMakeHub r ≡ true
+  unfolding canMakeHub common
+  behind-can h =
+      of consoleCount _ (λ c i. of c _ (λ d j.
+      implies-i2 (present r c) (present r d) (ancestor (r .versions) (common r c d) (head r 0))
+      (λ p q.
+      let m = meets c d p q in
+      rw (meet-number (m .1)) (h c d (m .0) (omega arith) p q (m .1 .first) (m .1 .second)))))
+
 -- each clause stands in the chain of tests
 pub sound-facts : (r : Room) → soundRoom r ≡ true → Sound r
 unfolding soundRoom headsMeet allBehindHeads
 sound-facts r h =
-    let l : length (r .heads) ≡ consoleCount = eqb-true _ _ (search (and-l, and-r) depth 12) in
-    let named : headsNameVersions r ≡ true = search (and-l, and-r) depth 12 in
-    let meets : headsMeet r ≡ true = search (and-l, and-r) depth 12 in
-    let behind : allBehindHeads r ≡ true = search (and-l, and-r) depth 12 in
+    let l : length (r .heads) ≡ consoleCount = eqb-true _ _ (search (and-l, and-r) depth 13) in
+    let named : headsNameVersions r ≡ true = search (and-l, and-r) depth 13 in
+    let meets : headsMeet r ≡ true = search (and-l, and-r) depth 13 in
+    let behind : allBehindHeads r ≡ true = search (and-l, and-r) depth 13 in
+    let hub : hubIsRight r ≡ true = search (and-l, and-r) depth 13 in
+    let met : (c d : ℕ) → present r c ≡ true → present r d ≡ true → (m : ℕ) × Meet (r .versions) (head r c) (head r d) m =
+    λ c d p q.
+    two-met r c d (at consoleCount _ (at consoleCount _ meets c (present-console r c l p)) d (present-console r d l q)) p q in
     record {
-      lower = search (and-l, and-r) depth 12;
-      based = search (and-l, and-r) depth 12;
+      lower = search (and-l, and-r) depth 13;
+      based = search (and-l, and-r) depth 13;
       sixteen = l;
       named = λ c v e.
           names (r .versions) (headOf r c) v (at consoleCount _ named c (present-console r c l (ap isSome e))) e;
-      meets = λ c d p q.
-          two-met r c d (at consoleCount _ (at consoleCount _ meets c (present-console r c l p)) d (present-console r d l q)) p q;
-      first = search (and-l, and-r) depth 12;
+      meets = met;
+      first = search (and-l, and-r) depth 13;
       behind = λ v b.
           let s = some-at consoleCount _ (at (versionCount (r .versions)) _ behind v b) in
           (s .0, and-l (present r (s .0)) _ (s .2), and-r (present r (s .0)) _ (s .2));
-      settings = search (and-l, and-r) depth 12;
-      fits = leb-true _ _ (search (and-l, and-r) depth 12);
-      ranged = search (and-l, and-r) depth 12;
+      settings = search (and-l, and-r) depth 13;
+      fits = leb-true _ _ (search (and-l, and-r) depth 13);
+      ranged = search (and-l, and-r) depth 13;
+      hub = λ t. can-behind r l met (implies-e (r .settings .hub) (canMakeHub r) hub t);
     }
 
 -- the way back
@@ -118,7 +156,7 @@ heads-named r s c = names-of (r .versions) (headOf r c) (s .named c)
 pub facts-sound : (r : Room) → Sound r → soundRoom r ≡ true
 unfolding soundRoom headsMeet allBehindHeads
 facts-sound r s =
-    and-i _ _ (and-i _ _ (and-i _ _ (and-i _ _ (and-i _ _ (and-i _ _ (and-i _ _ (and-i _ _ (and-i _ _
+    and-i _ _ (and-i _ _ (and-i _ _ (and-i _ _ (and-i _ _ (and-i _ _ (and-i _ _ (and-i _ _ (and-i _ _ (and-i _ _
     (s .lower)
     (s .based))
     (eq-eqb _ _ (s .sixteen)))
@@ -131,4 +169,5 @@ facts-sound r s =
     some-of consoleCount _ (b .0) (present-console r (b .0) (s .sixteen) (b .1)) (and-i _ _ (b .1) (b .2)))))
     (s .settings))
     (le-leb _ _ (s .fits)))
-    (s .ranged)
+    (s .ranged))
+    (implies-i (r .settings .hub) (canMakeHub r) (λ t. behind-can r (s .sixteen) (s .meets) (s .hub t)))

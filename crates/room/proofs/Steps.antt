@@ -10,25 +10,25 @@ use native.Mathlib.Decide.{ℕ-discrete}
 use borrow.Author.Tests.{ltb-true, lt-ltb, le-leb, ne-eqb, eqb-false, not-false}
 use lib.Dec.{eqb}
 use Rattle.graph.specs.declared.Strip.{Strip}
-use Rattle.laws.proofs.Logic.{clash, decide, refuted, and-l, and-r, and-i, and-rest, not-e, not-i}
+use Rattle.laws.proofs.Logic.{clash, decide, refuted, and-l, and-r, and-i, and-rest, not-e, not-i, implies-i}
 use Rattle.graph.specs.declared.Node.{Node}
 use Rattle.graph.specs.Graph.{entry, merge, versionCount, ancestor, meet, isSome, isMeet, everyVersion, parentsLower, mergeHasBase}
 use Rattle.graph.specs.Below.{everyBelow, someBelow, highestBelow}
 use Rattle.graph.proofs.Below.{at, of, some-at, some-of}
-use Rattle.graph.proofs.Parent.{sole, receiver, giver}
+use Rattle.graph.proofs.Parent.{Parent, sole, receiver, giver}
 use Rattle.graph.proofs.Ancestor.{ancestor-above, ancestor-self}
 use Rattle.graph.proofs.Meet.{Meet, meet-found, meet-number, meet-self, meet-sym, meet-behind}
 use Rattle.graph.specs.declared.Console.{Console}
 use Rattle.command.specs.declared.Command.{Command}
-use Rattle.command.specs.declared.Command.the-variants.{Fork, Entry, Merge, FastForward, Leave}
+use Rattle.command.specs.declared.Command.the-variants.{Fork, Entry, Merge, FastForward, Leave, MakeHub}
 use Rattle.command.specs.Code.{consoleCount}
 use Rattle.command.specs.Decoding.{InRange}
 use Rattle.room.specs.declared.Settings.{Settings}
 use Rattle.room.specs.Room.{Room, present, head, common, freshRoom}
-use Rattle.room.specs.Sound.{settingsInRange, entryInRange, headsMeet, allBehindHeads, soundRoom}
+use Rattle.room.specs.Sound.{settingsInRange, entryInRange, headsMeet, allBehindHeads, canMakeHub, soundRoom}
 use Rattle.room.specs.Step.{behind, apart, splits, someThirdSplits, stepRefusal, grown, step}
-use Rattle.room.proofs.Accepted.{fork-accepted, forward-accepted, entry-accepted, merge-accepted, leave-accepted}
-use Rattle.room.proofs.Sound.{Sound, capacity-range, present-console, present-head, two-met, met-two, sound-facts, facts-sound}
+use Rattle.room.proofs.Accepted.{Through, through-hub, fork-accepted, forward-accepted, entry-accepted, merge-accepted, leave-accepted, hub-accepted}
+use Rattle.room.proofs.Sound.{Sound, capacity-range, present-console, present-head, two-met, met-two, can-behind, sound-facts, facts-sound}
 use Rattle.room.proofs.Moves.{there, number, new-head, new-number, kept, moved-sound, left-sound, grown-sound, grown-meets}
 use Rattle.room.proofs.NewMeets.{entry-meet, merge-meet-receiver, merge-meet-giver, merge-meet-ordered}
 
@@ -38,18 +38,39 @@ head-named r s c p = s .named c (head r c) (present-head r c p)
 fork-sound : (r : Room) → Sound r → (new old : Console) → InRange (Fork new old) → stepRefusal r (Fork new old) ≡ 0 → Sound (step r (Fork new old))
 unfolding step
 fork-sound r s new old range h =
-    let may = fork-accepted r new old h in
-    moved-sound r s (new .0) (old .0) (range .0) (may .0) (may .1)
+    moved-sound r s (new .0) (old .0) (range .0) (fork-accepted r new old h)
 
 forward-sound : (r : Room) → Sound r → (a b : Console) → InRange (FastForward a b) → stepRefusal r (FastForward a b) ≡ 0 → Sound (step r (FastForward a b))
 unfolding step
 forward-sound r s a b range h =
-    let may = forward-accepted r a b h in
-    moved-sound r s (a .0) (b .0) (range .0) (may .0) (may .1)
+    moved-sound r s (a .0) (b .0) (range .0) (forward-accepted r a b h)
 
 leave-sound : (r : Room) → Sound r → (c : Console) → InRange (Leave c) → stepRefusal r (Leave c) ≡ 0 → Sound (step r (Leave c))
 unfolding step
 leave-sound r s c range h = left-sound r s (c .0) (range .0) (range .1) (leave-accepted r c h .1)
+
+-- console 0 made the hub
+hub-sound : (r : Room) → Sound r → stepRefusal r MakeHub ≡ 0 → Sound (step r MakeHub)
+unfolding step
+hub-sound r s h = record {
+  lower = s .lower;
+  based = s .based;
+  sixteen = s .sixteen;
+  named = s .named;
+  meets = s .meets;
+  first = s .first;
+  behind = s .behind;
+  settings = s .settings;
+  fits = s .fits;
+  ranged = s .ranged;
+  hub = λ _. can-behind r (s .sixteen) (s .meets) (hub-accepted r h);
+}
+
+-- what console c has heard by the entry's parent, and another too, was behind the hub
+entry-shared : (r : Room) → Sound r → (c code k x : ℕ) → present r c ≡ true → r .settings .hub ≡ true → (p j w : ℕ) → Parent (entry (head r c) code k x) p
+    → (j ≡ c → ⊥) → present r j ≡ true → ancestor (r .versions) w p ≡ true → ancestor (r .versions) w (head r j) ≡ true
+    → ancestor (r .versions) w (head r 0) ≡ true
+entry-shared r s c code k x pc t p j w sole ne q a b = s .hub t c j w (λ e. ne (sym e)) pc q a b
 
 -- an entry on the head of a present console, where a version is free
 pub entry-grown : (r : Room) → Sound r → (c code k x : ℕ) → present r c ≡ true → entryInRange (r .versions) (entry (head r c) code k x) ≡ true
@@ -57,6 +78,7 @@ pub entry-grown : (r : Room) → Sound r → (c code k x : ℕ) → present r c 
 entry-grown r s c code k x p range free =
     grown-sound r s c p (entry (head r c) code k x) (lt-ltb _ _ (head-named r s c p)) refl range sole
     (λ d q ne. let m = s .meets c d p q in (m .0, entry-meet code k x (head-named r s d q) (m .1)))
+    (λ t not-0. entry-shared r s c code k x p t)
     free
 
 entry-sound : (r : Room) → Sound r → (c : Console) (code : ℕ) (k : Strip) (x : ℕ) → InRange (Entry c code k x) → stepRefusal r (Entry c code k x) ≡ 0
@@ -154,10 +176,17 @@ module _ (r : Room) (s : Sound r) (a b : ℕ) (pa : present r a ≡ true) (pb : 
             (refuted _ (λ t. clash (some-of consoleCount (splits r a b) d (present-console r d (s .sixteen) pd) t) h))
       ]
 
-  pub merge-grown : behind r b a ≡ false → behind r a b ≡ false → someThirdSplits r a b ≡ false → versionCount (r .versions) < r .settings .capacity
-      → Sound (grown r a (merge (head r a) (head r b)))
-  merge-grown ahead back h free =
-      grown-sound r s a pa (merge (head r a) (head r b)) merge-lower (merge-based ahead back) refl receiver (meeting h) free
+  -- what the receiver has heard by the merge, and another too, was behind the hub, which is the giver
+  merge-shared : Through r a b → r .settings .hub ≡ true → (a ≡ 0 → ⊥) → (p j w : ℕ) → Parent (merge (head r a) (head r b)) p → (j ≡ a → ⊥) → present r j ≡ true
+      → ancestor (r .versions) w p ≡ true → ancestor (r .versions) w (head r j) ≡ true → ancestor (r .versions) w (head r 0) ≡ true
+  merge-shared through t na p j w receiver ne q x y = s .hub t a j w (λ e. ne (sym e)) pa q x y
+  merge-shared through t na p j w giver ne q x y =
+      elim (through-hub r a b t through) [ inl a0 ↦ absurd (na a0) | inr b0 ↦ ap (λ (k : ℕ). ancestor (r .versions) w (head r k)) (sym b0) ∙ x ]
+
+  pub merge-grown : Through r a b → behind r b a ≡ false → behind r a b ≡ false → someThirdSplits r a b ≡ false
+      → versionCount (r .versions) < r .settings .capacity → Sound (grown r a (merge (head r a) (head r b)))
+  merge-grown through ahead back h free =
+      grown-sound r s a pa (merge (head r a) (head r b)) merge-lower (merge-based ahead back) refl receiver (meeting h) (merge-shared through) free
 
   -- no third console splits the two exactly when every two consoles have a meet after the merge
   split-none : someThirdSplits r a b ≡ false → headsMeet (grown r a (merge (head r a) (head r b))) ≡ true
@@ -202,7 +231,7 @@ unfolding step
 merge-sound r s a b range h =
     let may = merge-accepted r a b h in
     let take = may .take in
-    merge-grown r s (a .0) (b .0) (take .receiver) (take .giver) (take .ahead) (may .back) (may .unsplit) (ltb-true _ _ (may .is-free))
+    merge-grown r s (a .0) (b .0) (take .receiver) (take .giver) (take .through) (take .ahead) (may .back) (may .unsplit) (ltb-true _ _ (may .is-free))
 
 -- each accepted command takes a sound room to a sound room
 pub step-sound : (r : Room) (c : Command) → soundRoom r ≡ true → InRange c → stepRefusal r c ≡ 0 → soundRoom (step r c) ≡ true
@@ -211,9 +240,11 @@ step-sound r (Entry console code strip operand) s range h = facts-sound _ (entry
 step-sound r (Merge a b) s range h = facts-sound _ (merge-sound r (sound-facts r s) a b range h)
 step-sound r (FastForward a b) s range h = facts-sound _ (forward-sound r (sound-facts r s) a b range h)
 step-sound r (Leave c) s range h = facts-sound _ (leave-sound r (sound-facts r s) c range h)
+step-sound r MakeHub s range h = facts-sound _ (hub-sound r (sound-facts r s) h)
 
 -- opening gives a sound room
 pub fresh-sound : (settings : Settings) → settingsInRange settings ≡ true → soundRoom (freshRoom settings) ≡ true
-unfolding soundRoom everyVersion headsMeet allBehindHeads everyBelow someBelow ancestor meet isMeet highestBelow
+unfolding soundRoom everyVersion headsMeet allBehindHeads canMakeHub everyBelow someBelow ancestor meet isMeet highestBelow
 fresh-sound settings h =
-    and-i _ _ (and-i (settingsInRange settings) _ h (le-leb 1 (settings .capacity) (capacity-range settings h .0))) refl
+    and-i _ _ (and-i _ _ (and-i (settingsInRange settings) _ h (le-leb 1 (settings .capacity) (capacity-range settings h .0))) refl)
+    (implies-i (settings .hub) _ (λ _. refl))

@@ -4,3 +4,4 @@ pub mod Boards
 pub mod Origin
 pub mod Step
 pub mod Mergeable
+pub mod Gathering

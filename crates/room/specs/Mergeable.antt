@@ -29,11 +29,18 @@ numberOf (fastForward receiver giver) = 256 * 3 + 16 * receiver + giver
 abbrev pub acceptedIfFree : Room → Command → Bool
 acceptedIfFree r c = eqb (firstRefusal (stateTests r true c)) 0
 
+-- the two commands over a receiver and a giver, by their numbers
+abbrev pub mergeOfTwo : ℕ → ℕ → Command
+mergeOfTwo receiver giver = Merge (record { 0 = receiver }) (record { 0 = giver })
+
+abbrev pub forwardOfTwo : ℕ → ℕ → Command
+forwardOfTwo receiver giver = FastForward (record { 0 = receiver }) (record { 0 = giver })
+
 abbrev pub canMerge : Room → ℕ → ℕ → Bool
-canMerge r receiver giver = acceptedIfFree r (Merge (record { 0 = receiver }) (record { 0 = giver }))
+canMerge r receiver giver = acceptedIfFree r (mergeOfTwo receiver giver)
 
 abbrev pub canFastForward : Room → ℕ → ℕ → Bool
-canFastForward r receiver giver = acceptedIfFree r (FastForward (record { 0 = receiver }) (record { 0 = giver }))
+canFastForward r receiver giver = acceptedIfFree r (forwardOfTwo receiver giver)
 
 -- the number of a pair "for which a merge or fast-forward would be accepted", at most one of the two; 0, which is no pair's, for any other,
 -- and for the same console twice, which is refused by the command's bytes alone (6)

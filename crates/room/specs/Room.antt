@@ -1,6 +1,6 @@
 -- "One store serves one training room: up to 16 consoles, each a branch of one version graph." What a store holds, without its bytes.
 use Prim.Native.Nat.{ℕ}
-use mathlib.Core.Bool.{Bool, _&&_}
+use mathlib.Core.Bool.{Bool, true, false, _&&_}
 use mathlib.Core.List.{List, []}
 use mathlib.Core.Option.{Option, none, some, Option·getD}
 use lib.ListN.{getD, set, replicate}
@@ -47,7 +47,11 @@ freshRoom settings = record { settings = settings; versions = []; heads = set (r
 
 -- what opening with a capacity sets a room to
 abbrev pub openSettings : ℕ → Settings
-openSettings capacity = record { capacity = capacity }
+openSettings capacity = record { capacity = capacity; hub = false }
+
+-- "puts the room in this way for good": console 0 is the hub
+abbrev pub withHub : Settings → Settings
+withHub settings = record { capacity = settings .capacity; hub = true }
 
 abbrev pub fresh : ℕ → Room
 fresh capacity = freshRoom (openSettings capacity)

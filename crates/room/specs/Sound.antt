@@ -11,7 +11,7 @@ use Rattle.graph.specs.declared.Node.the-variants.{Entry, Merge}
 use Rattle.graph.specs.Graph.{Graph, versionCount, ancestor, meet, isSome, everyVersion, parentsLower, mergeHasBase}
 use Rattle.command.specs.Code.{consoleCount, within, isEntryCode, isStrip, isOperand}
 use Rattle.room.specs.declared.Settings.{Settings}
-use Rattle.room.specs.Room.{Room, headOf, present, head}
+use Rattle.room.specs.Room.{Room, headOf, present, head, common}
 
 -- "Capacity, 1 to 1,024, counts versions, version 0 included."
 abbrev pub maxCapacity : ℕ
@@ -51,7 +51,20 @@ behindHead r v = someBelow consoleCount (λ c. present r c && ancestor (r .versi
 unfoldable pub allBehindHeads : Room → Bool
 allBehindHeads r = everyBelow (versionCount (r .versions)) (behindHead r)
 
--- the clauses in the paper's order; a head that is none of the versions, and a list of other than 16 heads, are no room's
+-- "the common version of every two consoles is an ancestor of console 0's head": that of c and d, where both are present
+abbrev pub commonBehindHub : Room → ℕ → ℕ → Bool
+commonBehindHub r c d = not (present r c) || not (present r d) || ancestor (r .versions) (common r c d) (head r 0)
+
+-- each two once, c and a lower d: two consoles have one common version, whichever is named first
+unfoldable pub canMakeHub : Room → Bool
+canMakeHub r = everyBelow consoleCount (λ c. everyBelow c (commonBehindHub r c))
+
+-- "A store in this way whose heads couldn't enter isn't sound"
+abbrev pub hubIsRight : Room → Bool
+hubIsRight r = not (r .settings .hub) || canMakeHub r
+
+-- the clauses in the paper's order, and the request's behind them; a head that is none of the versions, and a list of other than 16 heads, are
+-- no room's
 unfoldable pub soundRoom : Room → Bool
 soundRoom r =
     everyVersion parentsLower (r .versions)
@@ -61,3 +74,4 @@ soundRoom r =
     && allBehindHeads r
     && settingsInRange (r .settings) && leb (versionCount (r .versions)) (r .settings .capacity)
     && everyVersion entryInRange (r .versions)
+    && hubIsRight r

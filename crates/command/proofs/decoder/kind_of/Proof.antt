@@ -25,16 +25,20 @@ unfolding kindOf
 returns-4 c = rw (c .match .keys4)
 
 returns-5 : tie.Need-returns-5
-returns-5 c =
+unfolding kindOf
+returns-5 c = rw (c .match .keys5)
+
+returns-6 : tie.Need-returns-6
+returns-6 c =
     let code = c .before .before .before .args .code in
     kind-entry code (within-i levelEntry alertOffEntry code (above-one code (search needs) (search needs)) (search needs))
 
-returns-6 : tie.Need-returns-6
-unfolding kindOf
-returns-6 c = rw (below-one (c .before .before .args .code) (search needs))
-
 returns-7 : tie.Need-returns-7
-returns-7 c = kind-none _ (search needs) (search needs) (search needs) (search needs) (search needs)
+unfolding kindOf
+returns-7 c = rw (below-one (c .before .before .args .code) (search needs))
+
+returns-8 : tie.Need-returns-8
+returns-8 c = kind-none _ (search needs) (search needs) (search needs) (search needs) (search needs) (search needs)
 
 pub kind-of-spec : {M : Type 1} → statement M
-kind-of-spec = tie.close (tie.spec returns returns-2 returns-3 returns-4 returns-5 returns-6 returns-7)
+kind-of-spec = tie.close (tie.spec returns returns-2 returns-3 returns-4 returns-5 returns-6 returns-7 returns-8)

@@ -23,8 +23,11 @@ returns-5 c = rw (c .before .enum-told5 .given .1) (c .leave-number-refused .ens
 returns-6 : tie.Need-returns-6
 returns-6 c = rw (c .enum-told6 .given .1) given-none
 
+returns-7 : tie.Need-returns-7
+returns-7 c = rw (c .enum-told7 .given .1) given-none
+
 pub numbers-refused-spec : {M : Type 1} → statement M
 numbers-refused-spec =
     tie.close
     (tie.spec (λ c. search needs) (λ c κs. tt) (λ c. search needs) (λ c κs. tt) (λ c. search needs) (λ c κs. tt) (λ c. search needs) (λ c κs. tt)
-    (λ c. search needs) (λ c κs. tt) (λ c. search needs) returns returns-2 returns-3 returns-4 returns-5 returns-6)
+    (λ c. search needs) (λ c κs. tt) (λ c. search needs) (λ c. search needs) returns returns-2 returns-3 returns-4 returns-5 returns-6 returns-7)

@@ -39,28 +39,36 @@ returns-7 c = shape-told _ _ (rw (c .match .keys7))
 
 returns-8 : tie.Need-returns-8
 unfolding shapeOf
-returns-8 c = shape-told _ _ (each (λ k. Known 1 1 2 0 ≡ shapeOf k) 2 2 (c .before .before .before .args .code) (refl, (refl, tt)) (above-one _ (search needs) (search needs)) (search needs))
+returns-8 c = shape-told _ _ (rw (c .match .keys8))
 
 returns-9 : tie.Need-returns-9
 unfolding shapeOf
-returns-9 c = shape-told _ _ (each (λ k. Known 1 1 1 0 ≡ shapeOf k) 4 2 (c .before .before .before .before .args .code) (refl, (refl, tt)) (search needs) (search needs))
+returns-9 c = shape-told _ _ (rw (c .match .keys9))
 
 returns-10 : tie.Need-returns-10
 unfolding shapeOf
-returns-10 c = shape-told _ _ (each (λ k. Known 1 1 0 0 ≡ shapeOf k) 6 3 (c .before .before .before .before .before .args .code) (refl, (refl, (refl, tt))) (search needs) (search needs))
+returns-10 c = shape-told _ _ (each (λ k. Known 1 1 2 0 ≡ shapeOf k) 2 2 (c .before .before .before .args .code) (refl, (refl, tt)) (above-one _ (search needs) (search needs)) (search needs))
 
 returns-11 : tie.Need-returns-11
 unfolding shapeOf
-returns-11 c = shape-told _ _ (each (λ k. Known 1 1 0 0 ≡ shapeOf k) 9 2 (c .before .before .before .before .before .before .args .code) (refl, (refl, tt)) (search needs) (search needs))
+returns-11 c = shape-told _ _ (each (λ k. Known 1 1 1 0 ≡ shapeOf k) 4 2 (c .before .before .before .before .args .code) (refl, (refl, tt)) (search needs) (search needs))
 
 returns-12 : tie.Need-returns-12
 unfolding shapeOf
-returns-12 c = shape-told _ _ (rw (below-one (c .before .before .args .code) (search needs)))
+returns-12 c = shape-told _ _ (each (λ k. Known 1 1 0 0 ≡ shapeOf k) 6 3 (c .before .before .before .before .before .args .code) (refl, (refl, (refl, tt))) (search needs) (search needs))
 
 returns-13 : tie.Need-returns-13
-returns-13 c = shape-told _ _ (shape-none _ (search needs) (search needs) (search needs) (search needs) (search needs) (search needs) (search needs))
+unfolding shapeOf
+returns-13 c = shape-told _ _ (each (λ k. Known 1 1 0 0 ≡ shapeOf k) 9 2 (c .before .before .before .before .before .before .args .code) (refl, (refl, tt)) (search needs) (search needs))
+
+returns-14 : tie.Need-returns-14
+unfolding shapeOf
+returns-14 c = shape-told _ _ (rw (below-one (c .before .before .args .code) (search needs)))
+
+returns-15 : tie.Need-returns-15
+returns-15 c = shape-told _ _ (shape-none _ (search needs) (search needs) (search needs) (search needs) (search needs) (search needs) (search needs) (search needs) (search needs))
 
 pub widths-of-spec : {M : Type 1} → statement M
 widths-of-spec =
     tie.close
-    (tie.spec returns returns-2 returns-3 returns-4 returns-5 returns-6 returns-7 returns-8 returns-9 returns-10 returns-11 returns-12 returns-13)
+    (tie.spec returns returns-2 returns-3 returns-4 returns-5 returns-6 returns-7 returns-8 returns-9 returns-10 returns-11 returns-12 returns-13 returns-14 returns-15)
