@@ -2,6 +2,7 @@
 use command::Command;
 use update::commons::move_console;
 use update::commons::remove_console;
+use update::hub::make_hub;
 use update::new_version::enter;
 use update::new_version::merge;
 ghost use mathlib.Core.Path.{_≡_};
@@ -29,6 +30,7 @@ pub fn change(s: &mut [u8], c: Command) -> usize
         Command::Merge { receiver, giver } => return merge(s, receiver, giver),
         Command::FastForward { receiver, giver } => move_console(s, receiver, giver),
         Command::Leave { console } => remove_console(s, console),
+        Command::MakeHub => make_hub(s),
     }
     0
 }

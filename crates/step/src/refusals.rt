@@ -9,13 +9,17 @@ use query::settings_of;
 use query::version_count;
 use refusal::first_of;
 use refusal::when;
+use store::hub::hub_right;
+use store::places::BLOCK;
+use store::places::HEADER;
+use store::places::NODE;
 ghost use mathlib.Core.Path.{_≡_};
 ghost use mathlib.Core.Bool.{true, _||_};
 ghost use Prim.Native.Nat.{_<_};
 ghost use Rattle.refusal.specs.Refusal.{firstRefusal};
 ghost use Rattle.command.specs.Code.{consoleCount};
 ghost use Rattle.command.specs.Decoding.{InRange};
-ghost use Rattle.room.specs.Step.{absent, versionFree, receiverGiverTests, forkTests, entryTests, mergeTests, fastForwardTests, leaveTests, stateTests};
+ghost use Rattle.room.specs.Step.{absent, besideHub, versionFree, receiverGiverTests, forkTests, entryTests, mergeTests, fastForwardTests, leaveTests, hubTests, stateTests};
 ghost use Rattle.store.specs.Layout.{roomIn, holdsStore};
 
 // Whether one of two consoles is absent.
@@ -25,6 +29,14 @@ fn one_is_absent(s: &[u8], c: Console, d: Console) -> bool
     ensures { λ r. ⌜ r ≡ (absent (roomIn (now (s .entry))) (c .0) || absent (roomIn (now (s .entry))) (d .0)) ⌝ }
 {
     !is_present(s, c) | !is_present(s, d)
+}
+
+// Whether the room has a hub, and a console is not it.
+fn beside_hub(s: &[u8], c: Console) -> bool
+    requires { ⌜ holdsStore (now s) ≡ true ⌝ }
+    ensures { λ r. ⌜ r ≡ besideHub (roomIn (now (s .entry))) (c .0) ⌝ }
+{
+    settings_of(s).hub & (c.0 != 0)
 }
 
 // Whether a version is free.
@@ -44,8 +56,9 @@ fn receiver_giver_refusal(s: &[u8], receiver: Console, giver: Console) -> u32
     ensures { λ r. ⌜ r ≡ firstRefusal (receiverGiverTests (roomIn (now (s .entry))) (receiver .0) (giver .0)) ⌝ }
 {
     let one_absent = when(12, one_is_absent(s, receiver, giver));
+    let past_the_hub = when(22, beside_hub(s, receiver) & beside_hub(s, giver));
     let giver_behind = when(14, is_behind(s, giver, receiver));
-    first_of(one_absent, giver_behind)
+    first_of(one_absent, first_of(past_the_hub, giver_behind))
 }
 
 // What refuses a fork.
@@ -56,7 +69,8 @@ fn fork_refusal(s: &[u8], new: Console, old: Console) -> u32
 {
     let old_absent = when(12, !is_present(s, old));
     let new_present = when(13, is_present(s, new));
-    first_of(old_absent, new_present)
+    let past_the_hub = when(22, beside_hub(s, old));
+    first_of(old_absent, first_of(new_present, past_the_hub))
 }
 
 // What refuses an entry, given whether a version is free.
@@ -108,6 +122,14 @@ fn leave_refusal(s: &[u8], console: Console) -> u32
     first_of(console_absent, none_descends)
 }
 
+// What refuses that console 0 is made the hub.
+fn hub_refusal(s: &[u8]) -> u32
+    requires { ⌜ holdsStore (now s) ≡ true ⌝ }
+    ensures { λ r. ⌜ r ≡ firstRefusal (hubTests (roomIn (now (s .entry)))) ⌝ }
+{
+    when(23, !hub_right(s, s, HEADER + NODE, BLOCK, true))
+}
+
 // The first refusal of a command by the state of the room, given whether a version is free, or 0.
 pub fn refusal_of(s: &[u8], free: bool, c: Command) -> u32
     requires { ⌜ holdsStore (now s) ≡ true ⌝ }
@@ -120,5 +142,6 @@ pub fn refusal_of(s: &[u8], free: bool, c: Command) -> u32
         Command::Merge { receiver, giver } => merge_refusal(s, free, receiver, giver),
         Command::FastForward { receiver, giver } => forward_refusal(s, receiver, giver),
         Command::Leave { console } => leave_refusal(s, console),
+        Command::MakeHub => hub_refusal(s),
     }
 }

@@ -20,14 +20,15 @@ use Rattle.command.specs.Code.{consoleCount}
 use Rattle.room.specs.declared.Settings.{Settings}
 use Rattle.room.specs.Room.{headOf}
 use Rattle.room.specs.Sound.{settingsInRange}
-use Rattle.store.specs.Layout.{headerSize, rowSize, blockSize, storeSize, capacityAt, countAt, spareAt, entriesAt, commonsEnd, blockAt, versionsIn, headFrom, settingsIn, roomIn}
-use Rattle.store.specs.Check.{rowPart, entriesPart, versionsRight, commonIn, consoleRight, behindHeads, contentsRight, storeRight}
+use Rattle.store.specs.Layout.{headerSize, rowSize, blockSize, storeSize, capacityAt, hubAt, countAt, spareAt, entriesAt, commonsEnd, blockAt, versionsIn, headFrom, settingsIn, roomIn}
+use Rattle.store.specs.Check.{rowPart, entriesPart, versionsRight, commonIn, consoleRight, behindHeads, hubRight, contentsRight, storeRight}
 use Rattle.store.proofs.Reading.{headsIn-length, headsIn-one}
 use Rattle.store.proofs.Versions.{versions-length}
 
 -- of a store with these settings and n versions
 pub record Checks (s : List ℕ) (settings : Settings) (n : ℕ) : Type 0 where
   pub known : settingsInRange settings ≡ true
+  pub flag : wordAt s hubAt ≤ 1
   pub long : storeSize (settings .capacity) ≤ length s
   pub count : wordAt s countAt ≡ n
   pub some : 1 ≤ n
@@ -40,6 +41,7 @@ pub record Checks (s : List ℕ) (settings : Settings) (n : ℕ) : Type 0 where
   pub consoles : everyBelow consoleCount (consoleRight s n) ≡ true
   pub first : ltb 0 (commonIn s 0 0) ≡ true
   pub behind : behindHeads s (rowPart s) consoleCount ≡ row (λ v. ltb v n) rowSize
+  pub hub : hubRight s ≡ true
 
 module _ (s : List ℕ) where
   fields-checks : storeRight s ≡ true → Checks s (settingsIn s) (wordAt s countAt)
@@ -47,6 +49,7 @@ module _ (s : List ℕ) where
   fields-checks h =
       record {
         known = search (and-l, and-r) depth 12;
+        flag = leb-true _ _ (search (and-l, and-r) depth 12);
         long = leb-true _ _ (search (and-l, and-r) depth 12);
         count = refl;
         some = leb-true _ _ (search (and-l, and-r) depth 12);
@@ -59,20 +62,23 @@ module _ (s : List ℕ) where
         consoles = search (and-l, and-r) depth 12;
         first = search (and-l, and-r) depth 12;
         behind = same-true _ _ (search (and-l, and-r) depth 12);
+        hub = search (and-l, and-r) depth 12;
       }
 
   checks-fields : Checks s (settingsIn s) (wordAt s countAt) → storeRight s ≡ true
   unfolding storeRight contentsRight
   checks-fields k =
       and-i _ _ (le-leb headerSize (length s) (omega (arith, k .long)))
-      (and-i _ _ (k .known)
+      (and-i _ _ (and-i _ _ (k .known) (le-leb (wordAt s hubAt) 1 (k .flag)))
       (and-i _ _ (le-leb (storeSize (wordAt s capacityAt)) (length s) (k .long))
+      (and-i _ _
       (and-i _ _ (le-leb 1 (wordAt s countAt) (k .some))
       (and-i _ _ (le-leb (wordAt s countAt) (wordAt s capacityAt) (k .fits))
       (and-i _ _ (and-i _ _ (k .gap) (k .rest))
       (and-i _ _ (k .versions)
       (and-i _ _ (and-i _ _ (k .none) (k .free))
-      (and-i _ _ (k .consoles) (and-i _ _ (k .first) (same-of _ _ (k .behind)))))))))))
+      (and-i _ _ (k .consoles) (and-i _ _ (k .first) (same-of _ _ (k .behind)))))))))
+      (k .hub))))
 
   -- the test, of the room's own capacity and number of versions
   pub right-checks : storeRight s ≡ true → Checks s (roomIn s .settings) (versionCount (roomIn s .versions))

@@ -40,7 +40,7 @@ pub row-inside : (rows : List ℕ) (first stride field : ℕ) → (0 < field →
 row-inside rows first stride field inside ne = inside (omega arith)
 
 -- in a store the rows stand a block apart
-row-place : (v : ℕ) → headerSize + nodeSize + blockSize * v ≡ rowAt v
+pub row-place : (v : ℕ) → headerSize + nodeSize + blockSize * v ≡ rowAt v
 row-place v = omega arith
 
 pub behind-blocks : (s : List ℕ) (n : ℕ) → behindHeads s (λ v. part s (headerSize + nodeSize + blockSize * v) rowSize) n ≡ behindHeads s (rowPart s) n

@@ -7,7 +7,7 @@ use Prim.Native.Nat.{ℕ, _-_, _*_, _<_}
 use native.Mathlib.Omega.{arith}
 use lib.ListN.{length}
 use borrow.Author.Tests.{eqb-false, lt-ltb}
-use Rattle.laws.proofs.Logic.{and-i}
+use Rattle.laws.proofs.Logic.{and-i, implies-i}
 use Rattle.buffer.proofs.Sets.{none-row}
 use Rattle.buffer.proofs.Parts.{stands-zero}
 use Rattle.graph.specs.Graph.{Graph, versionCount, isEntry}
@@ -15,17 +15,18 @@ use Rattle.graph.proofs.Below.{some-of}
 use Rattle.command.specs.Code.{consoleCount}
 use Rattle.room.specs.Room.{Room}
 use Rattle.room.specs.Sound.{behindHead}
-use Rattle.room.proofs.Sound.{Sound, present-console}
-use Rattle.store.specs.Layout.{headerSize, rowSize, blockSize, spareAt, entriesAt, commonsEnd, blockAt, roomIn, holdsStore}
-use Rattle.store.specs.Check.{rowPart, commonIn, storeRight}
+use Rattle.room.proofs.Sound.{Sound, present-console, behind-can}
+use Rattle.store.specs.Layout.{headerSize, rowSize, blockSize, spareAt, entriesAt, commonsEnd, blockAt, settingsIn, roomIn, holdsStore}
+use Rattle.store.specs.Check.{rowPart, commonIn, hubRight, storeRight}
 use Rattle.store.proofs.Reading.{count-read}
 use Rattle.store.proofs.Shown.{no-entry}
 use Rattle.store.proofs.Versions.{held-versions}
 use Rattle.store.proofs.Commons.{not-zero, fields-consoles}
+use Rattle.store.proofs.SettingsBytes.{hub-field-small}
 use Rattle.store.proofs.Behind.{behind-row, behind-all}
-use Rattle.store.proofs.Blocks.{stands-spare, stands-rest, stands-free}
+use Rattle.store.proofs.Blocks.{stands-settings, stands-spare, stands-rest, stands-free}
 use Rattle.store.proofs.Checks.{Checks, checks-right, own-versions, own-heads}
-use Rattle.store.proofs.Whole.{whole-sound, whole-front, whole-long, whole-small, whole-entries, whole-held, whole-fields, whole-low}
+use Rattle.store.proofs.Whole.{whole-sound, whole-front, whole-long, whole-small, whole-entries, whole-held, whole-fields, whole-low, whole-hub}
 
 module _ (s : List ℕ) (t : holdsStore s ≡ true) where
   abbrev r : Room
@@ -42,10 +43,16 @@ module _ (s : List ℕ) (t : holdsStore s ≡ true) where
       let f = sound .behind v l in
       some-of consoleCount _ (f .0) (present-console r (f .0) (sound .sixteen) (f .1)) (and-i _ _ (f .1) (f .2))
 
+  hub-asked : hubRight s ≡ true
+  unfolding roomIn
+  hub-asked =
+      implies-i (settingsIn s .hub) _ (λ h. whole-hub s t ∙ behind-can r (sound .sixteen) (sound .meets) (sound .hub h))
+
   hold-checks : Checks s (r .settings) (versionCount g)
   hold-checks =
       record {
         known = sound .settings;
+        flag = hub-field-small (r .settings) (stands-settings r (whole-front s t));
         long = whole-long s t;
         count = count-read s r (whole-front s t) sound;
         some = omega arith;
@@ -58,6 +65,7 @@ module _ (s : List ℕ) (t : holdsStore s ≡ true) where
         consoles = fields-consoles s r (own-heads s) (whole-small s t) (whole-held s t) (whole-fields s t);
         first = lt-ltb 0 (commonIn s 0 0) (let x = eqb-false (commonIn s 0 0) 0 (not-zero s r (own-heads s) 0 (omega arith) (sound .first)) in omega arith);
         behind = behind-row s r (own-heads s) (rowPart s) (λ v l. whole-held s t .told v l .line) (whole-low s t) ∙ behind-all r behind;
+        hub = hub-asked;
       }
 
   pub holds-right : storeRight s ≡ true

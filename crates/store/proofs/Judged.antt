@@ -9,9 +9,8 @@ use lib.ListN.{length}
 use Rattle.laws.proofs.Logic.{clash, refuted}
 use Rattle.buffer.specs.Field.{wordAt}
 use Rattle.buffer.proofs.Parts.{Bytes}
-use Rattle.room.specs.Sound.{settingsInRange}
-use Rattle.store.specs.Layout.{headerSize, storeSize, capacityAt, countAt, settingsIn, holdsStore}
-use Rattle.store.specs.Check.{versionsRight, spareZero, restZero, consolesRight, headsCover, contentsRight, storeRight}
+use Rattle.store.specs.Layout.{headerSize, storeSize, capacityAt, countAt, holdsStore}
+use Rattle.store.specs.Check.{versionsRight, spareZero, restZero, consolesRight, headsCover, settingsRight, contentsRight, hubRight, storeRight}
 use Rattle.store.proofs.Holds.{holds-right}
 use Rattle.store.proofs.Checked.{check-holds}
 
@@ -40,17 +39,17 @@ module _ (s : List ℕ) where
   too-short h = unheld (rw (lt-leb headerSize (length s) h))
 
   module _ (long : headerSize ≤ length s) where
-    pub out-of-range : settingsInRange (settingsIn s) ≡ false → holdsStore s ≡ false
+    pub out-of-range : settingsRight s ≡ false → holdsStore s ≡ false
     unfolding storeRight
     out-of-range h = unheld (rw (le-leb headerSize (length s) long, h))
 
-    module _ (ranged : settingsInRange (settingsIn s) ≡ true) where
+    module _ (ranged : settingsRight s ≡ true) where
       pub no-room : length s < storeSize (wordAt s capacityAt) → holdsStore s ≡ false
       unfolding storeRight
       no-room h = unheld (rw (le-leb headerSize (length s) long, ranged, lt-leb (storeSize (wordAt s capacityAt)) (length s) h))
 
       pub contents-decide : Bytes s → storeSize (wordAt s capacityAt) ≤ length s
-          → contentsRight s (wordAt s capacityAt) (wordAt s countAt) ≡ holdsStore s
+          → contentsRight s (wordAt s capacityAt) (wordAt s countAt) && hubRight s ≡ holdsStore s
       unfolding storeRight
       contents-decide bytes room =
           sym (sym (check-holds s bytes) ∙ rw (le-leb headerSize (length s) long, ranged, le-leb (storeSize (wordAt s capacityAt)) (length s) room))

@@ -7,7 +7,9 @@ pub mod Shown
 pub mod NodeBytes
 pub mod Told
 pub mod Versions
+pub mod Heads
 pub mod Commons
+pub mod HubTold
 pub mod Moved
 pub mod Behind
 pub mod Joined
@@ -17,7 +19,6 @@ pub mod Whole
 pub mod Holds
 pub mod Checked
 pub mod Judged
-pub mod Heads
 pub mod Full
 pub mod VersionTests
 pub mod Overwritten

@@ -17,6 +17,7 @@ use Rattle.command.specs.Code.{consoleCount}
 use Rattle.room.specs.Room.{Room, headOf, present, head}
 use Rattle.room.specs.Step.{behind, someThirdSplits, moved, grown}
 use Rattle.room.proofs.Sound.{Sound}
+use Rattle.room.proofs.Accepted.{MayMove}
 use Rattle.room.proofs.Moves.{Follows, there, back, number, onto, slot-other, moved-sound, left-absent, new-head, new-number, kept}
 use Rattle.room.proofs.NewMeets.{entry-meet, merge-meet-receiver, merge-meet-giver, merge-meet-ordered}
 use Rattle.room.proofs.Steps.{head-named, meeting}
@@ -72,7 +73,7 @@ module _ (r : Room) (s : Sound r) (c : ℕ) (l : c < consoleCount) where
   left-column k = sym (field-is (field-sym (left-field k)))
 
 -- console c on the head of console d: a fork where c is absent, a fast-forward where its head is behind
-module _ (r : Room) (s : Sound r) (c d : ℕ) (l : c < consoleCount) (q : present r d ≡ true) (b : present r c ≡ true → behind r c d ≡ true) where
+module _ (r : Room) (s : Sound r) (c d : ℕ) (l : c < consoleCount) (may : MayMove r c d) where
   abbrev after : Room
   after = moved r c (headOf r d)
 
@@ -82,10 +83,10 @@ module _ (r : Room) (s : Sound r) (c d : ℕ) (l : c < consoleCount) (q : presen
   pub moved-row : (k : ℕ) → (k ≡ c → ⊥) → commonField after c k ≡ max (commonField r c k) (commonField r d k)
   moved-row k ne =
       let e = field-is (follow-field (onto r s c d l) (slot-other r c (headOf r d) k ne) (λ u v m w. w) (sound-field r s d k)) in
-      omega (arith, field-behind r s c d k q b)
+      omega (arith, field-behind r s c d k (may .target) (may .ahead))
 
   pub moved-column : (k : ℕ) → (k ≡ c → ⊥) → commonField after k c ≡ max (commonField r c k) (commonField r d k)
-  moved-column k ne = commonField-sym after (moved-sound r s c d l q b) k c ∙ moved-row k ne
+  moved-column k ne = commonField-sym after (moved-sound r s c d l may) k c ∙ moved-row k ne
 
 -- console c on a new version
 module _ (r : Room) (s : Sound r) (c : ℕ) (p : present r c ≡ true) (n : Node) where

@@ -9,7 +9,7 @@ use native.Mathlib.Decide.{decLt}
 use native.Mathlib.Omega.{arith}
 use lib.ListN.{length, take}
 use borrow.Author.Tests.{eqb-false, ne-eqb, le-leb, ltb-true}
-use Rattle.laws.proofs.Logic.{and-l, and-r, and-i}
+use Rattle.laws.proofs.Logic.{and-l, and-r, and-i, implies-e}
 use Rattle.buffer.specs.Field.{word}
 use Rattle.buffer.specs.Row.{row}
 use Rattle.buffer.proofs.Fields.{part-length}
@@ -20,12 +20,13 @@ use Rattle.buffer.proofs.Parts.{Bytes, part-bytes, stands-part, part-stands, wo
 use Rattle.board.specs.Board.{boardSize}
 use Rattle.graph.specs.Graph.{Graph, versionCount, isEntry, isSome, ancestor}
 use Rattle.graph.proofs.Below.{some-at}
+use Rattle.graph.proofs.Meet.{Meet}
 use Rattle.command.specs.Code.{consoleCount}
-use Rattle.room.specs.Room.{Room, headOf, present}
-use Rattle.room.specs.Sound.{maxCapacity, behindHead}
-use Rattle.room.proofs.Sound.{Sound, capacity-range, present-console, facts-sound}
+use Rattle.room.specs.Room.{Room, headOf, present, head}
+use Rattle.room.specs.Sound.{maxCapacity, behindHead, canMakeHub}
+use Rattle.room.proofs.Sound.{Sound, capacity-range, present-console, present-head, can-behind, facts-sound}
 use Rattle.room.proofs.Lengths.{boardOf-length}
-use Rattle.store.specs.Layout.{headerSize, rowSize, blockSize, storeSize, countAt, spareAt, entriesAt, commonsEnd, commonAt, blockAt, encode, roomIn, holdsStore}
+use Rattle.store.specs.Layout.{headerSize, rowSize, blockSize, storeSize, countAt, spareAt, entriesAt, commonsEnd, commonAt, blockAt, encode, settingsIn, roomIn, holdsStore}
 use Rattle.store.specs.Check.{rowPart, entriesPart, commonIn, storeRight}
 use Rattle.store.proofs.RoundTrip.{encode-length}
 use Rattle.store.proofs.SettingsBytes.{settings-stand}
@@ -33,6 +34,7 @@ use Rattle.store.proofs.Shown.{no-entry}
 use Rattle.store.proofs.Told.{Held}
 use Rattle.store.proofs.Versions.{versions-held}
 use Rattle.store.proofs.Commons.{Field, field-is, head-is, there, not-zero, field-named, consoles-fields}
+use Rattle.store.proofs.HubTold.{hub-told}
 use Rattle.store.proofs.Behind.{behind-row, row-behind}
 use Rattle.store.proofs.Joined.{Placed, join-block, join-encode}
 use Rattle.store.proofs.Checks.{Checks, right-checks, own-versions, own-sixteen, own-heads}
@@ -68,6 +70,22 @@ module _ (s : List ℕ) (b : Bytes s) where
     behind : (v : ℕ) → v < versionCount g → behindHead r v ≡ true
     behind = row-behind r small (sym (behind-row s r (own-heads s) (rowPart s) (λ v l. held .told v l .line) low) ∙ k .behind)
 
+    meets : (c d : ℕ) → present r c ≡ true → present r d ≡ true → (m : ℕ) × Meet g (head r c) (head r d) m
+    meets c d p q =
+        let f = fields c d (present-console r c (own-sixteen s) p) (present-console r d (own-sixteen s) q) in
+        (pred (commonIn s c d), f .both p q .1)
+
+    first : present r 0 ≡ true
+    first = there s r (own-heads s) 0 (omega arith) (ne-eqb (commonIn s 0 0) 0 (omega (arith, ltb-true 0 (commonIn s 0 0) (k .first))))
+
+    -- the test of the hub, in the row of its head
+    hub-passed : r .settings .hub ≡ true → canMakeHub r ≡ true
+    unfolding roomIn
+    hub-passed t =
+        let line = held .told (head r 0) (named 0 (head r 0) (present-head r 0 first)) .line in
+        sym (hub-told s r small (λ c d i j. field-is (fields c d i j)))
+        ∙ rw (← line, head-is s r (own-heads s) 0 (omega arith)) (implies-e (settingsIn s .hub) _ (k .hub) t)
+
     sound : Sound r
     sound =
         record {
@@ -75,16 +93,15 @@ module _ (s : List ℕ) (b : Bytes s) where
           based = held .based;
           sixteen = own-sixteen s;
           named = named;
-          meets = λ c d p q.
-              let f = fields c d (present-console r c (own-sixteen s) p) (present-console r d (own-sixteen s) q) in
-              (pred (commonIn s c d), f .both p q .1);
-          first = there s r (own-heads s) 0 (omega arith) (ne-eqb (commonIn s 0 0) 0 (omega (arith, ltb-true 0 (commonIn s 0 0) (k .first))));
+          meets = meets;
+          first = first;
           behind = λ v l.
               let f = some-at consoleCount _ (behind v l) in
               (f .0, and-l (present r (f .0)) _ (f .2), and-r (present r (f .0)) _ (f .2));
           settings = k .known;
           fits = k .fits;
           ranged = held .ranged;
+          hub = λ t. can-behind r (own-sixteen s) meets (hub-passed t);
         }
 
     entries : entriesPart s ≡ row (isEntry g) rowSize
@@ -100,7 +117,7 @@ module _ (s : List ℕ) (b : Bytes s) where
     parts : Placed s r
     parts =
         record {
-          settings = unfold roomIn in settings-stand b;
+          settings = unfold roomIn in settings-stand b (k .flag);
           count = rw (k .count) at (word-stands {s = s} countAt b);
           gap = zero-stands spareAt (entriesAt - spareAt) (k .gap);
           entries = part-stands rowSize entries (rowFrom-length (isEntry g) 0 rowSize);

@@ -81,7 +81,7 @@ headsIn-one s c (suc n) (suc k) l =
     headsIn-one s (suc c) n k (le-of-suc-le-suc l) ∙ ap (λ (i : ℕ). headFrom (wordAt s (headAt i))) (omega arith)
 
 -- no field of the table is above the number of versions
-field-below : (t : Bool) (r : Room) (c d : ℕ) → fieldWhere t r c d ≤ versionCount (r .versions)
+pub field-below : (t : Bool) (r : Room) (c d : ℕ) → fieldWhere t r c d ≤ versionCount (r .versions)
 unfolding common
 field-below true r c d = meetNumber-below (r .versions) (head r c) (head r d)
 field-below false r c d = omega arith

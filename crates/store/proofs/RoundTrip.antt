@@ -11,7 +11,7 @@ use lib.ListN.{length, take, drop, length-append, take-append-drop}
 use lib.Seq.{take-at}
 use borrow.Author.Tests.{le-leb}
 use Rattle.laws.proofs.Logic.{and-l, and-r, and-i}
-use Rattle.buffer.specs.Field.{wordAt, same}
+use Rattle.buffer.specs.Field.{wordAt, same, overwrite}
 use Rattle.buffer.proofs.Fields.{zeros-length, same-true, same-refl}
 use Rattle.buffer.proofs.Stands.{stands-front}
 use Rattle.room.specs.declared.Settings.{Settings}
@@ -51,6 +51,14 @@ holds-encode r rest h =
     rw (ap (λ (x : Settings). x .capacity) (settings-read s r (stands-front (encode r) rest) (sound-facts r h)), room-encode r rest h, take-at (encode r) rest n l)
     (and-i (leb n (length s) && soundRoom r) (same (encode r) (encode r))
     (and-i (leb n (length s)) (soundRoom r) fits h) (same-refl (encode r)))
+
+-- the same of a room that was written over a buffer
+module _ (r : Room) (old : List ℕ) (h : soundRoom r ≡ true) where
+  pub room-over : roomIn (overwrite (encode r) old) ≡ r
+  room-over = room-encode r (drop (length (encode r)) old) h
+
+  pub holds-over : holdsStore (overwrite (encode r) old) ≡ true
+  holds-over = holds-encode r (drop (length (encode r)) old) h
 
 -- bytes that hold a store give a sound room
 pub holds-sound : (s : List ℕ) → holdsStore s ≡ true → soundRoom (roomIn s) ≡ true

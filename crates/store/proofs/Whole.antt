@@ -2,9 +2,9 @@
 -- whole, and the fields of the table are the meets of the heads.
 -- Assumes nothing.
 use mathlib.Core.Path.{_≡_, sym, _∙_, ap, subst}
-use mathlib.Core.Bool.{true}
+use mathlib.Core.Bool.{true, _&&_}
 use mathlib.Core.List.{List}
-use Prim.Native.Nat.{ℕ, suc, _≤_, _<_}
+use Prim.Native.Nat.{ℕ, suc, pred, _≤_, _<_}
 use native.Mathlib.Omega.{arith}
 use lib.ListN.{length}
 use borrow.Author.Tests.{leb-true}
@@ -16,16 +16,18 @@ use Rattle.buffer.proofs.Parts.{stands-part}
 use Rattle.board.specs.Board.{boardSize}
 use Rattle.graph.specs.Graph.{versionCount, isEntry, ancestor}
 use Rattle.command.specs.Code.{consoleCount}
-use Rattle.room.specs.Sound.{maxCapacity}
+use Rattle.room.specs.Room.{present}
+use Rattle.room.specs.Sound.{maxCapacity, canMakeHub}
 use Rattle.room.proofs.Sound.{Sound, versions-small, sound-facts}
 use Rattle.room.proofs.Lengths.{boardOf-length}
 use Rattle.store.specs.Layout.{headerSize, rowSize, storeSize, blockAt, encode, roomIn, holdsStore}
-use Rattle.store.specs.Check.{entriesPart, commonIn}
+use Rattle.store.specs.Check.{rowPart, entriesPart, commonIn, commonsInRow}
 use Rattle.store.proofs.Blocks.{stands-entries, stands-node, stands-row, stands-board}
-use Rattle.store.proofs.Reading.{common-read}
+use Rattle.store.proofs.Reading.{field-below, common-read}
 use Rattle.store.proofs.RoundTrip.{holds-sound, holds-front}
 use Rattle.store.proofs.Told.{Held}
-use Rattle.store.proofs.Commons.{Field, field-of, field-named}
+use Rattle.store.proofs.Commons.{Field, field-is, field-of, field-named, head-is}
+use Rattle.store.proofs.HubTold.{hub-told}
 use Rattle.store.proofs.Checks.{own-heads}
 
 module _ (s : List ℕ) (t : holdsStore s ≡ true) where
@@ -73,5 +75,17 @@ module _ (s : List ℕ) (t : holdsStore s ≡ true) where
   pub whole-fields : (c d : ℕ) → c < consoleCount → d < consoleCount → Field (roomIn s) c d (commonIn s c d)
   whole-fields c d i j = rw (common-read s (roomIn s) whole-front whole-sound c d i j) (field-of (roomIn s) c d (whole-sound .meets c d))
 
+  pub whole-common : (c d : ℕ) → c < consoleCount → d < consoleCount → commonIn s c d ≤ versionCount (roomIn s .versions)
+  whole-common c d i j = rw (field-is (whole-fields c d i j)) (field-below (present (roomIn s) c && present (roomIn s) d) (roomIn s) c d)
+
   pub whole-low : (c : ℕ) → c < consoleCount → commonIn s c c ≤ versionCount (roomIn s .versions)
   whole-low c l = field-named s (roomIn s) (own-heads s) c l (whole-fields c c l l)
+
+  -- the row of console 0's head, and what every two consoles have in common is in it where console 0 can be the hub
+  pub whole-head : pred (commonIn s 0 0) < versionCount (roomIn s .versions)
+  whole-head = omega (arith, whole-low 0 (omega arith))
+
+  pub whole-hub : commonsInRow s (rowPart s (pred (commonIn s 0 0))) ≡ canMakeHub (roomIn s)
+  whole-hub =
+      rw (whole-held .told (pred (commonIn s 0 0)) whole-head .line, ← head-is s (roomIn s) (own-heads s) 0 (omega arith))
+      (hub-told s (roomIn s) whole-small (λ c d i j. field-is (whole-fields c d i j)))

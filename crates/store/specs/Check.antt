@@ -14,7 +14,7 @@ use Rattle.graph.specs.declared.Node.the-variants.{Entry, Merge}
 use Rattle.command.specs.Code.{consoleCount}
 use Rattle.room.specs.Sound.{settingsInRange}
 use Rattle.store.specs.Rules.{nodeInRange, isBase}
-use Rattle.store.specs.Layout.{headerSize, nodeSize, rowSize, blockSize, storeSize, capacityAt, countAt, spareAt, entriesAt, commonsEnd, commonAt, blockAt, nodeStripAt, nodeGiverAt, nodeBaseAt, rowAt, boardAt, nodeIn, settingsIn}
+use Rattle.store.specs.Layout.{headerSize, nodeSize, rowSize, blockSize, storeSize, capacityAt, hubAt, countAt, spareAt, entriesAt, commonsEnd, commonAt, blockAt, nodeStripAt, nodeGiverAt, nodeBaseAt, rowAt, boardAt, nodeIn, settingsIn}
 
 abbrev pub rowPart : List ℕ → ℕ → List ℕ
 rowPart s v = part s (rowAt v) rowSize
@@ -114,6 +114,22 @@ consolesRight s n = everyBelow consoleCount (consoleRight s n)
 abbrev pub headsCover : List ℕ → ℕ → Bool
 headsCover s n = ltb 0 (commonIn s 0 0) && same (behindHeads s (rowPart s) consoleCount) (row (λ v. ltb v n) rowSize)
 
+-- the common version of consoles c and d, where both are present, is a member of a row
+abbrev pub commonInRow : List ℕ → List ℕ → ℕ → ℕ → Bool
+commonInRow s members c d = eqb (commonIn s c d) 0 || member members (pred (commonIn s c d))
+
+-- of every two consoles
+unfoldable pub commonsInRow : List ℕ → List ℕ → Bool
+commonsInRow s members = everyBelow consoleCount (λ c. everyBelow c (commonInRow s members c))
+
+-- where console 0 is the hub, it could be made so: every two consoles' common version is in the row of its head
+abbrev pub hubRight : List ℕ → Bool
+hubRight s = not (settingsIn s .hub) || commonsInRow s (rowPart s (pred (commonIn s 0 0)))
+
+-- what the room is set to can be, and its hub's field is that of a room with a hub or of one without
+abbrev pub settingsRight : List ℕ → Bool
+settingsRight s = settingsInRange (settingsIn s) && leb (wordAt s hubAt) 1
+
 -- A store of this capacity with n versions, group by group as the code tests them: where one fails, none behind it is looked at.
 unfoldable pub contentsRight : List ℕ → ℕ → ℕ → Bool
 contentsRight s capacity n =
@@ -128,6 +144,7 @@ contentsRight s capacity n =
 unfoldable pub storeRight : List ℕ → Bool
 storeRight s =
     leb headerSize (length s)
-    && (settingsInRange (settingsIn s)
+    && (settingsRight s
     && (leb (storeSize (wordAt s capacityAt)) (length s)
-    && contentsRight s (wordAt s capacityAt) (wordAt s countAt)))
+    && (contentsRight s (wordAt s capacityAt) (wordAt s countAt)
+    && hubRight s)))

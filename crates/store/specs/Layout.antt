@@ -44,8 +44,11 @@ settingsAt = 0
 abbrev pub capacityAt : ℕ
 capacityAt = settingsAt
 
+abbrev pub hubAt : ℕ
+hubAt = capacityAt + 2
+
 abbrev pub settingsEnd : ℕ
-settingsEnd = capacityAt + 2
+settingsEnd = hubAt + 2
 
 abbrev pub countAt : ℕ
 countAt = settingsEnd
@@ -123,9 +126,12 @@ unfoldable pub commonTable : Room → ℕ → ℕ → List ℕ
 commonTable r c zero = []
 commonTable r c (suc n) = commonFields r c 0 consoleCount ++ commonTable r (suc c) n
 
--- what a room is set to
+-- what a room is set to: its capacity, and 1 where console 0 is its hub, else 0
+abbrev pub hubNumber : Bool → ℕ
+hubNumber hub = cond hub 1 0
+
 abbrev pub settingsBytes : Settings → List ℕ
-settingsBytes settings = word (settings .capacity)
+settingsBytes settings = word (settings .capacity) ++ word (hubNumber (settings .hub))
 
 unfoldable pub header : Room → List ℕ
 header r =
@@ -186,7 +192,7 @@ headsIn s c zero = []
 headsIn s c (suc n) = headFrom (wordAt s (headAt c)) ∷ headsIn s (suc c) n
 
 abbrev pub settingsIn : List ℕ → Settings
-settingsIn s = record { capacity = wordAt s capacityAt }
+settingsIn s = record { capacity = wordAt s capacityAt; hub = eqb (wordAt s hubAt) 1 }
 
 unfoldable pub roomIn : List ℕ → Room
 roomIn s =

@@ -2,11 +2,11 @@
 use crate::places::Field;
 use crate::places::ROW;
 use crate::places::common_in;
+use crate::places::row_of_field;
 use crate::places::row_part;
 use crate::places::version_of;
 use buffer::add_union;
 use buffer::is_intersection;
-use buffer::part_of;
 use command::numbers::CONSOLES;
 use graph::Console;
 use graph::Version;
@@ -99,7 +99,7 @@ pub fn consoles_right(s: &[u8], n: usize) -> bool
     true
 }
 
-// Adds the row of the version that a field of the table stands for, if it stands for one. The row of version v stands at first + stride * v.
+// Adds the row of the version that a field of the table stands for, if it stands for one.
 fn add_head(acc: &mut [u8], rows: &[u8], first: usize, stride: usize, field: Field)
     requires { ⌜ length (now acc) ≡ rowSize ⌝ }
     requires { ⌜ (0 < field .0 → first + stride * pred (field .0) + rowSize ≤ length (now rows)) ⌝ }
@@ -108,8 +108,7 @@ fn add_head(acc: &mut [u8], rows: &[u8], first: usize, stride: usize, field: Fie
     if field.0 == 0 {
         return;
     }
-    let v = version_of(field);
-    add_union(acc, part_of(rows, first + stride * v.0, ROW));
+    add_union(acc, row_of_field(rows, first, stride, field));
 }
 
 // The lowest j bits of a byte.

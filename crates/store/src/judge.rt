@@ -1,6 +1,7 @@
-// Whether lent bytes hold a sound store: the tests of the header, of the versions and of the consoles, together.
+// Whether lent bytes hold a sound store: the tests of the header, of the versions, of the consoles and of the hub, together.
 use crate::consoles::consoles_right;
 use crate::consoles::heads_reach_all;
+use crate::hub::hub_right;
 use crate::places::BLOCK;
 use crate::places::COMMONS;
 use crate::places::COMMONS_END;
@@ -11,18 +12,21 @@ use crate::places::NODE;
 use crate::places::SPARE;
 use crate::places::store_size;
 use crate::settings::read_settings;
-use crate::settings::settings_in_range;
+use crate::settings::settings_right;
 use crate::version::versions_right;
 use buffer::is_zero;
 use buffer::none_from;
 use buffer::word_at;
+use room::Settings;
 ghost use mathlib.Core.Path.{_≡_};
+ghost use mathlib.Core.Bool.{_&&_};
 ghost use Prim.Native.Nat.{ℕ, _≤_, _<_};
 ghost use lib.ListN.{length};
+ghost use Rattle.buffer.specs.Field.{wordAt};
 ghost use Rattle.command.specs.Code.{consoleCount};
 ghost use Rattle.room.specs.Sound.{maxCapacity};
-ghost use Rattle.store.specs.Layout.{headerSize, storeSize, blockAt, holdsStore};
-ghost use Rattle.store.specs.Check.{commonIn, spareZero, restZero, headsCover, contentsRight};
+ghost use Rattle.store.specs.Layout.{headerSize, storeSize, countAt, blockAt, settingsIn, holdsStore};
+ghost use Rattle.store.specs.Check.{commonIn, spareZero, restZero, headsCover, contentsRight, hubRight};
 
 // The spare bytes of the header are zero.
 fn spare_right(s: &[u8]) -> bool
@@ -77,6 +81,17 @@ fn contents_right(s: &[u8], capacity: usize, n: usize) -> bool
     heads_right(s, n)
 }
 
+// The versions, the consoles and the hub of a room that is set to what was read.
+fn room_right(s: &[u8], settings: Settings) -> bool
+    requires { ⌜ (settings ≡ settingsIn (now s)) × (settings .capacity ≤ maxCapacity) × (storeSize (settings .capacity) ≤ length (now s)) ⌝ }
+    ensures { λ r. ⌜ r ≡ (contentsRight (now (s .entry)) (settings .capacity) (wordAt (now (s .entry)) countAt) && hubRight (now (s .entry))) ⌝ }
+{
+    if !contents_right(s, settings.capacity, word_at(s, COUNT)) {
+        return false;
+    }
+    hub_right(s, s, HEADER + NODE, BLOCK, settings.hub)
+}
+
 // Whether lent bytes hold a sound store at their front.
 pub fn holds(s: &[u8]) -> bool
     ensures { λ r. ⌜ r ≡ holdsStore (now (s .entry)) ⌝ }
@@ -85,12 +100,11 @@ pub fn holds(s: &[u8]) -> bool
         return false;
     }
     let settings = read_settings(s);
-    if !settings_in_range(settings) {
+    if !settings_right(s, settings) {
         return false;
     }
-    let capacity = settings.capacity;
-    if s.len() < store_size(capacity) {
+    if s.len() < store_size(settings.capacity) {
         return false;
     }
-    contents_right(s, capacity, word_at(s, COUNT))
+    room_right(s, settings)
 }

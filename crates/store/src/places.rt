@@ -6,8 +6,9 @@ use command::numbers::CONSOLES;
 use graph::Console;
 use graph::Version;
 ghost use mathlib.Core.Path.{_≡_};
-ghost use Prim.Native.Nat.{suc, pred, _^_, _<_, _≤_};
+ghost use Prim.Native.Nat.{suc, pred, _+_, _*_, _^_, _<_, _≤_};
 ghost use lib.ListN.{length};
+ghost use Rattle.buffer.specs.Field.{part};
 ghost use Rattle.board.specs.Board.{boardSize};
 ghost use Rattle.command.specs.Code.{consoleCount};
 ghost use Rattle.store.specs.Layout.{headerSize, rowSize, storeSize, blockAt, rowAt, boardAt, commonAt};
@@ -31,7 +32,9 @@ pub const BLOCK: usize = NODE + ROW + BOARD;
 // commons and its end.
 pub const CAPACITY: usize = 0;
 
-const SETTINGS_END: usize = CAPACITY + 2;
+pub const HUB: usize = CAPACITY + 2;
+
+const SETTINGS_END: usize = HUB + 2;
 
 pub const COUNT: usize = SETTINGS_END;
 
@@ -120,6 +123,16 @@ pub fn row_part(s: &[u8], v: Version) -> &[u8]
     ensures { λ r. ⌜ (now r ≡ rowPart (now (s .entry)) (v .0)) × (length (now r) ≡ rowSize) ⌝ }
 {
     part_of(s, row_at(v), ROW)
+}
+
+// The row of the version that a field of the table of commons stands for. The row of version v stands at first + stride * v, so that rows in
+// blocks and rows one behind the other are one case.
+pub fn row_of_field(rows: &[u8], first: usize, stride: usize, field: Field) -> &[u8]
+    requires { ⌜ first + stride * pred (field .0) + rowSize ≤ length (now rows) ⌝ }
+    ensures { λ r. ⌜ (now r ≡ part (now (rows .entry)) (first + stride * pred (field .0)) rowSize) × (length (now r) ≡ rowSize) ⌝ }
+{
+    let v = version_of(field);
+    part_of(rows, first + stride * v.0, ROW)
 }
 
 // The board of a version whose block lies in the bytes.

@@ -23,6 +23,7 @@ use Rattle.command.specs.Code.{consoleCount, isEntryCode, isStrip, isOperand}
 use Rattle.room.specs.Room.{Room, present, head, common}
 use Rattle.room.specs.Sound.{maxCapacity}
 use Rattle.room.specs.Step.{behind, someThirdSplits, grown, clashCount}
+use Rattle.room.proofs.Accepted.{Through}
 use Rattle.room.proofs.Sound.{Sound, capacity-range, facts-sound}
 use Rattle.room.proofs.Steps.{head-named, entry-grown, merge-grown}
 use Rattle.store.specs.Layout.{headerSize, rowSize, countAt, entriesAt, commonsAt, commonsEnd, commonAt, blockAt, commonField, encode, roomIn, holdsStore}
@@ -178,7 +179,7 @@ module _ (s : List ℕ) (t : holdsStore s ≡ true) (free : versionCount (roomIn
           entry-commons)
 
     -- a merge of another console into it: its common versions with the others are the later of its own and the giver's
-    module _ (d : ℕ) (dl : d < consoleCount) (q : present (roomIn s) d ≡ true) (ahead : behind (roomIn s) d c ≡ false) (back : behind (roomIn s) c d ≡ false)
+    module _ (d : ℕ) (dl : d < consoleCount) (q : present (roomIn s) d ≡ true) (through : Through (roomIn s) c d) (ahead : behind (roomIn s) d c ≡ false) (back : behind (roomIn s) c d ≡ false)
         (split : someThirdSplits (roomIn s) c d ≡ false) where
       abbrev m : Node
       m = merge (head r c) (head r d)
@@ -214,7 +215,7 @@ module _ (s : List ℕ) (t : holdsStore s ≡ true) (free : versionCount (roomIn
           let field = joinedField joined-counted c d in
           let read = counted-read joined m joined-grew in
           rw (eu, ee, eb, ea .0, ea .1, add-one, en, eh, ek, el) (
-            grown-store joined m joined-grew (putHead (putOthers joined-counted c field consoleCount) c new) c (merge-grown r sound c d p q ahead back split free)
+            grown-store joined m joined-grew (putHead (putOthers joined-counted c field consoleCount) c new) c (merge-grown r sound c d p q through ahead back split free)
                 (table-length joined-counted c field new) (table-outside joined-counted c field new cl)
                 (table-stands joined-counted c field new cl header-fits (commonField r) (commonField (grown r c m)) (counted-commons joined m joined-grew) (grown-self r sound c p m)
                 (λ k kl kc. rw (read c k cl kl, read d k dl kl) (merge-row r sound c d p q split k kc))

@@ -4,3 +4,4 @@ pub mod MovedStore
 pub mod Appended
 pub mod AppendedBlocks
 pub mod GrownStore
+pub mod HubStore

@@ -9,11 +9,12 @@ use native.Mathlib.Omega.{arith}
 use Rattle.buffer.specs.Field.{overwrite}
 use Rattle.buffer.proofs.Rows.{rowFrom-length}
 use Rattle.buffer.proofs.Stands.{stands-kept}
-use Rattle.graph.specs.Graph.{ancestor, isEntry}
+use Rattle.graph.specs.Graph.{isEntry}
 use Rattle.command.specs.Code.{consoleCount}
-use Rattle.room.specs.Room.{Room, headOf, present, head}
+use Rattle.room.specs.Room.{Room, headOf}
 use Rattle.room.specs.Step.{someOtherDescends, moved}
 use Rattle.room.proofs.Sound.{Sound, facts-sound}
+use Rattle.room.proofs.Accepted.{MayMove}
 use Rattle.room.proofs.Moves.{moved-sound, left-sound}
 use Rattle.store.specs.Layout.{rowSize, commonField, encode, roomIn, holdsStore}
 use Rattle.store.specs.Check.{commonIn}
@@ -55,17 +56,16 @@ module _ (s : List ℕ) (t : holdsStore s ≡ true) (c : ℕ) (cl : c < consoleC
       s (facts-sound next sound) (whole-long s t) (table-length s c field x) (λ k l. refl)
 
 -- a console that moved to the head of another, whose common versions it took over where they are later
-module _ (s : List ℕ) (t : holdsStore s ≡ true) (c d : ℕ) (cl : c < consoleCount) (dl : d < consoleCount) (q : present (roomIn s) d ≡ true)
-    (b : present (roomIn s) c ≡ true → ancestor (roomIn s .versions) (head (roomIn s) c) (head (roomIn s) d) ≡ true) where
+module _ (s : List ℕ) (t : holdsStore s ≡ true) (c d : ℕ) (cl : c < consoleCount) (dl : d < consoleCount) (may : MayMove (roomIn s) c d) where
   pub moved-store : putHead (putOthers s c (joinedField s c d) consoleCount) c (commonIn s d d) ≡ overwrite (encode (moved (roomIn s) c (headOf (roomIn s) d))) s
   moved-store =
       let r = roomIn s in
       let sound = whole-sound s t in
       let read = common-read s r (whole-front s t) sound in
-      slot-store s t c cl (headOf r d) (joinedField s c d) (commonIn s d d) (moved-sound r sound c d cl q b)
-      (moved-self r sound c d cl q b ∙ sym (read d d dl dl))
-      (λ k kl kc. rw (read c k cl kl, read d k dl kl) (moved-row r sound c d cl q b k kc))
-      (λ k kl kc. rw (read c k cl kl, read d k dl kl) (moved-column r sound c d cl q b k kc))
+      slot-store s t c cl (headOf r d) (joinedField s c d) (commonIn s d d) (moved-sound r sound c d cl may)
+      (moved-self r sound c d cl may ∙ sym (read d d dl dl))
+      (λ k kl kc. rw (read c k cl kl, read d k dl kl) (moved-row r sound c d cl may k kc))
+      (λ k kl kc. rw (read c k cl kl, read d k dl kl) (moved-column r sound c d cl may k kc))
       (moved-other r sound c (headOf r d))
 
 -- a console that left, whose fields were cleared

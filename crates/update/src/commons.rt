@@ -6,7 +6,7 @@ use store::places::Field;
 use store::places::common_at;
 use store::places::common_in;
 ghost use mathlib.Core.Path.{_≡_};
-ghost use mathlib.Core.Bool.{true};
+ghost use mathlib.Core.Bool.{true, false, _&&_};
 ghost use mathlib.Core.Option.{none};
 ghost use Prim.Native.Nat.{max, _<_, _≤_};
 ghost use lib.ListN.{length};
@@ -14,7 +14,7 @@ ghost use Rattle.buffer.specs.Field.{putWord, overwrite};
 ghost use Rattle.graph.specs.Graph.{ancestor};
 ghost use Rattle.command.specs.Code.{consoleCount};
 ghost use Rattle.room.specs.Room.{headOf, present, head};
-ghost use Rattle.room.specs.Step.{someOtherDescends, moved};
+ghost use Rattle.room.specs.Step.{besideHub, someOtherDescends, moved};
 ghost use Rattle.store.specs.Layout.{headerSize, commonAt, encode, roomIn, holdsStore};
 ghost use Rattle.update.specs.Commons.{putCommon, putOther, putOthers, joinedField};
 
@@ -97,6 +97,7 @@ pub fn move_console(s: &mut [u8], c: Console, d: Console)
     requires { ⌜ (c .0 < consoleCount) × (d .0 < consoleCount) ⌝ }
     requires { ⌜ present (roomIn (now s)) (d .0) ≡ true ⌝ }
     requires { ⌜ (present (roomIn (now s)) (c .0) ≡ true → ancestor (roomIn (now s) .versions) (head (roomIn (now s)) (c .0)) (head (roomIn (now s)) (d .0)) ≡ true) ⌝ }
+    requires { ⌜ besideHub (roomIn (now s)) (c .0) && besideHub (roomIn (now s)) (d .0) ≡ false ⌝ }
     ensures { λ _. ⌜ now (s .exit) ≡ overwrite (encode (moved (roomIn (now (s .entry))) (c .0) (headOf (roomIn (now (s .entry))) (d .0)))) (now (s .entry)) ⌝ }
 {
     let field = common_in(s, d, d);

@@ -13,7 +13,7 @@ use query::version_count;
 use store::places::COUNT;
 use store::places::field_of;
 ghost use mathlib.Core.Path.{_≡_};
-ghost use mathlib.Core.Bool.{true, false};
+ghost use mathlib.Core.Bool.{true, false, _&&_};
 ghost use Prim.Native.Nat.{_<_};
 ghost use Rattle.buffer.specs.Field.{overwrite};
 ghost use Rattle.board.specs.Board.{stripCount};
@@ -21,7 +21,7 @@ ghost use Rattle.graph.specs.Graph.{entry, merge, versionCount};
 ghost use Rattle.command.specs.declared.Command.the-variants.{Merge};
 ghost use Rattle.command.specs.Code.{consoleCount, isEntryCode, isOperand};
 ghost use Rattle.room.specs.Room.{present, head};
-ghost use Rattle.room.specs.Step.{behind, someThirdSplits, grown, clashCount};
+ghost use Rattle.room.specs.Step.{behind, besideHub, someThirdSplits, grown, clashCount};
 ghost use Rattle.store.specs.Layout.{encode, roomIn, holdsStore};
 
 // Makes an entry on a console's head.
@@ -46,7 +46,7 @@ pub fn merge(s: &mut [u8], c: Console, d: Console) -> usize
     requires { ⌜ (c .0 < consoleCount) × (d .0 < consoleCount) ⌝ }
     requires { ⌜ (present (roomIn (now s)) (c .0) ≡ true) × (present (roomIn (now s)) (d .0) ≡ true) ⌝ }
     requires { ⌜ (behind (roomIn (now s)) (d .0) (c .0) ≡ false) × (behind (roomIn (now s)) (c .0) (d .0) ≡ false) ⌝ }
-    requires { ⌜ someThirdSplits (roomIn (now s)) (c .0) (d .0) ≡ false ⌝ }
+    requires { ⌜ (someThirdSplits (roomIn (now s)) (c .0) (d .0) ≡ false) × (besideHub (roomIn (now s)) (c .0) && besideHub (roomIn (now s)) (d .0) ≡ false) ⌝ }
     requires { ⌜ versionCount (roomIn (now s) .versions) < roomIn (now s) .settings .capacity ⌝ }
     ensures { λ r. ⌜ (now (s .exit) ≡ overwrite (encode (grown (roomIn (now (s .entry))) (c .0) (merge (head (roomIn (now (s .entry))) (c .0)) (head (roomIn (now (s .entry))) (d .0))))) (now (s .entry))) × (r ≡ clashCount (roomIn (now (s .entry))) (Merge c d)) ⌝ }
 {

@@ -2,6 +2,7 @@
 -- Assumes nothing.
 use Prim.Native.Nat.{ℕ, _<_}
 use mathlib.Core.Path.{_≡_, refl, subst}
+use mathlib.Core.Bool.{true}
 use mathlib.Core.List.{List}
 use native.Mathlib.Omega.{arith}
 use borrow.Author.Tests.{ltb-true}
@@ -11,8 +12,9 @@ use Rattle.command.specs.declared.Command.{Command}
 use Rattle.graph.specs.declared.Console.{Console}
 use Rattle.command.specs.Code.{consoleCount}
 use Rattle.command.specs.Decoding.{TwoConsoles, InRange}
-use Rattle.room.specs.Step.{stepRefusal, step, clashCount}
-use Rattle.room.proofs.Accepted.{MayMove, fork-accepted, forward-accepted, entry-accepted, merge-accepted, leave-accepted}
+use Rattle.room.specs.Room.{present}
+use Rattle.room.specs.Step.{behind, stepRefusal, step, clashCount}
+use Rattle.room.proofs.Accepted.{Through, MayMove, fork-accepted, forward-accepted, entry-accepted, merge-accepted, leave-accepted, hub-accepted}
 use Rattle.store.specs.Layout.{roomIn}
 use Rattle.step.proofs.changes.change.Statement.{statement}
 use Rattle.step.proofs.changes.change.Tie as tie
@@ -23,8 +25,9 @@ Accepted s c = InRange c × (stepRefusal (roomIn s) c ≡ 0)
 
 -- what `move_console` asks for, of a fork and of a fast-forward
 move-asks : (s : List ℕ) (c d : Console) → TwoConsoles (c .0) (d .0) → MayMove (roomIn s) (c .0) (d .0)
-    → ((c .0 < consoleCount) × (d .0 < consoleCount)) × MayMove (roomIn s) (c .0) (d .0)
-move-asks s c d two may = ((two .0, two .1), may)
+    → ((c .0 < consoleCount) × (d .0 < consoleCount))
+    × ((present (roomIn s) (d .0) ≡ true) × ((present (roomIn s) (c .0) ≡ true → behind (roomIn s) (c .0) (d .0) ≡ true) × Through (roomIn s) (c .0) (d .0)))
+move-asks s c d two may = ((two .0, two .1), (may .target, (may .ahead, may .through)))
 
 move-console-requires : tie.Need-move-console-requires
 move-console-requires c κs =
@@ -49,7 +52,7 @@ merge-requires c κs =
     let may = merge-accepted _ _ _ (accepted .1) in
     let two = accepted .0 in
     let take = may .take in
-    (start .pre .0, ((two .0, two .1), ((take .receiver, take .giver), ((take .ahead, may .back), (may .unsplit, ltb-true _ _ (may .is-free))))))
+    (start .pre .0, ((two .0, two .1), ((take .receiver, take .giver), ((take .ahead, may .back), ((may .unsplit, take .through), ltb-true _ _ (may .is-free))))))
 
 move-console-requires-2 : tie.Need-move-console-requires-2
 move-console-requires-2 c κs =
@@ -64,6 +67,13 @@ remove-console-requires c κs =
     let s = start .args .s .now in
     let accepted = subst (Accepted s) (c .before .before .c5 .given .1) (start .pre .1) in
     (start .pre .0, (accepted .0, leave-accepted _ _ (accepted .1) .1))
+
+make-hub-requires : tie.Need-make-hub-requires
+make-hub-requires c κs =
+    let start = c .before .before .before .before in
+    let s = start .args .s .now in
+    let accepted = subst (Accepted s) (c .before .enum-told .given .1) (start .pre .1) in
+    (start .pre .0, hub-accepted _ (accepted .1))
 
 returns : tie.Need-returns
 unfolding step clashCount
@@ -85,9 +95,13 @@ returns-5 : tie.Need-returns-5
 unfolding step clashCount
 returns-5 c = rw (c .before .before .before .before .before .c5 .given .1) (c .before .before .remove-console .ensures, refl)
 
+returns-6 : tie.Need-returns-6
+unfolding step clashCount
+returns-6 c = rw (c .before .before .before .before .enum-told .given .1) (c .before .before .make-hub .ensures, refl)
+
 pub change-spec : {M : Type 1} → statement M
 change-spec =
     tie.close
     (tie.spec (λ c. search needs) move-console-requires (λ c. search needs) enter-requires (λ c. search needs) merge-requires (λ c. omega arith) returns
-    (λ c. search needs) move-console-requires-2 (λ c. search needs) remove-console-requires (λ c. omega arith) returns-2 (λ c. omega arith) returns-3
-    (λ c. omega arith) returns-4 (λ c. omega arith) returns-5)
+    (λ c. search needs) move-console-requires-2 (λ c. search needs) remove-console-requires (λ c. search needs) make-hub-requires (λ c. omega arith) returns-2 (λ c. omega arith) returns-3
+    (λ c. omega arith) returns-4 (λ c. omega arith) returns-5 (λ c. omega arith) returns-6)

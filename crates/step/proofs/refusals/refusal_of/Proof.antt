@@ -56,8 +56,13 @@ returns-5 : tie.Need-returns-5
 unfolding stateTests
 returns-5 c = rw (c .before .before .c5 .given .1) (c .leave-refusal .ensures)
 
+returns-6 : tie.Need-returns-6
+unfolding stateTests
+returns-6 c = rw (c .before .enum-told .given .1) (c .hub-refusal .ensures)
+
 pub refusal-of-spec : {M : Type 1} → statement M
 refusal-of-spec =
     tie.close
     (tie.spec (λ c. search needs) fork-refusal-requires (λ c. search needs) entry-refusal-requires (λ c. search needs) merge-refusal-requires
-    (λ c. search needs) forward-refusal-requires (λ c. search needs) leave-refusal-requires returns returns-2 returns-3 returns-4 returns-5)
+    (λ c. search needs) forward-refusal-requires (λ c. search needs) leave-refusal-requires (λ c. search needs) (λ c κs. search needs)
+    returns returns-2 returns-3 returns-4 returns-5 returns-6)

@@ -29,7 +29,7 @@ returns c =
     let a = start .args in
     let p = start .pre in
     rw (c .before .before .put-head .ensures, joined .join-commons .ensures, found .common-in .ensures .0)
-    (moved-store (a .s .now) (p .0) (a .c .0) (a .d .0) (p .1 .0 .0) (p .1 .0 .1) (p .1 .1 .0) (p .1 .1 .1))
+    (moved-store (a .s .now) (p .0) (a .c .0) (a .d .0) (p .1 .0 .0) (p .1 .0 .1) (record { target = p .1 .1 .0; ahead = p .1 .1 .1 .0; through = p .1 .1 .1 .1 }))
 
 pub move-console-spec : {M : Type 1} → statement M
 move-console-spec =

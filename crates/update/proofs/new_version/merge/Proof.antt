@@ -47,7 +47,7 @@ returns c =
     let a = start .args in
     let rest = start .pre .1 .1 in
     merged-store (now (a .s)) (start .pre .0) (rest .1 .1 .1) (a .c .0) (start .pre .1 .0 .0) (rest .0 .0) (a .d .0) (start .pre .1 .0 .1) (rest .0 .1)
-    (rest .1 .0 .0) (rest .1 .0 .1) (rest .1 .1 .0) _ _ _ _ _ _ _ _ _ (number .version-count .ensures .0) (mine .head-of .ensures .0)
+    (rest .1 .1 .0 .1) (rest .1 .0 .0) (rest .1 .0 .1) (rest .1 .1 .0 .0) _ _ _ _ _ _ _ _ _ (number .version-count .ensures .0) (mine .head-of .ensures .0)
     (given .head-of2 .ensures .0) (base .common-of .ensures .0) (written .append-merge-counted .ensures) (counted .put-word .ensures)
     (joined .join-commons .ensures) (rw (field .field-of .ensures) at (moved .put-head .ensures))
 
