@@ -1,4 +1,4 @@
--- The records of a store's versions and heads are pieces one behind the other, and what a head's piece is.
+-- The records of a store's versions and heads are pieces one behind the other, and what a head's piece and the hub's is.
 -- Assumes nothing.
 use mathlib.Core.Path.{_≡_, refl, sym, ap, _∙_}
 use mathlib.Core.Bool.{true, false}
@@ -11,11 +11,12 @@ use native.Mathlib.Omega.{arith}
 use lib.ListN.{getD, take}
 use Rattle.laws.proofs.Logic.{clash}
 use Rattle.graph.specs.Graph.{isSome}
+use Rattle.room.specs.declared.Settings.{Settings}
 use Rattle.room.specs.Room.{Room, headOf, present, head}
 use Rattle.store.specs.Layout.{versionsIn}
-use Rattle.tape.specs.declared.Record.the-variants.{Head}
+use Rattle.tape.specs.declared.Record.the-variants.{Head, Hub}
 use Rattle.tape.specs.Record.{recordBytes}
-use Rattle.tape.specs.Tape.{versionRecords, headRecords}
+use Rattle.tape.specs.Tape.{versionRecords, headRecords, hubRecords}
 use Rattle.pause.specs.Pieces.{versionPiece, versionPieces, headPiece, headPieces}
 use Rattle.pause.proofs.Piled.{Pieces}
 
@@ -66,3 +67,11 @@ module _ (r : Room) (c : ℕ) where
   pub absent-piece : present r c ≡ false → [] ≡ headPiece r c
   unfolding headPiece
   absent-piece p = no-head c (headOf r c) p
+
+-- what stands behind the heads, by whether console 0 is the hub, as settings that were read say
+module _ (r : Room) {read : Settings} (same : read ≡ r .settings) where
+  pub hub-piece : read .hub ≡ true → recordBytes Hub ≡ hubRecords (r .settings)
+  hub-piece h = rw (← same, h)
+
+  pub no-hub-piece : read .hub ≡ false → [] ≡ hubRecords (r .settings)
+  no-hub-piece h = rw (← same, h)

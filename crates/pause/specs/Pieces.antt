@@ -26,6 +26,7 @@ headPiece r c = headRecords c (headOf r c ∷ [])
 unfoldable pub headPieces : Room → ℕ → List ℕ
 headPieces r n = headRecords 0 (take n (r .heads))
 
--- what no tape of a store exceeds: the start and the end together are shorter than one record of a version, and version 0 has none
+-- what no tape of a store exceeds: the start, the hub's record and the end together are shorter than one record of a version, and version 0
+-- has none
 abbrev pub longestTape : ℕ
 longestTape = longestRecord * (maxCapacity + consoleCount)

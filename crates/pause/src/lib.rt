@@ -26,6 +26,7 @@ pub fn tape_length(s: &[u8]) -> usize
     start_length()
         + measure::versions_length(s, version_count(s) - 1)
         + measure::heads_length(s)
+        + measure::hub_records_length(s)
         + end_length()
 }
 
@@ -37,6 +38,7 @@ pub fn write_tape(s: &[u8], tape: &mut [u8])
 {
     let versions = put_start_record(tape, settings_of(s));
     let heads = write::put_version_records(s, version_count(s) - 1, tape, versions);
-    let end = write::put_head_records(s, tape, heads);
+    let hub = write::put_head_records(s, tape, heads);
+    let end = write::put_hub_records(s, tape, hub);
     put_end_record(tape, end);
 }

@@ -1,10 +1,12 @@
-// How many bytes the records of a store's versions and heads take.
+// How many bytes the records of a store's versions, heads and hub take.
 use command::numbers::CONSOLES;
 use graph::Console;
 use graph::Version;
 use query::is_present;
+use query::settings_of;
 use store::nodes::read_node;
 use tape::lengths::head_length;
+use tape::lengths::hub_length;
 use tape::lengths::version_length;
 ghost use mathlib.Core.Path.{_≡_};
 ghost use mathlib.Core.Bool.{true};
@@ -14,6 +16,8 @@ ghost use Rattle.command.specs.Code.{consoleCount};
 ghost use Rattle.room.specs.Sound.{maxCapacity};
 ghost use Rattle.store.specs.Layout.{blockAt, roomIn, holdsStore};
 ghost use Rattle.tape.specs.Record.{longestRecord};
+ghost use Rattle.tape.specs.Tape.{hubRecords};
+ghost use Rattle.tape.specs.Reader.{hubLength};
 ghost use Rattle.pause.specs.Pieces.{versionPieces, headPiece, headPieces};
 
 // The length of the records of versions 1 to n.
@@ -54,4 +58,16 @@ pub fn heads_length(s: &[u8]) -> usize
         c += 1;
     }
     sum
+}
+
+// The length of the record of a hub; 0 where there is none.
+pub fn hub_records_length(s: &[u8]) -> usize
+    requires { ⌜ holdsStore (now s) ≡ true ⌝ }
+    ensures { λ r. ⌜ (r ≡ length (hubRecords (roomIn (now (s .entry)) .settings))) × (r ≤ hubLength) ⌝ }
+{
+    let hub = settings_of(s).hub;
+    if hub {
+        return hub_length();
+    }
+    0
 }

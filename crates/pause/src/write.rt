@@ -1,11 +1,13 @@
-// The records of a store's versions and heads, written one behind the other.
+// The records of a store's versions, heads and hub, written one behind the other.
 use command::numbers::CONSOLES;
 use graph::Console;
 use graph::Version;
 use query::head_of;
 use query::is_present;
+use query::settings_of;
 use store::nodes::read_node;
 use tape::writer::put_head_record;
+use tape::writer::put_hub_record;
 use tape::writer::put_version_record;
 ghost use mathlib.Core.Path.{_≡_};
 ghost use mathlib.Core.Bool.{true};
@@ -15,6 +17,7 @@ ghost use Rattle.buffer.specs.Field.{withPart};
 ghost use Rattle.command.specs.Code.{consoleCount};
 ghost use Rattle.room.specs.Sound.{maxCapacity};
 ghost use Rattle.store.specs.Layout.{blockAt, roomIn, holdsStore};
+ghost use Rattle.tape.specs.Tape.{hubRecords};
 ghost use Rattle.pause.specs.Pieces.{versionPieces, headPiece, headPieces};
 
 // Writes the records of versions 1 to n from a place on, and says where they end.
@@ -55,6 +58,19 @@ pub fn put_head_records(s: &[u8], tape: &mut [u8], from: usize) -> usize
     while c < CONSOLES {
         at = put_console_record(s, Console(c), tape, at);
         c += 1;
+    }
+    at
+}
+
+// Writes the record of a hub at a place, nothing where there is none, and says where it ends.
+pub fn put_hub_records(s: &[u8], tape: &mut [u8], at: usize) -> usize
+    requires { ⌜ holdsStore (now s) ≡ true ⌝ }
+    requires { ⌜ at + length (hubRecords (roomIn (now s) .settings)) ≤ length (now tape) ⌝ }
+    ensures { λ r. ⌜ (r ≡ at + length (hubRecords (roomIn (now (s .entry)) .settings))) × (now (tape .exit) ≡ withPart (now (tape .entry)) at (hubRecords (roomIn (now (s .entry)) .settings))) ⌝ }
+{
+    let hub = settings_of(s).hub;
+    if hub {
+        return put_hub_record(tape, at);
     }
     at
 }

@@ -3,8 +3,8 @@
 use mathlib.Core.Path.{_≡_, refl, _∙_}
 use mathlib.Core.Bool.{true, _&&_}
 use mathlib.Core.List.{List, [], _∷_}
-use mathlib.Core.Option.{Option, none, some}
-use Prim.Native.Nat.{ℕ, suc, _+_, _≤_, _<_}
+use mathlib.Core.Option.{Option, none, some, Option·getD}
+use Prim.Native.Nat.{ℕ, suc, pred, _+_, _≤_, _<_}
 use native.Mathlib.Decide.{ℕ-discrete}
 use native.Mathlib.Omega.{arith}
 use lib.Dec.{ltb}
@@ -35,6 +35,10 @@ headField (some v) = suc v
 pub head-from : (o : Option ℕ) → headFrom (headField o) ≡ o
 head-from none = refl
 head-from (some v) = refl
+
+pub field-head : (o : Option ℕ) → pred (headField o) ≡ Option·getD o 0
+field-head none = refl
+field-head (some v) = refl
 
 -- the heads of a room stand on the diagonal, and name versions
 pub record Diagonal (r : Room) (t : List ℕ) : Type 0 where

@@ -1,5 +1,5 @@
--- The room of a tape in range is sound exactly when the parents of each merge have a base, every two heads have a meet, and every version
--- stands behind a head.
+-- The room of a tape in range is sound exactly when the parents of each merge have a base, every two heads have a meet, every version
+-- stands behind a head, and console 0 could be made the hub, where the tape says that it is.
 -- Assumes nothing.
 use mathlib.Core.Path.{_≡_, refl, sym, ap, _∙_}
 use mathlib.Core.Bool.{Bool, true, false, _&&_}
@@ -17,7 +17,7 @@ use Rattle.graph.specs.Graph.{Graph, versionCount, isSome, everyVersion, parent
 use Rattle.graph.proofs.Below.{of}
 use Rattle.command.specs.Code.{consoleCount, isConsole}
 use Rattle.room.specs.Room.{headOf}
-use Rattle.room.specs.Sound.{maxCapacity, settingsInRange, entryInRange, namesVersion, headsNameVersions, headsMeet, allBehindHeads, soundRoom}
+use Rattle.room.specs.Sound.{maxCapacity, settingsInRange, entryInRange, namesVersion, headsNameVersions, headsMeet, allBehindHeads, hubIsRight, soundRoom}
 use Rattle.room.proofs.Sound.{capacity-range}
 use Rattle.tape.specs.Tape.{Content, headSlots, roomOf, consolesRise, headsNamed, inRange}
 use Rattle.tape.proofs.Heads.{length-slots}
@@ -67,11 +67,11 @@ named-field g none l = refl
 named-field g (some v) l = lt-ltb v (versionCount g) l
 
 -- a chain of tests of which seven pass
-rest-passes : (b m h : Bool) → (true && b && true && true && m && true && h && true && true && true) ≡ b && m && h
-rest-passes false m h = refl
-rest-passes true false h = refl
-rest-passes true true false = refl
-rest-passes true true true = refl
+rest-passes : (b m h u : Bool) → (true && b && true && true && m && true && h && true && true && true && u) ≡ b && m && (h && u)
+rest-passes false m h u = refl
+rest-passes true false h u = refl
+rest-passes true true false u = refl
+rest-passes true true true u = refl
 
 module _ (t : Content) (cap : settingsInRange (t .settings) ≡ true) (range : inRange t ≡ true) where
   heads-name : headsNameVersions (roomOf t) ≡ true
@@ -80,16 +80,16 @@ module _ (t : Content) (cap : settingsInRange (t .settings) ≡ true) (range : i
       let d = heads-diagonal t (k .rise) (k .named) in
       of consoleCount (λ c. namesVersion (t .versions) (headOf (roomOf t) c)) (λ c l. named-field (t .versions) (headOf (roomOf t) c) (d .named c l))
 
-  room-judged : soundRoom (roomOf t) ≡ (everyVersion mergeHasBase (t .versions) && headsMeet (roomOf t) && allBehindHeads (roomOf t))
+  room-judged : soundRoom (roomOf t) ≡ (everyVersion mergeHasBase (t .versions) && headsMeet (roomOf t) && (allBehindHeads (roomOf t) && hubIsRight (roomOf t)))
   unfolding soundRoom
   room-judged =
       let k = range-facts t cap range in
       let sixteen = eq-eqb (length (headSlots (t .heads))) consoleCount (length-slots (t .heads)) in
       let fits : leb (versionCount (t .versions)) (t .settings .capacity) ≡ true = search (and-l, and-r) depth 8 in
       rw (k .lower, sixteen, heads-name, first-present (t .heads) (k .rise), cap, fits, k .ranged)
-      (rest-passes (everyVersion mergeHasBase (t .versions)) (headsMeet (roomOf t)) (allBehindHeads (roomOf t)))
+      (rest-passes (everyVersion mergeHasBase (t .versions)) (headsMeet (roomOf t)) (allBehindHeads (roomOf t)) (hubIsRight (roomOf t)))
 
-  -- by the first of the three that fails, or by the last
+  -- by the first that fails, or by the last two together
   module _ {based : Bool} (eb : based ≡ everyVersion mergeHasBase (t .versions)) where
     pub versions-fail : based ≡ false → false ≡ soundRoom (roomOf t)
     versions-fail h = sym (room-judged ∙ rw (sym eb ∙ h))
@@ -98,5 +98,5 @@ module _ (t : Content) (cap : settingsInRange (t .settings) ≡ true) (range : i
       pub heads-fail : met ≡ false → false ≡ soundRoom (roomOf t)
       heads-fail h = sym (room-judged ∙ rw (sym eb ∙ ok, sym em ∙ h))
 
-      pub behind-decides : met ≡ true → {last : Bool} → last ≡ allBehindHeads (roomOf t) → last ≡ soundRoom (roomOf t)
+      pub behind-decides : met ≡ true → {last : Bool} → last ≡ allBehindHeads (roomOf t) && hubIsRight (roomOf t) → last ≡ soundRoom (roomOf t)
       behind-decides h e = e ∙ sym (room-judged ∙ rw (sym eb ∙ ok, sym em ∙ h))

@@ -51,7 +51,15 @@ fn resume_ranged(
 {
     let mut rows = [0u8; ROWS];
     let mut header = [0u8; HEADER];
-    let sound = gives_sound_room(tape, versions, from, heads, &mut rows, &mut header);
+    let sound = gives_sound_room(
+        tape,
+        versions,
+        from,
+        heads,
+        settings.hub,
+        &mut rows,
+        &mut header,
+    );
     let refusal = last_refusal(!sound, store.len() < store_size(settings.capacity));
     if refusal == 0 {
         write_store(store, tape, settings, versions, &rows, &header);

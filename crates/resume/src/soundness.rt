@@ -6,6 +6,7 @@ use crate::rows::put_row;
 use graph::Node;
 use graph::Version;
 use store::consoles::heads_reach_all;
+use store::hub::hub_right;
 use store::places::ROW;
 use tape::lengths::start_length;
 use tape::reader::read_version;
@@ -65,12 +66,13 @@ pub fn gives_sound_room(
     versions: usize,
     from: usize,
     heads: usize,
+    hub: bool,
     rows: &mut [u8],
     header: &mut [u8],
 ) -> bool
     requires { ⌜ contentOf (now tape) ≡ some (contentIn (now tape)) ⌝ }
     requires { ⌜ (settingsInRange (contentIn (now tape) .settings) ≡ true) × (inRange (contentIn (now tape)) ≡ true) ⌝ }
-    requires { ⌜ (versions ≡ length (contentIn (now tape) .versions)) × (from ≡ headPlace (contentIn (now tape)) 0) × (heads ≡ length (contentIn (now tape) .heads)) ⌝ }
+    requires { ⌜ (versions ≡ length (contentIn (now tape) .versions)) × (from ≡ headPlace (contentIn (now tape)) 0) × (heads ≡ length (contentIn (now tape) .heads)) × (hub ≡ contentIn (now tape) .settings .hub) ⌝ }
     requires { ⌜ length (now rows) ≡ rowsSize ⌝ }
     requires { ⌜ (length (now header) ≡ headerSize) × (now header ≡ zeros headerSize) ⌝ }
     ensures { λ r. ⌜ (r ≡ soundRoom (roomOf (contentIn (now (tape .entry))))) × RowsOf (now (rows .exit)) (contentIn (now (tape .entry)) .versions) × (r ≡ true → part (now (header .exit)) commonsAt commonsSize ≡ commonTable (roomOf (contentIn (now (tape .entry)))) 0 consoleCount) ⌝ }
@@ -81,5 +83,5 @@ pub fn gives_sound_room(
     if !build_commons(tape, from, heads, rows, header) {
         return false;
     }
-    heads_reach_all(header, rows, 0, ROW, versions + 1)
+    heads_reach_all(header, rows, 0, ROW, versions + 1) & hub_right(header, rows, 0, ROW, hub)
 }

@@ -18,7 +18,7 @@ use Rattle.buffer.proofs.Parts.{Bytes}
 use Rattle.tape.specs.declared.Record.{Record}
 use Rattle.tape.specs.declared.Record.the-variants.{Start, Version, End}
 use Rattle.tape.specs.Record.{recordIn, recordBytes}
-use Rattle.tape.specs.Tape.{Content, contentOf, versionRecords}
+use Rattle.tape.specs.Tape.{Content, contentOf, versionRecords, hubRecords}
 use Rattle.tape.specs.Reader.{placeAfter, nodeOn, headOn, firstVersions, nextNode, firstHeads, nextHead, startLength, headLength, versionPlace, headPlace}
 use Rattle.tape.proofs.Records.{Fits, record-read, record-length}
 use Rattle.tape.proofs.Heads.{headBytes}
@@ -99,14 +99,18 @@ pub record HeadAt (tape : List ℕ) (t : Content) (j : ℕ) (h : ℕ × ℕ) : T
   pub inside : headPlace t j ≤ length tape
 
 module _ (tape : List ℕ) (t : Content) (bytes : Bytes tape) (says : contentOf tape ≡ some t) where
-  in-versions : tape ≡ recordBytes (Start (t .settings)) ++ (versionRecords (t .versions) ++ (headBytes (t .heads) ++ recordBytes End))
+  -- what stands behind the heads
+  abbrev last : List ℕ
+  last = hubRecords (t .settings) ++ recordBytes End
+
+  in-versions : tape ≡ recordBytes (Start (t .settings)) ++ (versionRecords (t .versions) ++ (headBytes (t .heads) ++ last))
   in-versions = tape-written tape t bytes says ∙ simp append-assoc
 
   pub version-at : (k : ℕ) → k < length (t .versions) → VersionAt tape (t .versions) k (nextNode (t .versions) k)
   unfolding versionRecords shapeOf lengthOf
   version-at k l =
       let g = t .versions in
-      let there = rw (← in-versions) at (in-sequence Version versionRecords refl (λ x before. refl) (recordBytes (Start (t .settings))) (headBytes (t .heads) ++ recordBytes End) g (merge 0 0) k (tape-fits tape t bytes says .versions) l) in
+      let there = rw (← in-versions) at (in-sequence Version versionRecords refl (λ x before. refl) (recordBytes (Start (t .settings))) (headBytes (t .heads) ++ last) g (merge 0 0) k (tape-fits tape t bytes says .versions) l) in
       record {
         first = one-more g k (merge 0 0) l;
         count = omega (arith, length-drop (length g - k) g);
@@ -121,11 +125,11 @@ module _ (tape : List ℕ) (t : Content) (bytes : Bytes tape) (says : contentOf 
       let g = t .versions in
       let heads = t .heads in
       let front : List ℕ = recordBytes (Start (t .settings)) ++ versionRecords g in
-      let in-heads : tape ≡ front ++ (headBytes heads ++ recordBytes End) = in-versions ∙ simp append-assoc in
+      let in-heads : tape ≡ front ++ (headBytes heads ++ last) = in-versions ∙ simp append-assoc in
       let far : (k : ℕ) → k ≤ length heads → length front + length (headBytes (firstHeads k heads)) ≡ headPlace t k =
       λ k le. rw (head-bytes-length, all-first g) (omega (arith, length-drop (length heads - k) heads))
       in
-      let between = in-sequence recordOfHead headBytes refl (λ x before. refl) front (recordBytes End) heads (0, 0) j (tape-fits tape t bytes says .heads) l in
+      let between = in-sequence recordOfHead headBytes refl (λ x before. refl) front last heads (0, 0) j (tape-fits tape t bytes says .heads) l in
       let there = rw (← in-heads, far j (omega arith), far (suc j) (omega arith)) at between in
       record {
         first = one-more heads j (0, 0) l;

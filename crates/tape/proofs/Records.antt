@@ -19,21 +19,22 @@ use Rattle.buffer.proofs.Parts.{Bytes}
 use Rattle.graph.specs.declared.Node.{Node}
 use Rattle.graph.specs.declared.Node.the-variants.{Entry, Merge}
 use Rattle.command.specs.declared.Operands.{Operands}
-use Rattle.command.specs.Code.{startRecord, entryRecord, mergeRecord, headRecord, endRecord, shapeOf, lengthOf, numberAt, operandsOf}
+use Rattle.command.specs.Code.{startRecord, entryRecord, mergeRecord, headRecord, hubRecord, endRecord, shapeOf, lengthOf, numberAt, operandsOf}
 use Rattle.room.proofs.Sound.{SettingsFit}
 use Rattle.tape.specs.declared.Record.{Record}
-use Rattle.tape.specs.declared.Record.the-variants.{Start, Version, Head, End, Broken}
+use Rattle.tape.specs.declared.Record.the-variants.{Start, Version, Head, Hub, End, Broken}
 use Rattle.tape.specs.Record.{recordIn, recordLength, recordFrom, versionBytes, recordBytes, recordRefusal}
 
--- each number of a version, and of a record, fits its field
+-- each number of a version, and of a record, fits its field; a start's settings have no hub, which another record says
 abbrev pub NodeFits : Node → Type 0
 NodeFits (Entry parent code strip operand) = (parent .0 < 65536) × (code < 256) × (strip .0 < 256) × (operand < 65536)
 NodeFits (Merge receiver giver) = (receiver .0 < 65536) × (giver .0 < 65536)
 
 abbrev pub Fits : Record → Type 0
-Fits (Start settings) = SettingsFit settings
+Fits (Start settings) = SettingsFit settings × (settings .hub ≡ false)
 Fits (Version node) = NodeFits node
 Fits (Head console version) = (console .0 < 256) × (version .0 < 65536)
+Fits Hub = Unit {0}
 Fits End = Unit {0}
 Fits Broken = ⊥
 
@@ -47,7 +48,9 @@ whole front rest = le-ltb (length (front ++ rest)) (length front) (simp length-a
 
 pub record-read : (x : Record) (rest : List ℕ) → Fits x → recordIn (recordBytes x ++ rest) ≡ x
 unfolding recordIn recordFrom shapeOf lengthOf numberAt operandsOf
-record-read (Start settings) rest h = simp (whole (recordBytes (Start settings)) rest, bytes-word (settings .capacity) h)
+record-read (Start settings) rest h =
+    simp (whole (recordBytes (Start settings)) rest, bytes-word (settings .capacity) (h .0))
+    (λ i. Start (record { capacity = settings .capacity; hub = sym (h .1) i }))
 record-read (Version (Entry parent code strip operand)) rest h =
     let there = whole (versionBytes (Entry parent code strip operand)) rest in
     simp (there, bytes-word (parent .0) (h .0), byte-back code (h .1), byte-back (strip .0) (h .2), bytes-word operand (h .3))
@@ -55,6 +58,7 @@ record-read (Version (Merge receiver giver)) rest h =
     simp (whole (versionBytes (Merge receiver giver)) rest, bytes-word (receiver .0) (h .0), bytes-word (giver .0) (h .1))
 record-read (Head console version) rest h =
     simp (whole (recordBytes (Head console version)) rest, byte-back (console .0) (h .0), bytes-word (version .0) (h .1))
+record-read Hub rest h = simp (whole (recordBytes Hub) rest)
 record-read End rest h = simp (whole (recordBytes End) rest)
 record-read Broken rest h = absurd h
 
@@ -64,6 +68,7 @@ record-length (Start settings) rest h = refl
 record-length (Version (Entry parent code strip operand)) rest h = refl
 record-length (Version (Merge receiver giver)) rest h = refl
 record-length (Head console version) rest h = refl
+record-length Hub rest h = refl
 record-length End rest h = refl
 record-length Broken rest h = absurd h
 
@@ -89,9 +94,9 @@ Begins : ℕ → List ℕ → Type 0
 Begins c t = (t ≡ recordBytes (recordFor c t) ++ drop (lengthOf (shapeOf c)) t) × Fits (recordFor c t)
 
 -- no other code is a record's
-pub unknown : (c : ℕ) (o : Operands) → c ≢ startRecord → c ≢ entryRecord → c ≢ mergeRecord → c ≢ headRecord → c ≢ endRecord → recordFrom c o ≡ Broken
+pub unknown : (c : ℕ) (o : Operands) → c ≢ startRecord → c ≢ entryRecord → c ≢ mergeRecord → c ≢ headRecord → c ≢ hubRecord → c ≢ endRecord → recordFrom c o ≡ Broken
 unfolding recordFrom
-unknown c o n₀ n₁ n₂ n₃ n₄ = simp (ne-eqb c startRecord n₀, ne-eqb c entryRecord n₁, ne-eqb c mergeRecord n₂, ne-eqb c headRecord n₃, ne-eqb c endRecord n₄)
+unknown c o n₀ n₁ n₂ n₃ n₄ n₅ = simp (ne-eqb c startRecord n₀, ne-eqb c entryRecord n₁, ne-eqb c mergeRecord n₂, ne-eqb c headRecord n₃, ne-eqb c hubRecord n₄, ne-eqb c endRecord n₅)
 
 module _ (t : List ℕ) (bytes : Bytes t) where
   -- a word gives back the two bytes that it was read from
@@ -110,7 +115,7 @@ module _ (t : List ℕ) (bytes : Bytes t) where
 
   begins-start : getD t 0 0 ≡ startRecord → ltb (length t) (lengthOf (shapeOf startRecord)) ≡ false → Begins startRecord t
   unfolding Begins recordFor recordFrom shapeOf lengthOf numberAt operandsOf
-  begins-start e l = (cc (whole-front startRecord l, high 1, low 1), rw l (small 1))
+  begins-start e l = (cc (whole-front startRecord l, high 1, low 1), rw l (small 1, refl))
 
   begins-entry : getD t 0 0 ≡ entryRecord → ltb (length t) (lengthOf (shapeOf entryRecord)) ≡ false → Begins entryRecord t
   unfolding Begins recordFor recordFrom shapeOf lengthOf numberAt operandsOf
@@ -129,6 +134,10 @@ module _ (t : List ℕ) (bytes : Bytes t) where
     cc (whole-front headRecord l, byte-back _ (bytes 1), high 2, low 2),
     rw l (bytes 1, small 2),
   )
+
+  begins-hub : getD t 0 0 ≡ hubRecord → ltb (length t) (lengthOf (shapeOf hubRecord)) ≡ false → Begins hubRecord t
+  unfolding Begins recordFor recordFrom shapeOf lengthOf numberAt operandsOf
+  begins-hub e l = (cc (whole-front hubRecord l), rw l tt)
 
   begins-end : getD t 0 0 ≡ endRecord → ltb (length t) (lengthOf (shapeOf endRecord)) ≡ false → Begins endRecord t
   unfolding Begins recordFor recordFrom shapeOf lengthOf numberAt operandsOf
@@ -149,10 +158,14 @@ module _ (t : List ℕ) (bytes : Bytes t) where
                         elim (ℕ-discrete c headRecord) [
                           | yes q ↦ rw q (begins-head (e ∙ q) (rw q at l))
                           | no n₃ ↦
-                              elim (ℕ-discrete c endRecord) [
-                                | yes q ↦ rw q (begins-end (e ∙ q) (rw q at l))
+                              elim (ℕ-discrete c hubRecord) [
+                                | yes q ↦ rw q (begins-hub (e ∙ q) (rw q at l))
                                 | no n₄ ↦
-                                    absurd (unbroken (cond-false _ _ _ l ∙ unknown c _ n₀ n₁ n₂ n₃ n₄))
+                                    elim (ℕ-discrete c endRecord) [
+                                      | yes q ↦ rw q (begins-end (e ∙ q) (rw q at l))
+                                      | no n₅ ↦
+                                          absurd (unbroken (cond-false _ _ _ l ∙ unknown c _ n₀ n₁ n₂ n₃ n₄ n₅))
+                                    ]
                               ]
                         ]
                   ]

@@ -1,13 +1,13 @@
 -- "The reading place moves past one whole record at a time."
 use Prim.Native.Nat.{ℕ, suc, _+_, _-_, _*_}
-use mathlib.Core.Bool.{cond}
+use mathlib.Core.Bool.{Bool, cond, _||_}
 use mathlib.Core.List.{List}
 use mathlib.Core.Option.{Option, none, some}
 use lib.Dec.{eqb, ltb}
 use lib.ListN.{length, getD, drop}
 use Rattle.graph.specs.declared.Node.{Node}
 use Rattle.graph.specs.Graph.{Graph, merge}
-use Rattle.command.specs.Code.{startRecord, headRecord, endRecord, shapeOf, lengthOf}
+use Rattle.command.specs.Code.{startRecord, headRecord, hubRecord, endRecord, shapeOf, lengthOf}
 use Rattle.tape.specs.declared.Record.{Record}
 use Rattle.tape.specs.declared.Record.the-variants as record-is
 use Rattle.tape.specs.declared.scan.Role.{Role}
@@ -26,6 +26,7 @@ abbrev pub nodeOn : Record → Node
 nodeOn (record-is.Start settings) = merge 0 0
 nodeOn (record-is.Version node) = node
 nodeOn (record-is.Head console version) = merge 0 0
+nodeOn record-is.Hub = merge 0 0
 nodeOn record-is.End = merge 0 0
 nodeOn record-is.Broken = merge 0 0
 
@@ -34,6 +35,7 @@ abbrev pub headOn : Record → ℕ × ℕ
 headOn (record-is.Start settings) = (0, 0)
 headOn (record-is.Version node) = (0, 0)
 headOn (record-is.Head console version) = (console .0, version .0)
+headOn record-is.Hub = (0, 0)
 headOn record-is.End = (0, 0)
 headOn record-is.Broken = (0, 0)
 
@@ -53,12 +55,15 @@ firstHeads j heads = drop (length heads - j) heads
 abbrev pub nextHead : List (ℕ × ℕ) → ℕ → ℕ × ℕ
 nextHead heads j = getD heads (length heads - suc j) (0, 0)
 
--- how many bytes the first record, a head's and the last take
+-- how many bytes the first record, a head's, the hub's and the last take
 abbrev pub startLength : ℕ
 startLength = lengthOf (shapeOf startRecord)
 
 abbrev pub headLength : ℕ
 headLength = lengthOf (shapeOf headRecord)
+
+abbrev pub hubLength : ℕ
+hubLength = lengthOf (shapeOf hubRecord)
 
 abbrev pub endLength : ℕ
 endLength = lengthOf (shapeOf endRecord)
@@ -81,10 +86,11 @@ abbrev pub scanRefusal : Scanned → ℕ
 scanRefusal (Whole settings versions heads) = 0
 scanRefusal Broken = noTape
 
--- what a record is to the scan after so many heads
-unfoldable pub roleOf : Record → ℕ → Role
-roleOf (record-is.Start settings) heads = role-is.Misplaced
-roleOf (record-is.Version node) heads = cond (eqb heads 0) role-is.Version role-is.Misplaced
-roleOf (record-is.Head console version) heads = role-is.Head
-roleOf record-is.End heads = cond (eqb heads 0) role-is.Misplaced role-is.End
-roleOf record-is.Broken heads = role-is.Misplaced
+-- what a record is to the scan after so many heads, and after the hub's or not
+unfoldable pub roleOf : Record → ℕ → Bool → Role
+roleOf (record-is.Start settings) heads hub = role-is.Misplaced
+roleOf (record-is.Version node) heads hub = cond (eqb heads 0) role-is.Version role-is.Misplaced
+roleOf (record-is.Head console version) heads hub = cond hub role-is.Misplaced role-is.Head
+roleOf record-is.Hub heads hub = cond (eqb heads 0 || hub) role-is.Misplaced role-is.Hub
+roleOf record-is.End heads hub = cond (eqb heads 0) role-is.Misplaced role-is.End
+roleOf record-is.Broken heads hub = role-is.Misplaced

@@ -1,5 +1,6 @@
 -- "20, capacity (16 bits); one record per version from 1 upward; one head record per present console, consoles rising; 24, the last
--- byte." The tape of a room, the grammar of tapes, the room of a tape, and the refusals 7 to 10.
+-- byte." "The tape carries 25 just before 24", where console 0 is the hub. The tape of a room, the grammar of tapes, the room of a tape, and the
+-- refusals 7 to 10.
 use Prim.Native.Nat.{ℕ, zero, suc}
 use mathlib.Core.Bool.{Bool, true, false, cond, not, _&&_}
 use mathlib.Core.List.{List, [], _∷_, _++_}
@@ -10,11 +11,11 @@ use Rattle.graph.specs.declared.Node.{Node}
 use Rattle.graph.specs.Graph.{Graph, versionCount, everyVersion, parentsLower}
 use Rattle.refusal.specs.Refusal.{_when_, firstRefusal}
 use Rattle.command.specs.Code.{consoleCount, isConsole}
-use Rattle.room.specs.Room.{Room}
+use Rattle.room.specs.Room.{Room, withHub}
 use Rattle.room.specs.declared.Settings.{Settings}
 use Rattle.room.specs.Sound.{settingsInRange, entryInRange, soundRoom}
 use Rattle.tape.specs.declared.Record.{Record}
-use Rattle.tape.specs.declared.Record.the-variants.{Start, Version, Head, End, Broken}
+use Rattle.tape.specs.declared.Record.the-variants.{Start, Version, Head, Hub, End, Broken}
 use Rattle.tape.specs.Record.{recordIn, recordLength, versionBytes, recordBytes, noTape}
 
 -- The tape of a room: "one record per version from 1 upward"
@@ -28,9 +29,14 @@ headRecords c [] = []
 headRecords c (none ∷ later) = headRecords (suc c) later
 headRecords c (some v ∷ later) = recordBytes (Head (record { 0 = c }) (record { 0 = v })) ++ headRecords (suc c) later
 
+-- "the tape carries 25"
+abbrev pub hubRecords : Settings → List ℕ
+hubRecords settings = cond (settings .hub) (recordBytes Hub) []
+
 unfoldable pub tapeOf : Room → List ℕ
 tapeOf r =
-    recordBytes (Start (r .settings)) ++ versionRecords (r .versions) ++ headRecords 0 (r .heads) ++ recordBytes End
+    recordBytes (Start (r .settings)) ++ versionRecords (r .versions) ++ headRecords 0 (r .heads) ++ hubRecords (r .settings)
+    ++ recordBytes End
 
 -- The grammar: what was read so far, the newest version and the last head first.
 pub record Content : Type 0 where
@@ -45,10 +51,14 @@ withVersion t n = record { settings = t .settings; versions = n ∷ t .versions;
 abbrev pub withHead : Content → ℕ → ℕ → Content
 withHead t c v = record { settings = t .settings; versions = t .versions; heads = (c, v) ∷ t .heads }
 
--- what may follow: versions or the first head; further heads or the end
+abbrev pub withHubRead : Content → Content
+withHubRead t = record { settings = withHub (t .settings); versions = t .versions; heads = t .heads }
+
+-- what may follow: versions or the first head; further heads, the hub or the end; the end
 pub data Stage : Type 0 where
   inVersions : Stage
   inHeads : Stage
+  pastHub : Stage
 
 -- what reading does after a record
 pub data Follow : Type 0 where
@@ -60,13 +70,21 @@ unfoldable pub afterRecord : Stage → Content → Record → Follow
 afterRecord inVersions t (Start settings) = refuse
 afterRecord inVersions t (Version node) = goOn inVersions (withVersion t node)
 afterRecord inVersions t (Head console version) = goOn inHeads (withHead t (console .0) (version .0))
+afterRecord inVersions t Hub = refuse
 afterRecord inVersions t End = refuse
 afterRecord inVersions t Broken = refuse
 afterRecord inHeads t (Start settings) = refuse
 afterRecord inHeads t (Version node) = refuse
 afterRecord inHeads t (Head console version) = goOn inHeads (withHead t (console .0) (version .0))
+afterRecord inHeads t Hub = goOn pastHub (withHubRead t)
 afterRecord inHeads t End = finish
 afterRecord inHeads t Broken = refuse
+afterRecord pastHub t (Start settings) = refuse
+afterRecord pastHub t (Version node) = refuse
+afterRecord pastHub t (Head console version) = refuse
+afterRecord pastHub t Hub = refuse
+afterRecord pastHub t End = finish
+afterRecord pastHub t Broken = refuse
 
 -- "The reading place moves past one whole record at a time." The rest of a tape from a place on; no tape has more records than bytes,
 -- which is what the first number is for.
@@ -83,6 +101,7 @@ abbrev pub readFrom : ℕ → List ℕ → Record → Option Content
 readFrom k rest (Start settings) = readOn k inVersions (record { settings = settings; versions = []; heads = [] }) rest
 readFrom k rest (Version node) = none
 readFrom k rest (Head console version) = none
+readFrom k rest Hub = none
 readFrom k rest End = none
 readFrom k rest Broken = none
 

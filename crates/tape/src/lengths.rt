@@ -3,6 +3,7 @@ use crate::place::coded_length;
 use command::codes::END_RECORD;
 use command::codes::ENTRY_RECORD;
 use command::codes::HEAD_RECORD;
+use command::codes::HUB_RECORD;
 use command::codes::MERGE_RECORD;
 use command::codes::START_RECORD;
 use graph::Node;
@@ -10,7 +11,7 @@ ghost use mathlib.Core.Path.{_≡_};
 ghost use Prim.Native.Nat.{_≤_};
 ghost use lib.ListN.{length};
 ghost use Rattle.tape.specs.Record.{versionBytes, longestRecord};
-ghost use Rattle.tape.specs.Reader.{startLength, headLength, endLength};
+ghost use Rattle.tape.specs.Reader.{startLength, headLength, hubLength, endLength};
 
 // The length of the record that every tape begins with, which is the place of the next.
 pub fn start_length() -> usize
@@ -42,6 +43,13 @@ pub fn head_length() -> usize
     ensures { λ r. ⌜ r ≡ headLength ⌝ }
 {
     coded_length(HEAD_RECORD)
+}
+
+// The length of the record that says that console 0 is the hub.
+pub fn hub_length() -> usize
+    ensures { λ r. ⌜ r ≡ hubLength ⌝ }
+{
+    coded_length(HUB_RECORD)
 }
 
 // The length of the last record.

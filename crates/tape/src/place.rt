@@ -5,6 +5,7 @@ use command::Operands;
 use command::codes::END_RECORD;
 use command::codes::ENTRY_RECORD;
 use command::codes::HEAD_RECORD;
+use command::codes::HUB_RECORD;
 use command::codes::MERGE_RECORD;
 use command::codes::START_RECORD;
 use command::decoder::length_of;
@@ -34,13 +35,16 @@ pub struct Taken {
     pub next: usize,
 }
 
-// The record of a code and what follows it.
+// The record of a code and what follows it. That console 0 is the hub is said by a record of its own, not by the start.
 fn record_from(code: usize, o: Operands) -> Record
     ensures { λ r. ⌜ r ≡ recordFrom code o ⌝ }
 {
     match code {
         START_RECORD => Record::Start {
-            settings: Settings { capacity: o.first },
+            settings: Settings {
+                capacity: o.first,
+                hub: false,
+            },
         },
         ENTRY_RECORD => Record::Version {
             node: Node::Entry {
@@ -60,6 +64,7 @@ fn record_from(code: usize, o: Operands) -> Record
             console: Console(o.first),
             version: Version(o.second),
         },
+        HUB_RECORD => Record::Hub,
         END_RECORD => Record::End,
         _ => Record::Broken,
     }

@@ -3,10 +3,9 @@ use crate::Record;
 use crate::place::read_at;
 use room::Settings;
 ghost use mathlib.Core.Path.{_≡_};
-ghost use mathlib.Core.Bool.{cond};
+ghost use mathlib.Core.Bool.{false, cond};
 ghost use mathlib.Core.List.{[]};
 ghost use Prim.Native.Nat.{_≤_};
-ghost use lib.Dec.{eqb};
 ghost use lib.ListN.{length, drop};
 ghost use Rattle.tape.specs.Tape.{contentOf, inVersions, readOn};
 ghost use Rattle.tape.specs.Reader.{scannedOf, scanRefusal, roleOf};
@@ -21,35 +20,38 @@ pub enum Scanned {
     Broken,
 }
 
-// What a record is to the scan: one that may not stand there, a version, a head, or the end.
+// What a record is to the scan: one that may not stand there, a version, a head, the hub's, or the end.
 enum Role {
     Misplaced,
     Version,
     Head,
+    Hub,
     End,
 }
 
-// One kind where no head was read, another where one was.
-fn by_heads(heads: usize, none: Role, some: Role) -> Role
-    ensures { λ r. ⌜ r ≡ cond (eqb heads 0) none some ⌝ }
+// One role where a test is true, another where it is not.
+fn role_by(test: bool, then: Role, otherwise: Role) -> Role
+    ensures { λ r. ⌜ r ≡ cond test then otherwise ⌝ }
 {
-    if heads == 0 {
-        return none;
+    if test {
+        return then;
     }
-    some
+    otherwise
 }
 
-// What a record is to the scan after so many heads.
-fn role_of(x: Record, heads: usize) -> Role
-    ensures { λ r. ⌜ r ≡ roleOf x heads ⌝ }
+// What a record is to the scan after so many heads, and after the hub's record or not.
+fn role_of(x: Record, heads: usize, hub: bool) -> Role
+    ensures { λ r. ⌜ r ≡ roleOf x heads hub ⌝ }
 {
+    let headless = heads == 0;
     match x {
-        Record::Version { node: _ } => by_heads(heads, Role::Version, Role::Misplaced),
+        Record::Version { node: _ } => role_by(headless, Role::Version, Role::Misplaced),
         Record::Head {
             console: _,
             version: _,
-        } => Role::Head,
-        Record::End => by_heads(heads, Role::Misplaced, Role::End),
+        } => role_by(hub, Role::Misplaced, Role::Head),
+        Record::Hub => role_by(headless | hub, Role::Misplaced, Role::Hub),
+        Record::End => role_by(headless, Role::Misplaced, Role::End),
         Record::Start { settings: _ } | Record::Broken => Role::Misplaced,
     }
 }
@@ -68,18 +70,19 @@ fn scan_end(last: bool, settings: Settings, versions: usize, heads: usize) -> Sc
     Scanned::Broken
 }
 
-// The scan from the first record behind the start on.
+// The scan from the first record behind the start on. The settings that were read so far say whether the hub's record was.
 fn scan_on(tape: &[u8], start: usize, settings: Settings) -> Scanned
-    requires { ⌜ start ≤ length (now tape) ⌝ }
+    requires { ⌜ (start ≤ length (now tape)) × (settings .hub ≡ false) ⌝ }
     ensures { λ r. ⌜ r ≡ scannedOf (readOn (length (now (tape .entry))) inVersions (record { settings = settings; versions = []; heads = [] }) (drop start (now (tape .entry)))) ⌝ }
 {
     let mut at = start;
     let mut versions: usize = 0;
     let mut heads: usize = 0;
+    let mut so_far = settings;
     while at < tape.len() {
         let taken = read_at(tape, at);
         let found = taken.found;
-        let role = role_of(found, heads);
+        let role = role_of(found, heads, so_far.hub);
         at = taken.next;
         match role {
             Role::Misplaced => {
@@ -91,8 +94,11 @@ fn scan_on(tape: &[u8], start: usize, settings: Settings) -> Scanned
             Role::Head => {
                 heads = heads + 1;
             }
+            Role::Hub => {
+                so_far.hub = true;
+            }
             Role::End => {
-                return scan_end(at == tape.len(), settings, versions, heads);
+                return scan_end(at == tape.len(), so_far, versions, heads);
             }
         }
     }

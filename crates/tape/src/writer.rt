@@ -3,6 +3,7 @@ use buffer::put_word;
 use command::codes::END_RECORD;
 use command::codes::ENTRY_RECORD;
 use command::codes::HEAD_RECORD;
+use command::codes::HUB_RECORD;
 use command::codes::MERGE_RECORD;
 use command::codes::START_RECORD;
 use graph::Console;
@@ -16,7 +17,7 @@ ghost use Prim.Native.Nat.{_+_, _<_, _≤_};
 ghost use lib.ListN.{length};
 ghost use Rattle.buffer.specs.Field.{byte, word, withPart};
 ghost use Rattle.graph.specs.declared.Node.the-variants.{Entry, Merge};
-ghost use Rattle.tape.specs.declared.Record.the-variants.{Start, Head, End};
+ghost use Rattle.tape.specs.declared.Record.the-variants.{Start, Head, Hub, End};
 ghost use Rattle.tape.specs.Record.{versionBytes, recordBytes};
 
 // Writes a number's 8 bits at a place, and says where they end.
@@ -99,6 +100,14 @@ pub fn put_head_record(tape: &mut [u8], at: usize, console: Console, version: Ve
     let coded = put_record_byte(tape, at, HEAD_RECORD);
     let second = put_record_byte(tape, coded, console.0);
     put_record_word(tape, second, version.0)
+}
+
+// Writes the record that says that console 0 is the hub, at a place.
+pub fn put_hub_record(tape: &mut [u8], at: usize) -> usize
+    requires { ⌜ at + length (recordBytes Hub) ≤ length (now tape) ⌝ }
+    ensures { λ r. ⌜ (r ≡ at + length (recordBytes Hub)) × (now (tape .exit) ≡ withPart (now (tape .entry)) at (recordBytes Hub)) ⌝ }
+{
+    put_record_byte(tape, at, HUB_RECORD)
 }
 
 // Writes the last byte of a tape at a place.

@@ -27,17 +27,24 @@ add-result-2 : tie.Need-add-result-2
 unfolding shapeOf lengthOf
 add-result-2 c = omega arith
 
+hub-records-length-requires : tie.Need-hub-records-length-requires
+hub-records-length-requires c κs = c .before .before .before .before .before .pre
+
 add-result-3 : tie.Need-add-result-3
 unfolding shapeOf lengthOf
 add-result-3 c = omega arith
 
+add-result-4 : tie.Need-add-result-4
+unfolding shapeOf lengthOf
+add-result-4 c = omega arith
+
 returns : tie.Need-returns
 unfolding shapeOf lengthOf
 returns c =
-    let count = c .before .before .before in
+    let count = c .before .before .before .before in
     omega (arith, tape-size (count .before .before .before .args .s .now) (count .version-count .result - 1) (omega arith))
 
 pub tape-length-spec : {M : Type 1} → statement M
 tape-length-spec =
     tie.close
-    (tie.spec (λ c κs. tt) version-count-requires (λ c. omega arith) versions-length-requires add-result heads-length-requires add-result-2 (λ c κs. tt) add-result-3 returns)
+    (tie.spec (λ c κs. tt) version-count-requires (λ c. omega arith) versions-length-requires add-result heads-length-requires add-result-2 hub-records-length-requires add-result-3 (λ c κs. tt) add-result-4 returns)

@@ -33,24 +33,31 @@ put-head-records-requires c κs =
     let start = count .before .before .before .before .before .before .before .before in
     (start .pre .0, omega (arith, tape-size (start .args .s .now) (count .version-count .result - 1) (omega arith)))
 
+put-hub-records-requires : tie.Need-put-hub-records-requires
+put-hub-records-requires c κs =
+    let count = c .before .before .before .before .before .before .before .before .before in
+    let start = count .before .before .before .before .before .before .before .before in
+    (start .pre .0, omega (arith, tape-size (start .args .s .now) (count .version-count .result - 1) (omega arith)))
+
 put-end-record-requires : tie.Need-put-end-record-requires
 put-end-record-requires c κs =
-    let count = c .before .before .before .before .before .before .before .before .before in
+    let count = c .before .before .before .before .before .before .before .before .before .before .before .before .before in
     let start = count .before .before .before .before .before .before .before .before in
     omega (arith, tape-size (start .args .s .now) (count .version-count .result - 1) (omega arith))
 
 returns : tie.Need-returns
 returns c =
     let end = c .before .before in
-    let heads = end .before .before .before .before in
+    let hub = end .before .before .before .before in
+    let heads = hub .before .before .before .before in
     let versions = heads .before .before .before .before in
     let count = versions .before .before in
     let first = count .before .before .before in
     let start = first .before .before .before .before .before in
     records-written (start .args .s .now) (count .version-count .result - 1) (omega arith) (start .args .tape .now) (start .pre .1)
-    (rw (first .before .settings-of .ensures .0) at (first .put-start-record .ensures)) (versions .put-version-records .ensures) (heads .put-head-records .ensures) (end .put-end-record .ensures)
+    (rw (first .before .settings-of .ensures .0) at (first .put-start-record .ensures)) (versions .put-version-records .ensures) (heads .put-head-records .ensures) (hub .put-hub-records .ensures) (end .put-end-record .ensures)
 
 pub write-tape-spec : {M : Type 1} → statement M
 write-tape-spec =
     tie.close
-    (tie.spec settings-of-requires put-start-record-requires version-count-requires (λ c. omega arith) put-version-records-requires put-head-records-requires put-end-record-requires (λ c. omega arith) returns)
+    (tie.spec settings-of-requires put-start-record-requires version-count-requires (λ c. omega arith) put-version-records-requires put-head-records-requires put-hub-records-requires put-end-record-requires (λ c. omega arith) returns)

@@ -10,7 +10,7 @@ use Rattle.pause.proofs.measure.console_length.Statement.{statement}
 use Rattle.pause.proofs.measure.console_length.Tie as tie
 
 is-present-requires : tie.Need-is-present-requires
-is-present-requires c κs = c .before .pre
+is-present-requires c κs = (c .before .pre .0, omega arith)
 
 returns : tie.Need-returns
 unfolding shapeOf lengthOf

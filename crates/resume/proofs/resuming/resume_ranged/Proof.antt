@@ -18,7 +18,7 @@ use Rattle.resume.proofs.resuming.resume_ranged.Tie as tie
 gives-sound-room-requires : tie.Need-gives-sound-room-requires
 gives-sound-room-requires c κs =
     let p = c .before .before .before .before .pre in
-    (p .0, ((p .1 .1 .0, p .1 .1 .1), ((p .1 .0 .1, p .1 .0 .2, p .1 .0 .3), (zeros-length rowsSize, (zeros-length headerSize, refl)))))
+    (p .0, ((p .1 .1 .0, p .1 .1 .1), ((p .1 .0 .1, p .1 .0 .2, p .1 .0 .3, ap (λ (x : Settings). x .hub) (p .1 .0 .0)), (zeros-length rowsSize, (zeros-length headerSize, refl)))))
 
 store-size-requires : tie.Need-store-size-requires
 store-size-requires c κs =

@@ -1,11 +1,12 @@
--- `resume::soundness::gives_sound_room` meets its contract: the first of the three tests that fails answers, or else the last.
+-- `resume::soundness::gives_sound_room` meets its contract: the first test that fails answers, or else the last two.
 -- Assumes nothing.
 use native.Mathlib.Omega.{arith}
-use mathlib.Core.Path.{refl}
+use mathlib.Core.Path.{refl, ap₂}
+use mathlib.Core.Bool.{_&&_}
 use borrow.Author.Tests.{not-true, not-false}
 use Rattle.laws.proofs.Logic.{and-i, clash}
 use Rattle.resume.specs.Content.{contentIn}
-use Rattle.resume.proofs.HeadsJudged.{rows-inside, behind-told}
+use Rattle.resume.proofs.HeadsJudged.{rows-inside, behind-told, fields-low, hub-judged}
 use Rattle.resume.proofs.RoomJudged.{range-facts, versions-fail, heads-fail, behind-decides}
 use Rattle.resume.proofs.soundness.gives_sound_room.Statement.{statement}
 use Rattle.resume.proofs.soundness.gives_sound_room.Tie as tie
@@ -75,9 +76,24 @@ heads-reach-all-requires c κs =
     let header = met .build-commons .last .1 .1 .1 .1 .0 in
     (omega arith, rows-inside t (k .rise) (k .named) (k .small) shown header (omega arith) (met .build-commons .ensures .1 ok))
 
+hub-right-requires : tie.Need-hub-right-requires
+hub-right-requires c κs =
+    let met = c .before .before .before .before .before .before .before .before in
+    let made = met .before .before .before .before .before .before in
+    let start = made .before .before .before .before .before in
+    let p = start .pre in
+    let t = contentIn (start .args .tape .now) in
+    let k = range-facts t (p .1 .0 .0) (p .1 .0 .1) in
+    let shown = made .build-rows .ensures .1 in
+    let ok = not-false (met .build-commons .result) (c .before .before .before .before .before .if2 .left) in
+    let header = met .build-commons .last .1 .1 .1 .1 .0 in
+    let written = met .build-commons .ensures .1 ok in
+    let low = fields-low t (k .rise) (k .named) (k .small) shown header (omega arith) written in
+    (omega arith, (omega (arith, low 0 0 (omega arith) (omega arith), shown .long), λ a b l m. low a b l (omega arith)))
+
 returns-3 : tie.Need-returns-3
 returns-3 c =
-    let met = c .before .before .before .before .before .before in
+    let met = c .before .before .before .before .before .before .before .before .before in
     let made = met .before .before .before .before .before .before in
     let start = made .before .before .before .before .before in
     let p = start .pre in
@@ -85,14 +101,15 @@ returns-3 c =
     let k = range-facts t (p .1 .0 .0) (p .1 .0 .1) in
     let told = made .build-rows .ensures in
     let based = not-false (made .build-rows .result) (met .before .before .before .if1 .left) in
-    let ok = not-false (met .build-commons .result) (c .before .before .before .if2 .left) in
+    let ok = not-false (met .build-commons .result) (c .before .before .before .before .before .before .if2 .left) in
     let written = met .build-commons .ensures .1 ok in
     let header = met .build-commons .last .1 .1 .1 .1 .0 in
-    let last = behind-told t (k .rise) (k .named) (k .small) (told .1) header (omega arith) written (omega arith) (c .heads-reach-all .ensures) in
-    (behind-decides t (p .1 .0 .0) (p .1 .0 .1) (told .0) based (met .build-commons .ensures .0) ok last, told .1, λ _. written)
+    let behind = behind-told t (k .rise) (k .named) (k .small) (told .1) header (omega arith) written (omega arith) (c .before .before .before .heads-reach-all .ensures) in
+    let hub = hub-judged t (k .rise) (k .named) (k .small) (told .1) header (omega arith) written (p .1 .1 .0 .3) (c .hub-right .ensures) in
+    (behind-decides t (p .1 .0 .0) (p .1 .0 .1) (told .0) based (met .build-commons .ensures .0) ok (ap₂ _&&_ behind hub), told .1, λ _. written)
 
 pub gives-sound-room-spec : {M : Type 1} → statement M
 gives-sound-room-spec =
     tie.close
     (tie.spec build-rows-requires (λ c. omega arith) returns build-commons-requires (λ c. omega arith) (λ c. omega arith) returns-2
-    add-heads-reach-all heads-reach-all-requires (λ c. omega arith) (λ c. omega arith) returns-3)
+    add-heads-reach-all heads-reach-all-requires hub-right-requires (λ c. omega arith) (λ c. omega arith) returns-3)

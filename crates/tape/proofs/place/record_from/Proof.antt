@@ -28,7 +28,11 @@ unfolding recordFrom
 returns-5 c = rw (c .match .keys5)
 
 returns-6 : tie.Need-returns-6
-returns-6 c = sym (unknown _ _ (omega arith) (omega arith) (omega arith) (omega arith) (omega arith))
+unfolding recordFrom
+returns-6 c = rw (c .match .keys6)
+
+returns-7 : tie.Need-returns-7
+returns-7 c = sym (unknown _ _ (omega arith) (omega arith) (omega arith) (omega arith) (omega arith) (omega arith))
 
 pub record-from-spec : {M : Type 1} → statement M
-record-from-spec = tie.close (tie.spec returns returns-2 returns-3 returns-4 returns-5 returns-6)
+record-from-spec = tie.close (tie.spec returns returns-2 returns-3 returns-4 returns-5 returns-6 returns-7)
