@@ -17,7 +17,7 @@ use Rattle.graph.specs.Graph.{isSome}
 use Rattle.refusal.specs.Refusal.{firstRefusal}
 use Rattle.command.specs.Code.{consoleCount}
 use Rattle.command.specs.declared.Command.{Command}
-use Rattle.command.specs.declared.Command.the-variants.{Fork, Entry, Merge, FastForward, Leave}
+use Rattle.command.specs.declared.Command.the-variants.{Fork, Entry, Merge, FastForward, Leave, MakeHub}
 use Rattle.command.specs.declared.Decoded.{Decoded}
 use Rattle.command.specs.declared.Decoded.the-variants.{Whole, Refused}
 use Rattle.command.specs.Decode.{decode}
@@ -58,6 +58,7 @@ step-capacity r (Entry console code strip operand) = refl
 step-capacity r (Merge receiver giver) = refl
 step-capacity r (FastForward receiver giver) = refl
 step-capacity r (Leave console) = refl
+step-capacity r MakeHub = refl
 
 -- and each leaves a sound room
 after-sound : (r : Room) (c : List ℕ) (d : Decoded) → decode c ≡ d → soundRoom r ≡ true → soundRoom (roomAfter r d) ≡ true

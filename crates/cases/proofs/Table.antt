@@ -4,20 +4,23 @@ use mathlib.Core.Path.{_≡_, refl, ap}
 use mathlib.Core.List.{[], _∷_, map}
 use Rattle.board.specs.Board.{mergeFlag, mergeStrip, mergeStrips, enter}
 use Rattle.graph.specs.Below.{everyBelow, someBelow, highestBelow, firstNonzero}
-use Rattle.graph.specs.Graph.{ancestor, isMeet, meet}
+use Rattle.graph.specs.Graph.{ancestor, isMeet, meet, everyVersion}
 use Rattle.refusal.specs.Refusal.{firstRefusal}
 use Rattle.command.specs.Code.{consoleCount, shapeOf, lengthOf, numberAt, operandsOf, isOperand, kindOf}
-use Rattle.command.specs.Decode.{commandRefusal, decode}
+use Rattle.command.specs.Decode.{commandRefusal, decode, commandBytes}
 use Rattle.room.specs.Room.{common}
 use Rattle.room.specs.Boards.{boardMade, boardOf}
 use Rattle.room.specs.Origin.{originOf, origin}
+use Rattle.room.specs.Sound.{headsMeet, allBehindHeads, canMakeHub, soundRoom}
 use Rattle.room.specs.Step.{stateTests, stepRefusal, step, clashCount}
 use Rattle.room.specs.Mergeable.{pairNumber, firstPair, headsAgree, mergeable}
+use Rattle.room.specs.Gathering.{hubTakes, hubGives, afterAll, forEach, gathering}
 use Rattle.store.specs.Layout.{holdsStore}
-use Rattle.unit.specs.Calls.{originReply, mergeableReply, stepOutcome, commandOutcome}
-use Rattle.tape.specs.Tape.{versionRecords, headRecords, tapeOf}
+use Rattle.unit.specs.Calls.{originReply, mergeableReply, stepOutcome, commandOutcome, resumed, resumeOutcome}
+use Rattle.tape.specs.Record.{recordFrom, recordIn}
+use Rattle.tape.specs.Tape.{versionRecords, headRecords, tapeOf, afterRecord, readOn, contentOf, headSlots, consolesRise, headsNamed}
 use Rattle.cases.specs.Run.{Case, merge, forward, answerIn, countIn, roomAfter, made, replies, session}
-use Rattle.cases.specs.Requests.{originCases, leaveCases, everywhere, clashCases, stuckCases, agreeCases, pairCases}
+use Rattle.cases.specs.Requests.{originCases, leaveCases, everywhere, clashCases, stuckCases, agreeCases, pairCases, hubCases, hubTapeCases, stuckHubCases, spelled, gatherCases}
 use Rattle.cases.specs.Starred.{crossed, stuck, acceptedBy, accepted, starred}
 
 -- the stuck room takes no merge and no fast-forward: its own declarations, for the checker's bound on the steps of one
@@ -63,3 +66,19 @@ agree-hold = refl
 pub pairs-hold : map (λ (c : Case). c .got) pairCases ≡ map (λ (c : Case). c .due) pairCases
 unfolding everyBelow someBelow highestBelow firstNonzero ancestor isMeet meet firstRefusal shapeOf lengthOf numberAt operandsOf isOperand kindOf commandRefusal decode common stateTests stepRefusal step pairNumber firstPair headsAgree mergeable holdsStore mergeableReply answerIn roomAfter made replies crossed pairCases
 pairs-hold = refl
+
+pub hub-holds : map (λ (c : Case). c .got) hubCases ≡ map (λ (c : Case). c .due) hubCases
+unfolding everyBelow someBelow highestBelow ancestor isMeet meet firstRefusal shapeOf lengthOf numberAt operandsOf isOperand kindOf commandRefusal decode common canMakeHub stateTests stepRefusal step holdsStore stepOutcome commandOutcome answerIn roomAfter made replies session hubCases
+hub-holds = refl
+
+pub hub-tapes-hold : map (λ (c : Case). c .got) hubTapeCases ≡ map (λ (c : Case). c .due) hubTapeCases
+unfolding everyBelow someBelow highestBelow ancestor isMeet meet everyVersion firstRefusal shapeOf lengthOf numberAt operandsOf isOperand kindOf commandRefusal decode common headsMeet allBehindHeads canMakeHub soundRoom stateTests stepRefusal step recordFrom recordIn versionRecords headRecords tapeOf afterRecord readOn contentOf headSlots consolesRise headsNamed resumed resumeOutcome answerIn roomAfter made hubTapeCases
+hub-tapes-hold = refl
+
+pub stuck-hub-holds : map (λ (c : Case). c .got) stuckHubCases ≡ map (λ (c : Case). c .due) stuckHubCases
+unfolding everyBelow someBelow highestBelow ancestor isMeet meet firstRefusal shapeOf lengthOf numberAt operandsOf isOperand kindOf commandRefusal decode common canMakeHub stateTests stepRefusal step answerIn roomAfter made replies stuck stuckHubCases
+stuck-hub-holds = refl
+
+pub gathers-hold : map (λ (c : Case). c .got) gatherCases ≡ map (λ (c : Case). c .due) gatherCases
+unfolding everyBelow someBelow highestBelow ancestor isMeet meet firstRefusal shapeOf lengthOf numberAt operandsOf isOperand kindOf commandRefusal decode commandBytes common canMakeHub stateTests stepRefusal step hubTakes hubGives afterAll forEach gathering answerIn roomAfter made spelled gatherCases
+gathers-hold = refl

@@ -4,13 +4,16 @@ use Prim.Native.Nat.{ℕ, zero, suc}
 use mathlib.Core.List.{List, [], _∷_, _++_}
 use lib.ListN.{replicate, getD}
 use Rattle.board.specs.Board.{stripCount, cellOf}
+use Rattle.command.specs.declared.Command.{Command}
+use Rattle.command.specs.Decode.{commandBytes}
 use Rattle.room.specs.Room.{Room, fresh}
 use Rattle.room.specs.Origin.{origin, valueShown}
 use Rattle.room.specs.Mergeable.{mergeable}
+use Rattle.room.specs.Gathering.{afterAll, gathering}
 use Rattle.unit.specs.declared.Reply.{Reply}
 use Rattle.tape.specs.Tape.{tapeOf}
-use Rattle.unit.specs.Calls.{commandOutcome, originReply, mergeableReply}
-use Rattle.cases.specs.Run.{Case, _gives_, fork, level, heading, mark, call, alert, merge, forward, leave, made, answers, counts, nowhere, on, headsShown, session}
+use Rattle.unit.specs.Calls.{commandOutcome, resumeOutcome, originReply, mergeableReply}
+use Rattle.cases.specs.Run.{Case, _gives_, fork, level, heading, mark, call, alert, merge, forward, leave, hub, made, answers, counts, nowhere, on, headsShown, session}
 use Rattle.cases.specs.Starred.{crossed, stuck}
 
 -- One: the origin of a cell, and the value shown there
@@ -68,8 +71,8 @@ leaveCases =
     gives 0 ∷ on 0 ∷ 0 ∷ on 1 ∷ 0 ∷ on 1 ∷ 0 ∷ nowhere ∷ 21 ∷ on 1 ∷ 2 ∷ [])
     -- a full room can be left
     ∷ (answers (fresh 2) (fork 1 0 ∷ call 0 5 ∷ call 1 5 ∷ leave 1 ∷ []) gives 0 ∷ 0 ∷ 18 ∷ 0 ∷ [])
-    -- console 0 alone; lengths; a console above 15; the code after 0B
-    ∷ (answers (fresh 64) (leave 0 ∷ (0x0B ∷ 0x00 ∷ 0x00 ∷ []) ∷ (0x0B ∷ []) ∷ leave 0x10 ∷ (0x0C ∷ []) ∷ []) gives 20 ∷ 2 ∷ 2 ∷ 3 ∷ 1 ∷ [])
+    -- console 0 alone; lengths; a console above 15; the code after 0C
+    ∷ (answers (fresh 64) (leave 0 ∷ (0x0B ∷ 0x00 ∷ 0x00 ∷ []) ∷ (0x0B ∷ []) ∷ leave 0x10 ∷ (0x0D ∷ []) ∷ []) gives 20 ∷ 2 ∷ 2 ∷ 3 ∷ 1 ∷ [])
     -- by the call itself, on bytes that hold no store: console 0 gives 20, console 1 gives 11
     ∷ (replyShown (commandOutcome [] (leave 0) .reply) ++ replyShown (commandOutcome [] (leave 1) .reply) gives 20 ∷ 0 ∷ 11 ∷ 0 ∷ [])
     -- a tape has no record for the one that left: 20 00 40, 21 00 00 02 05 00 64, 23 00 00 01, 24
@@ -148,4 +151,77 @@ pairCases =
     gives 0 ∷ 0 ∷ 0 ∷ 18 ∷ 513 ∷ [])
     -- by the call itself, on bytes that hold no store
     ∷ (replyShown (mergeableReply []) gives 11 ∷ 0 ∷ [])
+    ∷ []
+
+-- Six: consoles 0, 1 and 2 on version 1, which 1 made and 2 was forked from; console 0 is the hub since it has heard of it
+abbrev pub hubSteps : List (List ℕ)
+hubSteps = fork 1 0 ∷ call 1 5 ∷ fork 2 1 ∷ forward 0 1 ∷ hub ∷ []
+
+unfoldable pub hubCases : List Case
+hubCases =
+    -- 1 and 2 have version 1 in common, and console 0 has not heard of it; then it has; and again. 0C has no operand
+    (session (fresh 64) (fork 1 0 ∷ call 1 5 ∷ fork 2 1 ∷ hub ∷ forward 0 1 ∷ hub ∷ hub ∷ [])
+    gives 0 ∷ on 0 ∷ 0 ∷ on 1 ∷ 0 ∷ on 1 ∷ 23 ∷ nowhere ∷ 0 ∷ on 1 ∷ 0 ∷ nowhere ∷ 0 ∷ nowhere ∷ 2 ∷ [])
+    -- a fork from 1; onto a present console from 1; from an absent one; from 0
+    ∷ (answers (after hubSteps) (fork 3 1 ∷ fork 2 1 ∷ fork 3 4 ∷ fork 3 0 ∷ []) gives 22 ∷ 13 ∷ 12 ∷ 0 ∷ [])
+    -- two that are not the hub, where 14 would apply too; one of them absent; with the hub, either way round
+    ∷ (answers (after hubSteps) (merge 1 2 ∷ forward 1 2 ∷ merge 1 4 ∷ merge 1 0 ∷ forward 0 2 ∷ []) gives 22 ∷ 22 ∷ 12 ∷ 14 ∷ 14 ∷ [])
+    -- before it is the hub 1 merges 2; then they go through it
+    ∷ (answers (fresh 64) (fork 1 0 ∷ fork 2 0 ∷ call 1 5 ∷ call 2 5 ∷ merge 1 2 ∷ []) gives 0 ∷ 0 ∷ 0 ∷ 0 ∷ 0 ∷ [])
+    ∷ (answers (fresh 64) (fork 1 0 ∷ fork 2 0 ∷ hub ∷ call 1 5 ∷ call 2 5 ∷ merge 1 2 ∷ forward 0 1 ∷ merge 0 2 ∷ forward 1 0 ∷ forward 2 0 ∷ [])
+    gives 0 ∷ 0 ∷ 0 ∷ 0 ∷ 0 ∷ 22 ∷ 0 ∷ 0 ∷ 0 ∷ 0 ∷ [])
+    -- where 2 leaves, nothing that 0 has not heard of is left in common, and the room can enter
+    ∷ (answers (fresh 64) (fork 1 0 ∷ call 1 5 ∷ fork 2 1 ∷ hub ∷ leave 2 ∷ hub ∷ []) gives 0 ∷ 0 ∷ 0 ∷ 23 ∷ 0 ∷ 0 ∷ [])
+    -- a length of 2; by the call itself, on bytes that hold no store
+    ∷ (answers (fresh 64) ((0x0C ∷ 0x00 ∷ []) ∷ []) ++ replyShown (commandOutcome [] hub .reply) gives 2 ∷ 11 ∷ 0 ∷ [])
+    ∷ []
+
+-- "the tape carries 25 just before 24": 20 00 40, 21 00 00 06 05 00 00, 23 00 00 01, 23 01 00 01, 23 02 00 01, 25, 24
+abbrev pub hubVersions : List ℕ
+hubVersions = (0x20 ∷ 0x00 ∷ 0x40 ∷ []) ++ (0x21 ∷ 0x00 ∷ 0x00 ∷ 0x06 ∷ 0x05 ∷ 0x00 ∷ 0x00 ∷ [])
+
+abbrev pub hubHeads : List ℕ
+hubHeads = (0x23 ∷ 0x00 ∷ 0x00 ∷ 0x01 ∷ []) ++ (0x23 ∷ 0x01 ∷ 0x00 ∷ 0x01 ∷ []) ++ (0x23 ∷ 0x02 ∷ 0x00 ∷ 0x01 ∷ [])
+
+-- console 0 on version 0
+abbrev pub earlyHeads : List ℕ
+earlyHeads = (0x23 ∷ 0x00 ∷ 0x00 ∷ 0x00 ∷ []) ++ (0x23 ∷ 0x01 ∷ 0x00 ∷ 0x01 ∷ []) ++ (0x23 ∷ 0x02 ∷ 0x00 ∷ 0x01 ∷ [])
+
+-- what the call answers to a tape and an empty buffer: 19 where nothing else refuses it
+abbrev pub tapeAnswer : List ℕ → List ℕ
+tapeAnswer tape = resumeOutcome tape [] .reply .answer ∷ []
+
+unfoldable pub hubTapeCases : List Case
+hubTapeCases =
+    (tapeOf (after hubSteps) gives hubVersions ++ hubHeads ++ (0x25 ∷ 0x24 ∷ []))
+    ∷ (tapeAnswer (hubVersions ++ hubHeads ++ (0x25 ∷ 0x24 ∷ [])) gives 19 ∷ [])
+    -- twice; before the heads; before the versions; after 24
+    ∷ (tapeAnswer (hubVersions ++ hubHeads ++ (0x25 ∷ 0x25 ∷ 0x24 ∷ [])) gives 7 ∷ [])
+    ∷ (tapeAnswer (hubVersions ++ (0x25 ∷ []) ++ hubHeads ++ (0x24 ∷ [])) gives 7 ∷ [])
+    ∷ (tapeAnswer ((0x25 ∷ []) ++ hubVersions ++ hubHeads ++ (0x24 ∷ [])) gives 7 ∷ [])
+    ∷ (tapeAnswer (hubVersions ++ hubHeads ++ (0x24 ∷ 0x25 ∷ [])) gives 7 ∷ [])
+    -- heads that could not enter, and the same without 25
+    ∷ (tapeAnswer (hubVersions ++ earlyHeads ++ (0x25 ∷ 0x24 ∷ [])) gives 10 ∷ [])
+    ∷ (tapeAnswer (hubVersions ++ earlyHeads ++ (0x24 ∷ [])) gives 19 ∷ [])
+    ∷ []
+
+-- the stuck room can't be entered
+unfoldable pub stuckHubCases : List Case
+stuckHubCases = (answers stuck (hub ∷ []) gives 23 ∷ []) ∷ []
+
+-- "0 takes from each, then each from 0"
+unfoldable pub spelled : List Command → List ℕ
+spelled [] = []
+spelled (c ∷ commands) = commandBytes c ++ spelled commands
+
+abbrev pub scattered : Room
+scattered = after (fork 1 0 ∷ fork 2 0 ∷ fork 3 0 ∷ hub ∷ call 1 5 ∷ call 2 5 ∷ [])
+
+unfoldable pub gatherCases : List Case
+gatherCases =
+    -- 0 fast-forwards to 1 and merges 2 (version 3); 3 is behind; then 1, 2 and 3 fast-forward to 0
+    (spelled (gathering scattered) gives forward 0 1 ++ merge 0 2 ++ forward 1 0 ++ forward 2 0 ++ forward 3 0)
+    ∷ (headsShown (afterAll scattered (gathering scattered)) gives on 3 ∷ on 3 ∷ on 3 ∷ on 3 ∷ replicate 12 nowhere)
+    -- one console alone has nothing to do
+    ∷ (spelled (gathering (fresh 64)) gives [])
     ∷ []

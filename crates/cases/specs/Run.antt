@@ -4,7 +4,6 @@ use mathlib.Core.Bool.{cond}
 use mathlib.Core.List.{List, [], _∷_, map}
 use mathlib.Core.Option.{Option, none, some}
 use lib.Dec.{eqb}
-use lib.ListN.{getD}
 use Rattle.command.specs.declared.Decoded.{Decoded}
 use Rattle.command.specs.declared.Decoded.the-variants.{Whole, Refused}
 use Rattle.command.specs.Decode.{decode}
@@ -50,6 +49,9 @@ forward receiver giver = 0x0A ∷ receiver ∷ giver ∷ []
 
 abbrev pub leave : ℕ → List ℕ
 leave c = 0x0B ∷ c ∷ []
+
+abbrev pub hub : List ℕ
+hub = 0x0C ∷ []
 
 -- the answer to a command in a room
 unfoldable pub answerIn : Room → Decoded → ℕ
@@ -101,10 +103,16 @@ shown (some v) = on v
 abbrev pub headsShown : Room → List ℕ
 headsShown r = map shown (r .heads)
 
+-- the head of the console in the first operand of a command; nowhere where it has none
+abbrev pub operandShown : Room → List ℕ → ℕ
+operandShown r [] = nowhere
+operandShown r (code ∷ []) = nowhere
+operandShown r (code ∷ (c ∷ rest)) = shown (headOf r c)
+
 -- "Each line: .. answer (0 or refusal), head of the console in the first operand", then the number of versions. Ordinals are left out.
 -- Meant for commands none of which is answered 1 or 2, and the paper's are such: after these answers the program stops, and this goes on.
 unfoldable pub session : Room → List (List ℕ) → List ℕ
 session r [] = versionCount (r .versions) ∷ []
 session r (c ∷ cs) =
     let next : Room = roomAfter r (decode c) in
-    answerIn r (decode c) ∷ shown (headOf next (getD c 1 0)) ∷ session next cs
+    answerIn r (decode c) ∷ operandShown next c ∷ session next cs

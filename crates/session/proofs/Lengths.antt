@@ -23,6 +23,7 @@ kind-bound kind-is.Entry code e z =
 kind-bound kind-is.Merge code e z = rw e (omega arith)
 kind-bound kind-is.FastForward code e z = rw e (omega arith)
 kind-bound kind-is.Leave code e z = rw e (omega arith)
+kind-bound kind-is.MakeHub code e z = rw e (omega arith)
 kind-bound kind-is.Unknown code e z = absurd (omega arith)
 
 -- the answers for a command's code and for any other

@@ -12,7 +12,7 @@ use Rattle.command.specs.declared.Command.the-variants.{Fork}
 use Rattle.command.specs.Code.{consoleCount, forkCommand}
 use Rattle.command.specs.Decode.{commandBytes}
 use Rattle.command.specs.Decoding.{InRange}
-use Rattle.room.specs.Step.{clashCount}
+use Rattle.room.specs.Step.{besideHub, clashCount}
 use Rattle.room.specs.Room.{present}
 use Rattle.room.proofs.Sound.{present-console}
 use Rattle.room.proofs.Accepted.{fork-accepts}
@@ -43,12 +43,13 @@ module _ (store : List ℕ) (held : holdsStore store ≡ true) (c : ℕ) (cl : c
   unfolding originReply firstRefusal
   no-origin k cell kl l = rw (lt-ltb c consoleCount cl, lt-ltb k stripCount kl, lt-ltb cell cellCount l, held, away)
 
-  forkable : (old : ℕ) → present (roomIn store) old ≡ true → commandOutcome store (forkCommand ∷ c ∷ old ∷ []) .reply ≡ replied 0 0
+  forkable : (old : ℕ) → present (roomIn store) old ≡ true → besideHub (roomIn store) old ≡ false
+      → commandOutcome store (forkCommand ∷ c ∷ old ∷ []) .reply ≡ replied 0 0
   unfolding commandBytes clashCount
-  forkable old here =
+  forkable old here hub =
       let range : InRange (Fork (record { 0 = c }) (record { 0 = old })) = (cl, present-console (roomIn store) old (whole-sound store held .sixteen) here, λ e. clash (rw (sym e) at here) away) in
       ap (λ (o : Outcome). o .reply)
-      (carried-out store (Fork (record { 0 = c }) (record { 0 = old })) range held (fork-accepts (roomIn store) (record { 0 = c }) (record { 0 = old }) away here))
+      (carried-out store (Fork (record { 0 = c }) (record { 0 = old })) range held (fork-accepts (roomIn store) (record { 0 = c }) (record { 0 = old }) away here hub))
 
   pub absent-console : Absent store c
   absent-console = record { noCommon = no-common; noBoard = no-board; noHeard = no-heard; noOrigin = no-origin; forkable = forkable }

@@ -36,6 +36,7 @@ only-merges r kind-is.Entry code o says other = refl
 only-merges r kind-is.Merge code o says other = absurd (other says)
 only-merges r kind-is.FastForward code o says other = refl
 only-merges r kind-is.Leave code o says other = refl
+only-merges r kind-is.MakeHub code o says other = refl
 only-merges r kind-is.Unknown code o says other = refl
 
 module _ (store : List ℕ) where

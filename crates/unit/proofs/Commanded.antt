@@ -1,18 +1,21 @@
 -- What the call of a command answers: where it is not decoded, where the bytes hold no store, and where it comes to the store.
 -- Assumes nothing.
 use Prim.Native.Nat.{ℕ, _<_}
-use mathlib.Core.Path.{_≡_, refl, sym, _∙_, ap}
+use mathlib.Core.Path.{_≡_, refl, sym, _∙_, ap, subst}
 use mathlib.Core.Bool.{Bool, true, false, cond}
 use mathlib.Core.List.{List, []}
+use native.Mathlib.Omega.{arith}
+use borrow.Author.Tests.{not-false}
 use lib.Dec.{eqb}
 use Rattle.buffer.specs.Field.{overwrite}
 use Rattle.refusal.specs.Refusal.{firstRefusal, firstOf}
+use Rattle.refusal.proofs.Refusals.{none-given}
 use Rattle.command.specs.declared.Command.{Command}
 use Rattle.command.specs.declared.Decoded.{Decoded}
 use Rattle.command.specs.declared.Decoded.the-variants.{Whole, Refused}
 use Rattle.command.specs.Decode.{commandRefusal, decode, refusalOf, commandBytes}
 use Rattle.command.specs.Decoding.{InRange}
-use Rattle.command.proofs.Ranges.{commandIn, refused-told}
+use Rattle.command.proofs.Ranges.{commandIn, whole-told, refused-told, decode-range}
 use Rattle.command.proofs.Encoded.{bytes-decode}
 use Rattle.room.specs.Step.{versionFree, stateTests, stepRefusal, step, clashCount}
 use Rattle.store.specs.Layout.{encode, roomIn, holdsStore}
@@ -46,6 +49,23 @@ pub carried-out : (store : List ℕ) (c : Command) → InRange c → holdsStore 
     → commandOutcome store (commandBytes c) ≡ written 0 (clashCount (roomIn store) c) (encode (step (roomIn store) c)) store
 unfolding commandOutcome stepOutcome
 carried-out store c range held unrefused = rw (bytes-decode c range, held-refused store c held, unrefused)
+
+-- and only such a one is answered with 0: with c the command that the bytes say by their code and numbers
+pub record Carried (store : List ℕ) (c : Command) : Type 0 where
+  pub range : InRange c
+  pub held : holdsStore store ≡ true
+  pub unrefused : stepRefusal (roomIn store) c ≡ 0
+
+pub carried : (store bytes : List ℕ) (c : Command) → commandIn bytes ≡ c → commandOutcome store bytes .reply .answer ≡ 0 → Carried store c
+unfolding commandOutcome stepOutcome stateTests
+carried store bytes c says h = subst (Carried store) says (go (decode bytes) refl h)
+  where
+    go : (d : Decoded) → decode bytes ≡ d → stepOutcome store d .reply .answer ≡ 0 → Carried store (commandIn bytes)
+    go (Refused n) e h = absurd (omega (arith, refused-told bytes n (sym e)))
+    go (Whole k) e h =
+        let held = not-false _ (none-given 11 _ _ (omega arith) h .0) in
+        subst (Carried store) (sym (whole-told bytes k e .1))
+        (record { range = decode-range bytes k e; held = held; unrefused = sym (held-refused store k held) ∙ h })
 
 -- the refusal found in the state of the room, or none
 module _ (store : List ℕ) (c : Command) (held : holdsStore store ≡ true) {free : Bool} {n : ℕ} (f : free ≡ versionFree (roomIn store))

@@ -9,26 +9,25 @@ use mathlib.Core.Option.{none}
 use mathlib.Core.Logic.{inl, inr}
 use native.Mathlib.Omega.{arith}
 use lib.Dec.{eqb}
-use lib.ListN.{length, getD, drop}
-use borrow.Author.Tests.{eqb-true, eqb-false, ne-eqb, not-false}
+use lib.ListN.{length, getD}
+use borrow.Author.Tests.{eqb-true, eqb-false, ne-eqb}
 use Rattle.laws.proofs.Logic.{clash, decide, refuted, and-i, not-i, or-split, or-none-l, or-none-r}
 use Rattle.buffer.specs.Field.{word, overwrite}
 use Rattle.graph.specs.Below.{countBelow}
 use Rattle.graph.specs.Graph.{versionCount, ancestor, isEntry}
 use Rattle.graph.proofs.Below.{some-at, some-of}
 use Rattle.graph.proofs.Meet.{meet-behind}
-use Rattle.refusal.proofs.Refusals.{none-applies}
 use Rattle.command.specs.declared.Command.{Command}
 use Rattle.command.specs.declared.Command.the-variants.{Leave}
 use Rattle.command.specs.declared.Decoded.{Decoded}
 use Rattle.command.specs.declared.Decoded.the-variants.{Whole, Refused}
 use Rattle.command.specs.Code.{consoleCount, mergeCommand, fastForwardCommand, kindOf, shapeOf, operandsOf, numberAt}
 use Rattle.command.specs.Decode.{decode, commandBytes}
-use Rattle.command.proofs.Ranges.{commandIn, whole-told, refused-told, decode-range}
+use Rattle.command.proofs.Ranges.{commandIn, whole-told}
 use Rattle.command.proofs.Encoded.{bytes-decode}
 use Rattle.room.specs.Room.{Room, present, head, common, heardCount}
 use Rattle.room.specs.Origin.{origin}
-use Rattle.room.specs.Step.{otherDescends, someOtherDescends, stateTests, stepRefusal, moved, step, clashCount}
+use Rattle.room.specs.Step.{otherDescends, someOtherDescends, stepRefusal, moved, step, clashCount}
 use Rattle.room.specs.Sound.{soundRoom}
 use Rattle.room.proofs.Sound.{Sound, present-console, facts-sound}
 use Rattle.room.proofs.Moves.{number, slot-other, left-absent, left-sound}
@@ -36,7 +35,7 @@ use Rattle.room.proofs.Accepted.{some-descends, leave-accepted, leave-accepts}
 use Rattle.room.proofs.Steps.{common-meet, common-self}
 use Rattle.room.proofs.Leaving.{left-merge, left-clashes, left-forward}
 use Rattle.store.specs.Layout.{commonAt, commonField, encode, roomIn, holdsStore}
-use Rattle.store.proofs.RoundTrip.{room-encode, holds-encode}
+use Rattle.store.proofs.RoundTrip.{room-over, holds-over}
 use Rattle.store.proofs.Joined.{placed}
 use Rattle.store.proofs.Moved.{left-row, left-column}
 use Rattle.store.proofs.Whole.{whole-sound, whole-front}
@@ -44,10 +43,10 @@ use Rattle.update.specs.Commons.{putOthers, putHead}
 use Rattle.update.proofs.CommonsTable.{table-length, table-kept}
 use Rattle.update.proofs.MovedStore.{left-store}
 use Rattle.unit.specs.declared.Reply.{Reply}
-use Rattle.unit.specs.Calls.{Outcome, replied, written, commandTests, stepOutcome, commandOutcome, boardOutcome, heardReply, commonReply, originReply, command}
+use Rattle.unit.specs.Calls.{Outcome, replied, written, stepOutcome, commandOutcome, boardOutcome, heardReply, commonReply, originReply, command}
 use Rattle.unit.specs.Journal.{Journal, moveTo, afterCommand, afterAccepted, feed}
 use Rattle.unit.specs.Leaving.{leaveBytes, leaveOutcome, MayLeave, inField, inRowOrColumn, Gone, ConsolesLeave}
-use Rattle.unit.proofs.Commanded.{held-refused, carried-out}
+use Rattle.unit.proofs.Commanded.{held-refused, carried-out, carried}
 use Rattle.unit.proofs.Answered.{Allowed, pair-allowed, pair-answered, pair-told}
 use Rattle.unit.proofs.Absent.{absent-console}
 
@@ -66,24 +65,13 @@ module _ (store : List ℕ) (c : ℕ) where
   unfolding commandBytes step clashCount
   accepted-is a = carried-out store leaving (a .range) (a .held) (leave-accepts (roomIn store) (record { 0 = c }) (a .here) (a .other))
 
-  -- a whole command that begins with these bytes is the leave
-  accepted-whole : decode (leaveBytes c) ≡ Whole leaving → stepOutcome store (Whole leaving) .reply .answer ≡ 0 → Accepted store c
-  unfolding stepOutcome stateTests
-  accepted-whole e h =
-      let held = not-false _ (none-applies (commandTests store leaving) refl h .0) in
-      let may = leave-accepted (roomIn store) (record { 0 = c }) (sym (held-refused store leaving held) ∙ h) in
-      record { range = decode-range (leaveBytes c) leaving e; held = held; here = may .0; other = may .1 }
-
-  accepted-told : (d : Decoded) → decode (leaveBytes c) ≡ d → stepOutcome store d .reply .answer ≡ 0 → Accepted store c
-  unfolding stepOutcome kindOf shapeOf operandsOf numberAt
-  accepted-told (Refused n) e h = absurd (omega (arith, refused-told (leaveBytes c) n (sym e)))
-  accepted-told (Whole k) e h =
-      let same : leaving ≡ k = whole-told (leaveBytes c) k e .1 in
-      accepted-whole (e ∙ ap Whole (sym same)) (ap (λ (x : Command). stepOutcome store (Whole x) .reply .answer) same ∙ h)
-
+  -- what the bytes of a leave that is answered with 0 say
   accepted : leaveOutcome store c .reply .answer ≡ 0 → Accepted store c
-  unfolding commandOutcome
-  accepted h = accepted-told (decode (leaveBytes c)) refl h
+  unfolding kindOf shapeOf operandsOf numberAt
+  accepted h =
+      let done = carried store (leaveBytes c) leaving refl h in
+      let may = leave-accepted (roomIn store) (record { 0 = c }) (done .unrefused) in
+      record { range = done .range; held = done .held; here = may .0; other = may .1 }
 
   -- a console whose head is what it has in common with another may leave, and only such a one
   may-leave : Accepted store c → MayLeave store c
@@ -144,10 +132,10 @@ module _ (store : List ℕ) (c : ℕ) (a : Accepted store c) where
   next-sound = facts-sound next (left-sound r s c (a .range .0) (a .range .1) (a .other))
 
   after-held : holdsStore after ≡ true
-  after-held = holds-encode next (drop (length (encode next)) store) next-sound
+  after-held = holds-over next store next-sound
 
   after-room : roomIn after ≡ next
-  after-room = room-encode next (drop (length (encode next)) store) next-sound
+  after-room = room-over next store next-sound
 
   -- it is the old one with the console's fields cleared
   cleared : putHead (putOthers store c (λ k. 0) consoleCount) c 0 ≡ after

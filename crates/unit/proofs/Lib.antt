@@ -10,3 +10,4 @@ pub mod Mergeable
 pub mod Convergence
 pub mod Traced
 pub mod RoundTrip
+pub mod Hub

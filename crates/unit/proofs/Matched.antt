@@ -9,11 +9,11 @@ use mathlib.Core.Option.{Option, none, some}
 use native.Mathlib.Omega.{arith}
 use borrow.Author.Tests.{eqb-true, not-false}
 use lib.Dec.{eqb}
-use lib.ListN.{length, length-map, drop}
+use lib.ListN.{length-map}
 use Rattle.laws.proofs.Logic.{clash}
 use Rattle.buffer.specs.Field.{overwrite}
 use Rattle.command.specs.declared.Command.{Command}
-use Rattle.command.specs.declared.Command.the-variants.{Fork, Entry, Merge, FastForward, Leave}
+use Rattle.command.specs.declared.Command.the-variants.{Fork, Entry, Merge, FastForward, Leave, MakeHub}
 use Rattle.command.specs.declared.Decoded.{Decoded}
 use Rattle.command.specs.declared.Decoded.the-variants.{Whole, Refused}
 use Rattle.refusal.specs.Refusal.{firstRefusal}
@@ -25,7 +25,7 @@ use Rattle.room.specs.Sound.{soundRoom}
 use Rattle.room.specs.Step.{step}
 use Rattle.room.proofs.Steps.{step-sound, fresh-sound}
 use Rattle.store.specs.Layout.{encode, roomIn, holdsStore}
-use Rattle.store.proofs.RoundTrip.{room-encode, holds-encode, holds-sound}
+use Rattle.store.proofs.RoundTrip.{room-over, holds-over, holds-sound}
 use Rattle.tape.specs.Tape.{Content, contentOf, roomOf}
 use Rattle.unit.specs.Calls.{openOutcome, commandTests, stepOutcome, commandOutcome, resumeTests, resumed, resumeOutcome, Call, opening, command, resume, question, answerTo, replyTo, storeAfter}
 use Rattle.unit.specs.Journal.{Journal, madeBy, opened, afterCommand, afterTape, afterAccepted, feed}
@@ -42,9 +42,7 @@ pub record Matched (store : List ℕ) (j : Journal) : Type 0 where
 
 -- a sound room written over a buffer
 written-matched : (r : Room) (old : List ℕ) {j : Journal} → soundRoom r ≡ true → journalOf r ≡ j → Matched (overwrite (encode r) old) j
-written-matched r old s e =
-    let rest = drop (length (encode r)) old in
-    record { holds = holds-encode r rest s; journal = ap journalOf (room-encode r rest s) ∙ e }
+written-matched r old s e = record { holds = holds-over r old s; journal = ap journalOf (room-over r old s) ∙ e }
 
 opening-matched : (capacity : ℕ) (buffer : List ℕ) → openOutcome capacity buffer .reply .answer ≡ 0
     → Matched (overwrite (encode (fresh capacity)) buffer) opened
@@ -66,6 +64,7 @@ step-journal r (Entry console code strip operand) = cc (length-map (r .versions)
 step-journal r (Merge receiver giver) = cc (length-map (r .versions) madeBy)
 step-journal r (FastForward receiver giver) = refl
 step-journal r (Leave console) = refl
+step-journal r MakeHub = refl
 
 -- a call that changes both where it is accepted, and neither where it is refused
 either-matched : {store store′ : List ℕ} {j j′ : Journal} (refusal : ℕ) → Matched store j → (refusal ≡ 0 → Matched store′ j′)

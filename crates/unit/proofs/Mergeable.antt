@@ -135,15 +135,15 @@ module _ (store : List ℕ) (held : holdsStore store ≡ true) where
   s : Sound r
   s = whole-sound store held
 
-  told : mergeableReply store ≡ replied 0 (mergeable r)
+  pub told : mergeableReply store ≡ replied 0 (mergeable (roomIn store))
   unfolding mergeableReply firstRefusal
   told = rw held
 
-  head-told : (c : ℕ) → c < consoleCount → present r c ≡ true → headReply store c ≡ replied 0 (head r c)
+  head-told : (c : ℕ) → c < consoleCount → present (roomIn store) c ≡ true → headReply store c ≡ replied 0 (head (roomIn store) c)
   head-told c l p = common-answered store c c (record { first = l; second = l; held = held; here = p; there = p }) ∙ ap (replied 0) (common-self r s c p)
 
   -- every head is one version
-  one-head : headsAgree r ≡ true → OneHead store
+  pub one-head : headsAgree (roomIn store) ≡ true → OneHead store
   unfolding commonReply
   one-head agree = record {
     sound = held;
@@ -215,7 +215,7 @@ module _ (store : List ℕ) (held : holdsStore store ≡ true) where
   verdict = elim (ℕ-discrete (firstPair r) 0) [ yes none ↦ no-pair-verdict none | no given ↦ pair-verdict given ]
 
   -- whatever is true is said
-  agree-said : headsAgree r ≡ true → mergeable r ≡ numberOf allAgree
+  pub agree-said : headsAgree (roomIn store) ≡ true → mergeable (roomIn store) ≡ numberOf allAgree
   agree-said agree = none-answered r (agree-none r s agree) agree
 
   stuck-said : Stuck store → mergeable r ≡ numberOf stuck

@@ -15,7 +15,7 @@ use Rattle.refusal.specs.Refusal.{firstRefusal}
 use Rattle.refusal.proofs.Refusals.{none-applies}
 use Rattle.room.specs.Room.{Room}
 use Rattle.store.specs.Layout.{storeSize, encode, roomIn, holdsStore}
-use Rattle.store.proofs.RoundTrip.{encode-length, room-encode, holds-encode, holds-sound, holds-front}
+use Rattle.store.proofs.RoundTrip.{encode-length, room-over, holds-over, holds-sound, holds-front}
 use Rattle.tape.specs.Tape.{Content, contentOf, contentTests, contentRefusal, roomOf, tapeOf}
 use Rattle.buffer.proofs.Parts.{Bytes}
 use Rattle.tape.proofs.Accepted.{Accepted, accepted, accepts}
@@ -54,10 +54,9 @@ unfolding resumed firstRefusal
 content-pauses tape store output none bytes e h fits = absurd (omega arith)
 content-pauses tape store output (some t) bytes e h fits =
     let a = resume-allowed t store h in
-    let rest = drop (length (encode (roomOf t))) store in
     rw h
-    (pause-done (overwrite (encode (roomOf t)) store) output tape (holds-encode (roomOf t) rest (a .room))
-    (ap tapeOf (room-encode (roomOf t) rest (a .room)) ∙ tape-forth tape t bytes e (accepts t a)) fits)
+    (pause-done (overwrite (encode (roomOf t)) store) output tape (holds-over (roomOf t) store (a .room))
+    (ap tapeOf (room-over (roomOf t) store (a .room)) ∙ tape-forth tape t bytes e (accepts t a)) fits)
 
 pub resumed-pauses : (tape store output : List ℕ) → Bytes tape → resumeOutcome tape store .reply .answer ≡ 0 → length tape ≤ length output
     → pauseOutcome (resumeOutcome tape store .buffer) output ≡ written 0 (length tape) tape output
@@ -70,7 +69,7 @@ sizeOf store = storeSize (roomIn store .settings .capacity)
 
 -- what pause writes, resume takes back: the tape of a store, resumed into any buffer that is long enough
 module _ (store : List ℕ) (held : holdsStore store ≡ true) (buffer : List ℕ) where
-  store-over : overwrite (encode (roomIn store)) buffer ≡ take (sizeOf store) store ++ drop (sizeOf store) buffer
+  pub store-over : overwrite (encode (roomIn store)) buffer ≡ take (sizeOf store) store ++ drop (sizeOf store) buffer
   store-over =
       let r = roomIn store in
       let n = sizeOf store in

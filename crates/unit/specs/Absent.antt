@@ -2,11 +2,12 @@
 -- count or an origin, and its number can be forked.
 use Prim.Native.Nat.{ℕ, _<_}
 use mathlib.Core.Path.{_≡_}
-use mathlib.Core.Bool.{true}
+use mathlib.Core.Bool.{true, false}
 use mathlib.Core.List.{List, [], _∷_}
 use Rattle.board.specs.Board.{stripCount, cellCount}
 use Rattle.command.specs.Code.{consoleCount, forkCommand}
 use Rattle.room.specs.Room.{present}
+use Rattle.room.specs.Step.{besideHub}
 use Rattle.store.specs.Layout.{roomIn}
 use Rattle.unit.specs.Calls.{replied, commandOutcome, boardOutcome, heardReply, commonReply, originReply}
 
@@ -15,5 +16,6 @@ pub record Absent (store : List ℕ) (c : ℕ) : Type 0 where
   pub noBoard : (output : List ℕ) → boardOutcome store c output ≡ record { reply = replied 12 0; buffer = output }
   pub noHeard : heardReply store c ≡ replied 12 0
   pub noOrigin : (k cell : ℕ) → k < stripCount → cell < cellCount → originReply store c k cell ≡ replied 12 0
-  -- from any console that is present
-  pub forkable : (old : ℕ) → present (roomIn store) old ≡ true → commandOutcome store (forkCommand ∷ c ∷ old ∷ []) .reply ≡ replied 0 0
+  -- from any console that is present; in a room whose hub is console 0, from that one
+  pub forkable : (old : ℕ) → present (roomIn store) old ≡ true → besideHub (roomIn store) old ≡ false
+      → commandOutcome store (forkCommand ∷ c ∷ old ∷ []) .reply ≡ replied 0 0

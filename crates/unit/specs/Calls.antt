@@ -58,7 +58,7 @@ openTests capacity store = bufferTests (8 when not (settingsInRange (openSetting
 unfoldable pub openOutcome : ℕ → List ℕ → Outcome
 openOutcome capacity store = written (firstRefusal (openTests capacity store)) 0 (encode (fresh capacity)) store
 
--- a command that was decoded whole: 11, then 12 to 18 and 21
+-- a command that was decoded whole: 11, then the tests of the state, 12 to 18 and 21 to 23
 abbrev pub commandTests : List ℕ → Command → List (ℕ × Bool)
 commandTests store c = 11 when holdsNoStore store ∷ stateTests (roomIn store) (versionFree (roomIn store)) c
 

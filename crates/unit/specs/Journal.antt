@@ -11,7 +11,7 @@ use Rattle.graph.specs.Below.{countBelow}
 use Rattle.graph.specs.declared.Node.{Node}
 use Rattle.graph.specs.declared.Node.the-variants as node-is
 use Rattle.graph.specs.Graph.{isSome}
-use Rattle.command.specs.declared.Command.the-variants.{Fork, Entry, Merge, FastForward, Leave}
+use Rattle.command.specs.declared.Command.the-variants.{Fork, Entry, Merge, FastForward, Leave, MakeHub}
 use Rattle.command.specs.declared.Decoded.{Decoded}
 use Rattle.command.specs.declared.Decoded.the-variants.{Whole, Refused}
 use Rattle.command.specs.Code.{consoleCount}
@@ -61,6 +61,7 @@ opened = record { versions = []; heads = set (replicate consoleCount none) 0 (so
 -- "02 to 08: the next version, its parent the console's head; the console moves to it. Merge: the next version, its parents the
 -- receiver's and the giver's head; the receiver moves to it. Fork: the new console gets the old one's head. Fast-forward: the receiver
 -- gets the giver's." "Code 0B with one console removes it"; "meanwhile the store has no common for it, and the book of demand 3 no head".
+-- 0C: "It never changes the book."
 unfoldable pub afterCommand : Journal → Decoded → Journal
 afterCommand j (Whole (Entry console code strip operand)) =
     addVersion j (console .0) (entered (headNumber j (console .0)) code (strip .0))
@@ -69,6 +70,7 @@ afterCommand j (Whole (Merge receiver giver)) =
 afterCommand j (Whole (Fork new old)) = moveTo j (new .0) (slotOf j (old .0))
 afterCommand j (Whole (FastForward receiver giver)) = moveTo j (receiver .0) (slotOf j (giver .0))
 afterCommand j (Whole (Leave console)) = moveTo j (console .0) none
+afterCommand j (Whole MakeHub) = j
 afterCommand j (Refused n) = j
 
 -- "Resume: version 0 anew, then a version for each record 21 or 22 in order, with the parents, code and strip written there, then the

@@ -6,3 +6,4 @@ pub mod Leaving
 pub mod Clashes
 pub mod Mergeable
 pub mod Convergence
+pub mod Hub

@@ -19,6 +19,7 @@ fn settings_for(capacity: u32) -> Settings
 {
     Settings {
         capacity: size(capacity),
+        hub: false,
     }
 }
 
