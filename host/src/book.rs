@@ -61,7 +61,7 @@ impl Book {
         book
     }
 
-    /// The book after an accepted resume of this tape.
+    /// The book after an accepted resume of this tape. The book ends where the heads do: it has no hub.
     pub fn of_tape(tape: &[u8]) -> Book {
         let mut book = Book::new();
         let mut rest = &tape[3..];
@@ -92,7 +92,7 @@ impl Book {
         }
     }
 
-    /// Notes an accepted command.
+    /// Notes an accepted command. One without an operand, which is 0C, changes nothing.
     pub fn note(&mut self, command: &[u8]) {
         let Some(&console) = command.get(1) else {
             return;
@@ -177,7 +177,7 @@ struct Answers<'a> {
 impl Answers<'_> {
     /// The field of docs/LAYOUT.md.
     fn version_count(&self) -> usize {
-        usize::from(u16::from_be_bytes([self.store[2], self.store[3]]))
+        usize::from(u16::from_be_bytes([self.store[4], self.store[5]]))
     }
 
     fn heard(&self, console: u8) -> Reply {

@@ -169,19 +169,19 @@ fn origin_number(store: &[u8], console: u32, strip: u32, cell: u32) -> Result<us
 
 const SESSION_CAPACITY: u32 = 64;
 
-/// What the program of "Sessions to check" prints for an input, and the clashes of the merges in it, which it doesn't print.
+/// What the program of "Sessions to check" prints for an input; and what the lines don't tell: the codes of the commands, each with its
+/// answer, and the clashes of the merges.
+#[derive(Default)]
 pub struct Told {
     pub printed: String,
+    pub answers: Vec<(u8, u32)>,
     pub clashes: u32,
 }
 
 pub fn session(input: &[u8]) -> Told {
     let mut store = vec![0; layout::store_bytes(SESSION_CAPACITY as usize)];
     open(SESSION_CAPACITY, &mut store);
-    let mut session = Told {
-        printed: String::new(),
-        clashes: 0,
-    };
+    let mut session = Told::default();
     let mut rest = input;
     let mut ordinal = 1;
     while !rest.is_empty() {
@@ -189,6 +189,7 @@ pub fn session(input: &[u8]) -> Told {
         let Reply { answer, count } = command(&mut store, next);
         let head = shown_head(&store, answer, next);
         session.printed += &format!("{ordinal} {answer} {head}\n");
+        session.answers.push((next[0], answer));
         session.clashes += count;
         if answer == refusal::NO_SUCH_COMMAND || answer == refusal::WRONG_LENGTH {
             break;

@@ -1,6 +1,7 @@
 // The comparison of an implementation of the calls with the model, call by call: every reply, and every byte of every
-// lent buffer and of guard bytes around it; in sessions in which consoles come and go, with the book of demand 3; and of the answer which
-// two can meet with what the commands then do. The cases come from one seed, so that a difference can be met again.
+// lent buffer and of guard bytes around it; in sessions in which consoles come and go, with the book of demand 3; of the answer which
+// two can meet with what the commands then do; and of rooms with a hub with what is promised of them: no 17, nothing stuck, and all can be
+// brought to one head. The cases come from one seed, so that a difference can be met again.
 
 use crate::book::Book;
 use crate::calls::Reply;
@@ -12,7 +13,7 @@ use crate::model::{
 };
 use crate::rng::Rng;
 use crate::verdicts;
-use std::collections::BTreeMap;
+use std::collections::{BTreeMap, BTreeSet};
 use std::fmt;
 use std::iter::repeat_n;
 use std::mem::take;
@@ -150,7 +151,9 @@ const LISTED: [(&str, &[usize]); 9] = [
     ("open", &[0, 8, 19]),
     (
         "command",
-        &[0, 1, 2, 3, 4, 5, 6, 20, 11, 12, 13, 14, 15, 16, 17, 18, 21],
+        &[
+            0, 1, 2, 3, 4, 5, 6, 20, 11, 12, 13, 22, 14, 15, 16, 17, 18, 21, 23,
+        ],
     ),
     ("pause", &[0, 11, 19]),
     ("resume", &[0, 7, 8, 9, 10, 19]),
@@ -199,7 +202,7 @@ impl Call {
 /// The first difference, told in words.
 pub type Outcome<T> = Result<T, String>;
 
-const HIGHEST_REFUSAL: usize = refusal::NO_OTHER_HEAD_DESCENDS as usize;
+const HIGHEST_REFUSAL: usize = refusal::CANNOT_MAKE_HUB as usize;
 
 /// The cells of a question for an origin: level and heading.
 const CELLS: [u32; 2] = [0, 1];
@@ -222,10 +225,21 @@ enum Figure {
     FastForwardNamed,
     MergeNamedInFullRoom,
     HighReceiverNamed,
+    HubMade,
+    HubMadeAgain,
+    HubRefused,
+    ForkPastHub,
+    JoinPastHub,
+    Gathered,
+    GatheredTooFull,
+    HubResumed,
+    HubTapeRefused,
+    LeaveWithHub,
+    ForkedAgainWithHub,
 }
 
 /// The figures, each with its name and the least that a run must have of it for each of its rounds.
-const FIGURES: [(Figure, &str, u64); 15] = [
+const FIGURES: [(Figure, &str, u64); 26] = [
     (Figure::OriginOfNoEntry, "origins of no entry", 1),
     (Figure::OriginOfAnEntry, "origins of an entry", 1),
     (Figure::Leave, "leaves accepted", 100),
@@ -264,6 +278,37 @@ const FIGURES: [(Figure, &str, u64); 15] = [
         Figure::HighReceiverNamed,
         "first pairs with a receiver from 8 on",
         8,
+    ),
+    (Figure::HubMade, "hubs made", 5),
+    (Figure::HubMadeAgain, "hubs made again", 10),
+    (Figure::HubRefused, "hubs refused", 4),
+    (Figure::ForkPastHub, "forks past the hub", 8),
+    (
+        Figure::JoinPastHub,
+        "merges and fast-forwards past the hub",
+        25,
+    ),
+    (Figure::Gathered, "rooms gathered by the hub", 3),
+    (
+        Figure::GatheredTooFull,
+        "gatherings that ran out of versions",
+        2,
+    ),
+    (Figure::HubResumed, "rooms with a hub resumed", 25),
+    (
+        Figure::HubTapeRefused,
+        "tapes refused for their hub alone",
+        4,
+    ),
+    (
+        Figure::LeaveWithHub,
+        "leaves accepted where there is a hub",
+        12,
+    ),
+    (
+        Figure::ForkedAgainWithHub,
+        "numbers forked again where there is a hub",
+        5,
     ),
 ];
 
@@ -313,6 +358,31 @@ impl Tally {
     fn note_receiver(&mut self, receiver: usize) {
         let is_high = receiver >= HIGH_RECEIVER;
         self.count(Figure::HighReceiverNamed, is_high.into());
+    }
+
+    /// Counts an accepted command of the kinds that have figures, or one that is refused for a hub; `had_hub` says that there was one.
+    fn note_command(&mut self, command: &[u8], reply: Reply, had_hub: bool) {
+        let code = command.first().copied().unwrap_or_default();
+        let figure = match (code, reply.answer) {
+            (code::MERGE, 0) => return self.note_merge(reply.count),
+            (code::MAKE_HUB, 0) if had_hub => Figure::HubMadeAgain,
+            (code::MAKE_HUB, 0) => Figure::HubMade,
+            (code::FORK, refusal::NOT_THROUGH_HUB) => Figure::ForkPastHub,
+            (_, refusal::NOT_THROUGH_HUB) => Figure::JoinPastHub,
+            (_, refusal::CANNOT_MAKE_HUB) => Figure::HubRefused,
+            _ => return,
+        };
+        self.count(figure, 1);
+    }
+
+    /// Counts a resumed tape with a hub, or one that only its hub stands against; the store is as the resume has left it.
+    fn note_resume(&mut self, tape: &[u8], reply: Reply, store: &[u8]) {
+        let figure = match reply.answer {
+            0 if layout::has_hub(store) => Figure::HubResumed,
+            refusal::TAPE_NOT_SOUND if is_sound_without_hub(tape) => Figure::HubTapeRefused,
+            _ => return,
+        };
+        self.count(figure, 1);
     }
 
     /// Counts an accepted merge with so many clashes.
@@ -383,6 +453,14 @@ impl Tally {
             .map(|(what, met, least)| format!("{what}: {met} of {least}"))
             .collect()
     }
+}
+
+/// Whether a tape ends with a hub and would be accepted without it.
+fn is_sound_without_hub(tape: &[u8]) -> bool {
+    let [without @ .., record::HUB, record::END] = tape else {
+        return false;
+    };
+    room_of_tape(&[without, &[record::END]].concat()).is_ok()
 }
 
 impl AddAssign<&Tally> for Tally {
@@ -478,10 +556,12 @@ impl Comparison {
 
     fn command(&mut self, pair: &mut Pair, bytes: &[u8]) -> Outcome<Reply> {
         pair.lend_input(bytes);
+        let had_hub = layout::has_hub(pair.store());
         let reply = self.call(Call::Command, pair)?;
-        if reply.answer == 0 && bytes.first() == Some(&code::MERGE) {
-            self.tally.note_merge(reply.count);
+        if had_hub && reply.answer == refusal::COMMONS_APART {
+            return Err(self.story(Call::Command, pair, "17, though there is a hub"));
         }
+        self.tally.note_command(bytes, reply, had_hub);
         Ok(reply)
     }
 
@@ -494,7 +574,9 @@ impl Comparison {
 
     fn resume(&mut self, pair: &mut Pair, tape: &[u8]) -> Outcome<Reply> {
         pair.lend_input(tape);
-        self.call(Call::Resume, pair)
+        let reply = self.call(Call::Resume, pair)?;
+        self.tally.note_resume(tape, reply, pair.store());
+        Ok(reply)
     }
 
     /// Open with this capacity in a buffer of so many bytes of any content.
@@ -561,13 +643,13 @@ impl Comparison {
     }
 
     /// Which two can meet in a sound store, and that the commands bear it out.
-    fn verdict(&mut self, pair: &mut Pair) -> Outcome<()> {
+    fn verdict(&mut self, pair: &mut Pair) -> Outcome<Verdict> {
         self.call(Call::Mergeable, pair)?;
         let store = pair.tested.store.lent();
         let verdict = verdicts::check(&self.tested, store)
             .map_err(|difference| self.story(Call::Mergeable, pair, &difference))?;
         self.tally.note_verdict(verdict, layout::is_full(store));
-        Ok(())
+        Ok(verdict)
     }
 
     /// Each call that reads a store, on bytes that may hold none.
@@ -679,13 +761,29 @@ impl<'a> Session<'a> {
         (0..steps).try_for_each(|_| self.step())
     }
 
-    /// Steps in most of which consoles come and go; now and then, and at the end, the store is compared with the book.
+    /// Steps in most of which consoles come and go.
     fn run_turnover(&mut self, steps: usize) -> Outcome<()> {
+        self.run_with_book(steps, Session::turnover_step)
+    }
+
+    /// Steps in a room that is to have a hub, and in the end, where it has one, a gathering.
+    fn run_hub(&mut self, steps: usize) -> Outcome<()> {
+        self.run_with_book(steps, Session::hub_step)?;
+        self.gather()?;
+        self.check_book()
+    }
+
+    /// Steps of one kind; now and then, and at the end, the store is compared with the book.
+    fn run_with_book(
+        &mut self,
+        steps: usize,
+        take_step: fn(&mut Self, usize) -> Outcome<()>,
+    ) -> Outcome<()> {
         for step in 0..steps {
             if step % STEPS_TO_THE_BOOK == 0 {
                 self.check_book()?;
             }
-            self.turnover_step(step)?;
+            take_step(self, step)?;
         }
         self.check_book()
     }
@@ -709,6 +807,50 @@ impl<'a> Session<'a> {
             80..=85 => self.come_back(),
             _ => self.step(),
         }
+    }
+
+    fn hub_step(&mut self, step: usize) -> Outcome<()> {
+        match self.rng.below(100) {
+            0..=59 => {
+                let bytes = gen::hub_command(&mut self.rng, &self.room);
+                self.command(&bytes).map(|_| ())
+            }
+            60..=64 => self.comparison.verdict(&mut self.pair).map(|_| ()),
+            65..=67 => self.gather(),
+            _ => self.turnover_step(step),
+        }
+    }
+
+    /// Brings all consoles of a room with a hub to one head. That must come out where each console but the hub has a version free, and
+    /// else nothing but a missing version may be in the way.
+    fn gather(&mut self) -> Outcome<()> {
+        if !self.room.hub {
+            return Ok(());
+        }
+        let others = self.room.present().len() - 1;
+        let free = self.room.capacity - self.room.versions.len();
+        let commands = gen::gathering(&self.room);
+        let mut answers = BTreeSet::new();
+        for command in &commands {
+            answers.insert(self.command(command)?.answer);
+        }
+        answers.remove(&0);
+        let verdict = self.comparison.verdict(&mut self.pair)?;
+        let is_short = commands.len() <= 2 * others;
+        let figure = if answers.is_empty() && verdict == Verdict::AllAgree && is_short {
+            Figure::Gathered
+        } else if free < others && answers == BTreeSet::from([refusal::NO_VERSION_LEFT]) {
+            Figure::GatheredTooFull
+        } else {
+            let round = &self.comparison.round;
+            return Err(format!(
+                "{round}: {others} consoles and {free} versions: {verdict:?} and {answers:?} after {commands:02X?}"
+            ));
+        };
+        // Where nothing was to be done, nothing is counted.
+        let is_counted = !commands.is_empty();
+        self.comparison.tally.count(figure, is_counted.into());
+        Ok(())
     }
 
     fn step(&mut self) -> Outcome<()> {
@@ -754,17 +896,19 @@ impl<'a> Session<'a> {
         ))
     }
 
-    /// Counts an accepted leave, and an accepted fork of a number that has left before.
+    /// Counts an accepted leave, and an accepted fork of a number that has left before; those where there is a hub once more.
     fn note_turnover(&mut self, command: &[u8]) {
-        let tally = &mut self.comparison.tally;
+        let (tally, has_hub) = (&mut self.comparison.tally, self.room.hub);
         match *command {
             [code::LEAVE, console] => {
                 self.has_left[usize::from(console)] = true;
                 tally.count(Figure::Leave, 1);
+                tally.count(Figure::LeaveWithHub, has_hub.into());
             }
             [code::FORK, new, _] => {
                 let is_back = take(&mut self.has_left[usize::from(new)]);
                 tally.count(Figure::ForkedAgain, is_back.into());
+                tally.count(Figure::ForkedAgainWithHub, (is_back && has_hub).into());
             }
             _ => {}
         }
@@ -934,7 +1078,7 @@ fn compare_tapes(comparison: &mut Comparison, rng: &mut Rng, count: usize) -> Ou
 
 /// A tape cut at every place, and with each of its bytes changed.
 fn compare_cut_tapes(comparison: &mut Comparison, rng: &mut Rng) -> Outcome<()> {
-    let room = gen::random_room(rng, 12, 40);
+    let room = gen::some_room(rng, 12, 40);
     let tape = tape_of(&room);
     let mut pair = Pair::of_store(&bytes_of_length(rng, store_bytes(room.capacity)));
     for place in 0..tape.len() {
@@ -944,6 +1088,29 @@ fn compare_cut_tapes(comparison: &mut Comparison, rng: &mut Rng) -> Outcome<()> 
         comparison.resume(&mut pair, &changed)?;
         changed[place] = rng.byte();
         comparison.resume(&mut pair, &changed)?;
+    }
+    Ok(())
+}
+
+/// A room with a hub, one that may be able to have one, and one that isn't.
+fn rooms_for_a_hub(rng: &mut Rng) -> [Room; 3] {
+    [
+        gen::hub_room(rng, 8, 20),
+        gen::random_room(rng, 8, 20),
+        gen::some_stuck_room(rng),
+    ]
+}
+
+/// Tapes with one or two more records of the hub at every place.
+fn compare_hub_tapes(comparison: &mut Comparison, rng: &mut Rng) -> Outcome<()> {
+    for room in rooms_for_a_hub(rng) {
+        let tape = tape_of(&room);
+        let mut pair = Pair::of_store(&bytes_of_length(rng, store_bytes(room.capacity)));
+        for (place, more) in pairs(&Vec::from_iter(0..=tape.len()), &[1, 2]) {
+            let (before, behind) = tape.split_at(place);
+            let hubs = vec![record::HUB; more];
+            comparison.resume(&mut pair, &[before, &hubs, behind].concat())?;
+        }
     }
     Ok(())
 }
@@ -1004,7 +1171,7 @@ const EDGE_OPERANDS: [u16; 11] = [0, 1, 15, 16, 255, 256, 360, 361, 600, 601, 0x
 /// Codes, strips and operands at and beyond the ends of their ranges, as commands and on tapes.
 fn compare_edges(comparison: &mut Comparison, rng: &mut Rng) -> Outcome<()> {
     let opened = comparison.opened(rng, 3, store_bytes(3))?;
-    let codes: Vec<u8> = (0..=0x0C).collect();
+    let codes: Vec<u8> = (0..=0x0D).collect();
     for (code, strip) in pairs(&codes, &EDGE_STRIPS) {
         compare_edge_commands(comparison, &opened, code, strip)?;
         compare_edge_records(comparison, &opened, code, strip)?;
@@ -1019,7 +1186,7 @@ fn compare_edge_commands(
     strip: u8,
 ) -> Outcome<()> {
     let operands = pairs(&EDGE_OPERANDS, &[0, 15, 16]);
-    for ((operand, console), length) in pairs(&operands, &[5, 4, 3, 2]) {
+    for ((operand, console), length) in pairs(&operands, &[5, 4, 3, 2, 1]) {
         let [high, low] = operand.to_be_bytes();
         let command = [code, console, strip, high, low];
         comparison.command(&mut opened.clone(), &command[..length])?;
@@ -1056,14 +1223,14 @@ fn some_store(rng: &mut Rng) -> Vec<u8> {
     match rng.below(5) {
         0 => gen::plausible_store(&gen::random_graph(rng, capacity)),
         1 => {
-            let reached = gen::random_room(rng, capacity, length);
+            let reached = gen::some_room(rng, capacity, length);
             let mut near = gen::near_miss(rng, &reached);
             near.capacity = near.capacity.max(near.versions.len());
             gen::plausible_store(&near)
         }
         2 => gen::garbage(rng, 8000),
         _ => {
-            let reached = gen::random_room(rng, capacity, length);
+            let reached = gen::some_room(rng, capacity, length);
             gen::damaged_store(rng, &layout::encode(&reached))
         }
     }
@@ -1071,7 +1238,7 @@ fn some_store(rng: &mut Rng) -> Vec<u8> {
 
 /// Every byte of a store changed, one at a time, and the store cut at places of every kind.
 fn compare_every_byte(comparison: &mut Comparison, rng: &mut Rng, capacity: usize) -> Outcome<()> {
-    let room = gen::random_room(rng, capacity, 5 * capacity);
+    let room = gen::some_room(rng, capacity, 5 * capacity);
     let store = layout::encode(&room);
     let mut pair = Pair::of_store(&store);
     for place in 0..store.len() {
@@ -1097,10 +1264,25 @@ fn compare_cut_store(comparison: &mut Comparison, store: &[u8]) -> Outcome<()> {
     Ok(())
 }
 
+const EDGE_HUBS: [u16; 8] = [0, 1, 2, 255, 256, 257, 0x8000, 0xFFFF];
+
+/// Stores with other values of the hub's field.
+fn compare_hub_fields(comparison: &mut Comparison, rng: &mut Rng) -> Outcome<()> {
+    for room in rooms_for_a_hub(rng) {
+        let mut store = layout::encode(&room);
+        for hub in EDGE_HUBS {
+            store[layout::HUB_AT..layout::HUB_AT + 2].copy_from_slice(&hub.to_be_bytes());
+            comparison.all_calls(rng, &mut Pair::of_store(&store))?;
+            comparison.command(&mut Pair::of_store(&store), &[code::MAKE_HUB])?;
+        }
+    }
+    Ok(())
+}
+
 /// A store whose capacity field says more than it was made with, in a buffer that is long enough for it, up to 1,100: sound with
 /// zeros behind the store and a capacity in range.
 fn compare_grown_store(comparison: &mut Comparison, rng: &mut Rng, capacity: usize) -> Outcome<()> {
-    let store = layout::encode(&gen::random_room(rng, capacity, 20));
+    let store = layout::encode(&gen::some_room(rng, capacity, 20));
     for (grown, behind) in [(1, 0), (1, rng.byte()), (2, 0), (64_000, 0)] {
         let mut longer = store.clone();
         longer.resize(store_bytes((capacity + grown).min(1100)), behind);
@@ -1112,7 +1294,7 @@ fn compare_grown_store(comparison: &mut Comparison, rng: &mut Rng, capacity: usi
 
 /// Garbage as commands and tapes.
 fn compare_garbage(comparison: &mut Comparison, rng: &mut Rng, count: usize) -> Outcome<()> {
-    let mut pair = Pair::of_store(&layout::encode(&gen::random_room(rng, 8, 12)));
+    let mut pair = Pair::of_store(&layout::encode(&gen::some_room(rng, 8, 12)));
     for _ in 0..count {
         comparison.command(&mut pair, &gen::any_command(rng))?;
         comparison.command(&mut pair, &gen::garbage(rng, 8))?;
@@ -1210,8 +1392,8 @@ fn compare_full_verdicts(comparison: &mut Comparison) -> Outcome<()> {
 
 // ---------------------------------------------------------------- the paper's rooms
 
-/// The paper's rooms as commands, each with its capacity; commands in them meet the rare refusals.
-const PAPER_ROOMS: [(u32, &[&[u8]]); 4] = [
+/// The paper's rooms as commands, and one that can have a hub in the end, each with its capacity; commands in them meet the rare refusals.
+const PAPER_ROOMS: [(u32, &[&[u8]]); 5] = [
     (
         64,
         &[
@@ -1252,6 +1434,17 @@ const PAPER_ROOMS: [(u32, &[&[u8]]); 4] = [
             &[0x0A, 1, 0],
         ],
     ),
+    (
+        4,
+        &[
+            &[0x01, 1, 0],
+            &[0x06, 1, 0],
+            &[0x01, 2, 1],
+            &[0x0C],
+            &[0x0A, 0, 1],
+            &[0x06, 1, 0],
+        ],
+    ),
 ];
 
 fn compare_paper_rooms(comparison: &mut Comparison, rng: &mut Rng) -> Outcome<()> {
@@ -1261,6 +1454,10 @@ fn compare_paper_rooms(comparison: &mut Comparison, rng: &mut Rng) -> Outcome<()
         compare_next_commands(comparison, &pair)?;
         comparison.verdict(&mut pair)?;
         comparison.all_calls(rng, &mut pair)?;
+        // With a hub, where the room can have one.
+        comparison.commands(&mut pair, &[&[code::MAKE_HUB], &[code::MAKE_HUB]])?;
+        compare_next_commands(comparison, &pair)?;
+        comparison.verdict(&mut pair)?;
     }
     Ok(())
 }
@@ -1333,9 +1530,14 @@ const SMALL_SESSIONS: [(usize, usize, usize); 5] = [
 /// consoles still fork, fast-forward and leave.
 const TURNOVER_SESSIONS: [(usize, usize); 2] = [(12, 240), (96, 640)];
 
+/// Capacities of the sessions in rooms with a hub, one of each in a round, and their steps before the hub may be made and from then on. In
+/// the first it is made soon and the room is soon full, in the last it is made late, if at all.
+const HUB_SESSIONS: [(usize, usize, usize); 3] = [(14, 0, 100), (96, 0, 200), (96, 120, 150)];
+
 fn small_round(comparison: &mut Comparison, rng: &mut Rng) -> Outcome<()> {
     small_sessions(comparison, rng)?;
     turnover_sessions(comparison, rng)?;
+    hub_sessions(comparison, rng)?;
     sessions_from_full_rooms(comparison, rng, 16)?;
     sessions_from_full_rooms(comparison, rng, 64)?;
     sessions_that_clash(comparison, rng)?;
@@ -1343,6 +1545,8 @@ fn small_round(comparison: &mut Comparison, rng: &mut Rng) -> Outcome<()> {
     compare_garbage(comparison, rng, 250)?;
     compare_tapes(comparison, rng, 500)?;
     compare_cut_tapes(comparison, rng)?;
+    compare_hub_tapes(comparison, rng)?;
+    compare_hub_fields(comparison, rng)?;
     compare_stores(comparison, rng, 150)?;
     compare_grown_store(comparison, rng, 6)?;
     if rng.chance(30) {
@@ -1369,6 +1573,15 @@ fn turnover_sessions(comparison: &mut Comparison, rng: &mut Rng) -> Outcome<()> 
     Ok(())
 }
 
+fn hub_sessions(comparison: &mut Comparison, rng: &mut Rng) -> Outcome<()> {
+    for (capacity, before, steps) in HUB_SESSIONS {
+        let mut session = opened_session(comparison, rng, capacity)?;
+        session.run_turnover(before)?;
+        session.run_hub(steps)?;
+    }
+    Ok(())
+}
+
 fn sessions_from_full_rooms(
     comparison: &mut Comparison,
     rng: &mut Rng,
@@ -1377,7 +1590,9 @@ fn sessions_from_full_rooms(
     let entries = gen::full_of_entries(rng, capacity);
     resumed_session(comparison, rng, entries)?.run(40)?;
     let merges = gen::full_of_merges(rng, capacity);
-    resumed_session(comparison, rng, merges)?.run(40)
+    resumed_session(comparison, rng, merges)?.run(40)?;
+    let through_hub = gen::full_through_hub(rng, capacity);
+    resumed_session(comparison, rng, through_hub)?.run_hub(40)
 }
 
 /// Rooms whose merges have some number of clashes, merged at once and after other steps.
@@ -1428,5 +1643,7 @@ fn large_sessions(comparison: &mut Comparison, rng: &mut Rng, steps: usize) -> O
         room.capacity = 1024;
         resumed_session(comparison, rng, room)?.run(steps / 8)?;
     }
-    Ok(())
+    let mut room = gen::full_through_hub(rng, 990);
+    room.capacity = 1024;
+    resumed_session(comparison, rng, room)?.run_hub(steps / 8)
 }

@@ -8,12 +8,15 @@ use crate::model::{refusal, refuse_if};
 use std::array;
 
 const CONSOLES: usize = 16;
+/// The console through which a room with a hub meets.
+const HUB: usize = 0;
 const STRIPS: u8 = 32;
 const HIGHEST_CAPACITY: usize = 1024;
 
 const CAPACITY_AT: usize = 0;
-const COUNT_AT: usize = 2;
-const COUNT_END: usize = 4;
+const HUB_AT: usize = 2;
+const COUNT_AT: usize = 4;
+const COUNT_END: usize = 6;
 const ENTRY_ROW_AT: usize = 128;
 const COMMONS_AT: usize = 256;
 const COMMONS_END: usize = 768;
@@ -98,6 +101,11 @@ fn common_field(header: &Header, console: usize, other: usize) -> usize {
 fn put_common_field(header: &mut Header, console: usize, other: usize, field: usize) {
     put_number(header, common_at(console, other), field);
     put_number(header, common_at(other, console), field);
+}
+
+/// Whether console 0 is the hub.
+fn has_hub(header: &Header) -> bool {
+    number(header, HUB_AT) == 1
 }
 
 /// The head of a console, or refusal 12.
@@ -361,6 +369,36 @@ fn is_sound(header: &Header, blocks: &[Block]) -> bool {
         && all_zero(unused.as_flattened())
         && same(&row_at(header, ENTRY_ROW_AT), &entry_row)
         && heads_are_sound(header, held)
+        && hub_is_sound(header, held)
+}
+
+/// The field of the hub is 0, or it is 1 and these heads, which are sound, can have one.
+fn hub_is_sound(header: &Header, held: &[Block]) -> bool {
+    match number(header, HUB_AT) {
+        0 => true,
+        1 => can_make_hub(header, held),
+        _ => false,
+    }
+}
+
+/// Whether the common version of every two present consoles is an ancestor of console 0's head, in a store whose heads are sound.
+fn can_make_hub(header: &Header, held: &[Block]) -> bool {
+    let hub_head = &held[common_field(header, HUB, HUB) - 1];
+    all_commons(
+        |console, other| common_field(header, console, other),
+        |common| has_bit(hub_head, common),
+    )
+}
+
+/// Whether this is true of the common version of every two present consoles other than the hub, by the fields of the table. The hub's own
+/// commons are ancestors of its head by themselves.
+fn all_commons(field: impl Fn(usize, usize) -> usize, is_right: impl Fn(usize) -> bool) -> bool {
+    (HUB + 1..CONSOLES).all(|console| {
+        (HUB + 1..console).all(|other| match field(console, other) {
+            0 => true,
+            above => is_right(above - 1),
+        })
+    })
 }
 
 /// The row of entries, where there is a version 0 and every version is right after those before it.
@@ -488,7 +526,7 @@ fn open_store(capacity: usize, store: &mut [u8]) -> Result<usize, u32> {
     let (header, blocks) = lent_parts(store, capacity)?;
     blocks.as_flattened_mut().fill(0);
     blocks[0][ROW_AT] = 1;
-    begin_header(header, capacity, 1);
+    begin_header(header, capacity, false, 1);
     put_common_field(header, 0, 0, 1);
     Ok(0)
 }
@@ -502,9 +540,10 @@ fn lent_parts(store: &mut [u8], capacity: usize) -> Result<(&mut Header, &mut [B
     parts.ok_or(refusal::BUFFER_TOO_SHORT)
 }
 
-fn begin_header(header: &mut Header, capacity: usize, count: usize) {
+fn begin_header(header: &mut Header, capacity: usize, hub: bool, count: usize) {
     header.fill(0);
     put_number(header, CAPACITY_AT, capacity);
+    put_number(header, HUB_AT, hub.into());
     put_number(header, COUNT_AT, count);
 }
 
@@ -622,7 +661,8 @@ struct PairSearch<'a> {
 }
 
 impl PairSearch<'_> {
-    /// The number of the first pair that can meet.
+    /// The number of the first pair that can meet. With a hub that is a pair with console 0, though nothing here asks for it: nothing is
+    /// then in the way of 0, which takes from the first that is not behind it, and where all are, the first of them takes from 0.
     fn first(&mut self) -> Option<usize> {
         self.consoles.iter().find_map(|&receiver| {
             self.consoles.iter().find_map(|&giver| {
@@ -676,6 +716,7 @@ enum Command {
     Merge { receiver: usize, giver: usize },
     FastForward { receiver: usize, giver: usize },
     Leave { console: usize },
+    MakeHub,
 }
 
 fn decode(bytes: &[u8]) -> Result<Command, u32> {
@@ -689,7 +730,8 @@ fn decode(bytes: &[u8]) -> Result<Command, u32> {
         }
         [code @ (0x06..=0x08), console, strip] => decode_entry(console, code, strip, 0),
         [0x0B, console] => decode_leave(console),
-        [0x01..=0x0B, ..] => Err(refusal::WRONG_LENGTH),
+        [0x0C] => Ok(Command::MakeHub),
+        [0x01..=0x0C, ..] => Err(refusal::WRONG_LENGTH),
         _ => Err(refusal::NO_SUCH_COMMAND),
     }
 }
@@ -749,15 +791,38 @@ fn obey(store: &mut [u8], command: &[u8]) -> Result<usize, u32> {
         Command::Merge { receiver, giver } => return merge(header, blocks, receiver, giver),
         Command::FastForward { receiver, giver } => fast_forward(header, blocks, receiver, giver)?,
         Command::Leave { console } => leave(header, console)?,
+        Command::MakeHub => make_hub(header, blocks)?,
     }
     Ok(0)
+}
+
+/// Whether there is a hub and neither of these two is it.
+fn is_past_hub(header: &Header, receiver: usize, giver: usize) -> bool {
+    has_hub(header) && receiver != HUB && giver != HUB
 }
 
 fn fork(header: &mut Header, new: usize, old: usize) -> Result<(), u32> {
     head_of(header, old)?;
     refuse_if(head_of(header, new).is_ok(), refusal::NEW_CONSOLE_PRESENT)?;
+    refuse_if(has_hub(header) && old != HUB, refusal::NOT_THROUGH_HUB)?;
     follow(header, new, old);
     Ok(())
+}
+
+fn make_hub(header: &mut Header, blocks: &[Block]) -> Result<(), u32> {
+    refuse_if(!can_make_hub(header, blocks), refusal::CANNOT_MAKE_HUB)?;
+    put_number(header, HUB_AT, 1);
+    Ok(())
+}
+
+/// The heads of receiver and giver, or refusal 12, or 22.
+fn heads_of_two(header: &Header, receiver: usize, giver: usize) -> Result<(usize, usize), u32> {
+    let heads = (head_of(header, receiver)?, head_of(header, giver)?);
+    refuse_if(
+        is_past_hub(header, receiver, giver),
+        refusal::NOT_THROUGH_HUB,
+    )?;
+    Ok(heads)
 }
 
 fn fast_forward(
@@ -766,8 +831,7 @@ fn fast_forward(
     receiver: usize,
     giver: usize,
 ) -> Result<(), u32> {
-    let receiver_head = head_of(header, receiver)?;
-    let giver_head = head_of(header, giver)?;
+    let (receiver_head, giver_head) = heads_of_two(header, receiver, giver)?;
     refuse_if(
         has_bit(&blocks[receiver_head], giver_head),
         refusal::GIVER_BEHIND,
@@ -835,8 +899,7 @@ fn merge(
     receiver: usize,
     giver: usize,
 ) -> Result<usize, u32> {
-    let receiver_head = head_of(header, receiver)?;
-    let giver_head = head_of(header, giver)?;
+    let (receiver_head, giver_head) = heads_of_two(header, receiver, giver)?;
     refuse_if(
         has_bit(&blocks[receiver_head], giver_head),
         refusal::GIVER_BEHIND,
@@ -956,7 +1019,10 @@ fn write_tape(store: &[u8], tape: &mut [u8]) -> Result<usize, u32> {
     let tape = tape.get_mut(..length).ok_or(refusal::BUFFER_TOO_SHORT)?;
     let rest = put_record(tape, [0x20, header[0], header[1]]);
     let rest = put_versions(rest, later);
-    let rest = put_heads(rest, header);
+    let mut rest = put_heads(rest, header);
+    if has_hub(header) {
+        rest = put_record(rest, [0x25]);
+    }
     put_record(rest, [0x24]);
     Ok(length)
 }
@@ -964,7 +1030,8 @@ fn write_tape(store: &[u8], tape: &mut [u8]) -> Result<usize, u32> {
 /// The length of the tape of a store with so many versions after version 0.
 fn tape_length(header: &Header, later: usize) -> usize {
     let entries = ones(&row_at(header, ENTRY_ROW_AT));
-    3 + 7 * entries + 5 * (later - entries) + 4 * present(header).count() + 1
+    let versions = 7 * entries + 5 * (later - entries);
+    3 + versions + 4 * present(header).count() + usize::from(has_hub(header)) + 1
 }
 
 /// The present consoles, rising.
@@ -1013,6 +1080,7 @@ struct Tape<'a> {
     count: usize,
     versions: &'a [u8],
     heads: &'a [[u8; 4]],
+    hub: bool,
     versions_are_in_range: bool,
 }
 
@@ -1073,13 +1141,20 @@ fn split_tape(tape: &[u8]) -> Option<Tape<'_>> {
     let [ref heads @ .., 0x24] = *rest else {
         return None;
     };
-    let (heads, cut) = heads.as_chunks::<4>();
+    // A head's record has four bytes and the hub's one, so that the hub's is left over.
+    let (heads, left) = heads.as_chunks::<4>();
+    let hub = match *left {
+        [] => false,
+        [0x25] => true,
+        _ => return None,
+    };
     let are_heads = !heads.is_empty() && heads.iter().all(|record| record[0] == 0x23);
-    (are_heads && cut.is_empty()).then_some(Tape {
+    are_heads.then_some(Tape {
         capacity: usize::from(u16::from_be_bytes([high, low])),
         count,
         versions,
         heads,
+        hub,
         versions_are_in_range,
     })
 }
@@ -1155,6 +1230,19 @@ impl<const N: usize, const W: usize> Graph<N, W> {
         covered.iter().eq(&all[..W]).then_some(fields)
     }
 
+    /// Whether there is no hub, or these commons, which are the tape's, can have one.
+    fn hub_is_sound(&self, tape: &Tape, commons: &Commons) -> bool {
+        let (_, hub_head) = head_in(&tape.heads[0]);
+        let behind_hub = &self.rows[hub_head];
+        let can_make_hub = || {
+            all_commons(
+                |console, other| commons[console][other].into(),
+                |common| behind_hub[common / 64] >> (common % 64) & 1 == 1,
+            )
+        };
+        !tape.hub || can_make_hub()
+    }
+
     /// Puts a console's common versions with these others, where it has them.
     fn put_commons(
         &self,
@@ -1184,8 +1272,9 @@ fn resume_graph<const N: usize, const W: usize>(
 ) -> Result<usize, u32> {
     let graph = Graph::<N, W>::of_versions(tape).ok_or(refusal::TAPE_NOT_SOUND)?;
     let commons = graph.commons(tape).ok_or(refusal::TAPE_NOT_SOUND)?;
+    refuse_if(!graph.hub_is_sound(tape, &commons), refusal::TAPE_NOT_SOUND)?;
     let (header, blocks) = lent_parts(store, tape.capacity)?;
-    begin_header(header, tape.capacity, tape.count);
+    begin_header(header, tape.capacity, tape.hub, tape.count);
     let fields = header[COMMONS_AT..COMMONS_END].as_chunks_mut().0;
     for (bytes, field) in fields.iter_mut().zip(commons.as_flattened()) {
         *bytes = field.to_be_bytes();

@@ -1,9 +1,9 @@
-// Generators of cases: command sequences, full rooms, stuck rooms, graphs as tapes, and damaged tapes and stores.
+// Generators of cases: command sequences, full rooms, rooms with a hub, stuck rooms, graphs as tapes, and damaged tapes and stores.
 
 use crate::layout::{self, encode_with};
 use crate::model::{
     boards, code, decode, parents, record, step, tape_of, Ancestry, Entry, Room, Version, CONSOLES,
-    HIGHEST_HEADING, HIGHEST_LEVEL, MARKS, STRIPS,
+    HIGHEST_HEADING, HIGHEST_LEVEL, HUB, MARKS, STRIPS,
 };
 use crate::rng::Rng;
 use std::array;
@@ -111,13 +111,16 @@ fn last_value(room: &Room, console: usize) -> Option<Entry> {
     None
 }
 
-/// A fork of a present console to an absent one, or an entry where all are present.
+/// A fork of a present console to an absent one, in a room with a hub an accepted one if a few tries meet one; an entry where all are
+/// present.
 fn fork_command(rng: &mut Rng, room: &Room) -> Vec<u8> {
     let absent: Vec<usize> = (0..CONSOLES).filter(|&c| room.head(c).is_none()).collect();
-    match (rng.pick(&absent), rng.pick(&room.present())) {
-        (Some(new), Some(old)) => vec![code::FORK, new as u8, old as u8],
-        _ => entry_anywhere(rng, room),
-    }
+    let Some(new) = rng.pick(&absent) else {
+        return entry_anywhere(rng, room);
+    };
+    let olds = rng.shuffled(&room.present()).into_iter().take(4);
+    let forks = olds.map(|old| vec![code::FORK, new as u8, old as u8]);
+    first_accepted(rng, room, forks)
 }
 
 /// The first of these commands that is accepted, else the last of them; an entry where there are none.
@@ -186,6 +189,16 @@ pub fn turnover_command(rng: &mut Rng, room: &Room, step: usize) -> Vec<u8> {
     }
 }
 
+/// A command for a room that is to have a hub: now and then the one that makes it, and the next one of a gathering, by which console 0
+/// gets ahead of the others until it can be the hub.
+pub fn hub_command(rng: &mut Rng, room: &Room) -> Vec<u8> {
+    match rng.below(100) {
+        0..=9 => vec![code::MAKE_HUB],
+        10..=29 => next_of_gathering(room).unwrap_or_else(|| likely_command(rng, room)),
+        _ => likely_command(rng, room),
+    }
+}
+
 /// A command of any kind: codes, lengths and operands in range and just out of it.
 pub fn any_command(rng: &mut Rng) -> Vec<u8> {
     let (first, second) = (near(rng, CONSOLES), near(rng, CONSOLES));
@@ -194,7 +207,8 @@ pub fn any_command(rng: &mut Rng) -> Vec<u8> {
     let mut bytes = match rng.below(100) {
         0..=9 => (0..rng.below(8)).map(|_| rng.byte()).collect(),
         10..=54 => entry_command(rng, first),
-        55..=64 => vec![code::LEAVE, leaving.unwrap_or(0) as u8],
+        55..=63 => vec![code::LEAVE, leaving.unwrap_or(0) as u8],
+        64 => vec![code::MAKE_HUB],
         _ => vec![joining_code.unwrap_or(0), first as u8, second as u8],
     };
     if rng.chance(30) {
@@ -253,6 +267,20 @@ pub fn turnover_from(rng: &mut Rng, room: Room, length: usize) -> (Vec<Vec<u8>>,
     chosen_commands(rng, room, length, turnover_command)
 }
 
+/// The same, from a room that is to have a hub.
+pub fn hub_from(rng: &mut Rng, room: Room, length: usize) -> (Vec<Vec<u8>>, Room) {
+    chosen_commands(rng, room, length, |rng, room, _| hub_command(rng, room))
+}
+
+/// The same for a room opened with this capacity, which is to have a hub early or late.
+pub fn hub_sequence(rng: &mut Rng, capacity: usize, length: usize) -> (Vec<Vec<u8>>, Room) {
+    let before = rng.below(length + 1);
+    let (mut commands, reached) = command_sequence(rng, capacity, before);
+    let (later, room) = hub_from(rng, reached, length - before);
+    commands.extend(later);
+    (commands, room)
+}
+
 /// So many commands from a room on, most of them chosen by the room and the step, and the room they lead to.
 fn chosen_commands(
     rng: &mut Rng,
@@ -280,13 +308,22 @@ pub fn random_room(rng: &mut Rng, capacity: usize, length: usize) -> Room {
     command_sequence(rng, capacity, length).1
 }
 
-/// So many rooms of several capacities, up to 90, that random command sequences lead to.
+/// The same, in one of four cases with a hub.
+pub fn some_room(rng: &mut Rng, capacity: usize, length: usize) -> Room {
+    if rng.chance(25) {
+        hub_room(rng, capacity, length)
+    } else {
+        random_room(rng, capacity, length)
+    }
+}
+
+/// So many rooms of several capacities, up to 90, that random command sequences lead to, one of four with a hub.
 pub fn random_rooms(seed: u64, count: usize) -> Vec<Room> {
     let rng = &mut Rng::new(seed);
     (0..count)
         .map(|_| {
             let (capacity, length) = (rng.between(1, 90), rng.below(120));
-            random_room(rng, capacity, length)
+            some_room(rng, capacity, length)
         })
         .collect()
 }
@@ -326,9 +363,21 @@ fn filled_with_entries(rng: &mut Rng, mut room: Room) -> Room {
 /// in common has then passed every console between them, so refusal 17 never stands in the way of neighbours.
 pub fn full_of_merges(rng: &mut Rng, capacity: usize) -> Room {
     let neighbours = random_tree(rng);
-    let mut room = with_entry(rng, &room_of_all_consoles(capacity));
+    filled_with_merges(rng, room_of_all_consoles(capacity), &neighbours)
+}
+
+/// The same with a hub from the start: every other console is a neighbour of console 0 alone.
+pub fn full_through_hub(rng: &mut Rng, capacity: usize) -> Room {
+    let neighbours: Vec<(usize, usize)> = (1..CONSOLES).map(|console| (HUB, console)).collect();
+    let mut room = room_of_all_consoles(capacity);
+    room.hub = true;
+    filled_with_merges(rng, room, &neighbours)
+}
+
+fn filled_with_merges(rng: &mut Rng, room: Room, neighbours: &[(usize, usize)]) -> Room {
+    let mut room = with_entry(rng, &room);
     while room.versions.len() + 2 <= room.capacity {
-        let Some(next) = entry_and_merge(rng, &room, &neighbours) else {
+        let Some(next) = entry_and_merge(rng, &room, neighbours) else {
             break;
         };
         room = next;
@@ -412,6 +461,76 @@ fn filled_by<'a>(capacity: usize, mut commands: impl Iterator<Item = &'a [u8]>) 
         room = next;
     }
     room
+}
+
+// ---------------------------------------------------------------- rooms with a hub
+
+/// The commands that bring all consoles of a room with a hub to one head: console 0 takes from each other console, rising, and then each
+/// that isn't there yet takes from console 0. Where versions are missing, merges among them are refused.
+pub fn gathering(room: &Room) -> Vec<Vec<u8>> {
+    let mut room = room.clone();
+    let mut commands = Vec::new();
+    for (receiver, giver) in gathering_pairs(&room) {
+        if let Some(command) = taking_command(&room, receiver, giver) {
+            room = after(&room, &command).unwrap_or(room);
+            commands.push(command);
+        }
+    }
+    commands
+}
+
+/// The first of them, where heads differ.
+fn next_of_gathering(room: &Room) -> Option<Vec<u8>> {
+    gathering_pairs(room)
+        .into_iter()
+        .find_map(|(receiver, giver)| taking_command(room, receiver, giver))
+}
+
+/// Who takes from whom in a gathering, in order.
+fn gathering_pairs(room: &Room) -> Vec<(usize, usize)> {
+    let mut others = room.present();
+    others.retain(|&console| console != HUB);
+    let taking = others.iter().map(|&other| (HUB, other));
+    let giving = others.iter().map(|&other| (other, HUB));
+    taking.chain(giving).collect()
+}
+
+/// The command by which a console takes from another: nothing where the giver is behind, else a fast-forward or a merge.
+fn taking_command(room: &Room, receiver: usize, giver: usize) -> Option<Vec<u8>> {
+    let (receiver_head, giver_head) = (room.head(receiver)?, room.head(giver)?);
+    let ancestry = Ancestry::new(room);
+    let taking_code = if ancestry.is_ancestor(giver_head, receiver_head) {
+        return None;
+    } else if ancestry.is_ancestor(receiver_head, giver_head) {
+        code::FAST_FORWARD
+    } else {
+        code::MERGE
+    };
+    Some(vec![taking_code, receiver as u8, giver as u8])
+}
+
+/// A room with a hub that a random command sequence leads to, in which console 0 has become the hub early or late.
+pub fn hub_room(rng: &mut Rng, capacity: usize, length: usize) -> Room {
+    let before = rng.below(length + 1);
+    let reached = random_room(rng, capacity, before);
+    let mut room = with_hub(reached).unwrap_or(Room::opened(capacity));
+    // In a newly opened room there are no two consoles that could stand against it.
+    room.hub = true;
+    commands_from(rng, room, length - before).1
+}
+
+/// The room with a hub, at once or after console 0 has taken from others; nothing where it can't take from as many as it must.
+fn with_hub(mut room: Room) -> Option<Room> {
+    let make_hub = [code::MAKE_HUB];
+    for (receiver, giver) in gathering_pairs(&room) {
+        if after(&room, &make_hub).is_some() {
+            break;
+        }
+        let taking = taking_command(&room, receiver, giver);
+        let taken = taking.and_then(|command| after(&room, &command));
+        room = taken.unwrap_or(room);
+    }
+    after(&room, &make_hub)
 }
 
 // ---------------------------------------------------------------- rooms in which no two can meet
@@ -615,6 +734,7 @@ pub fn random_graph(rng: &mut Rng, version_count: usize) -> Room {
         room.versions.push(version);
     }
     room.heads = random_heads(rng, &room);
+    room.hub = rng.chance(25);
     room
 }
 
@@ -695,15 +815,16 @@ fn childless(room: &Room) -> Vec<usize> {
         .collect()
 }
 
-/// A room at most one change away from a sound one: a head, a parent, a whole version or the capacity is another.
+/// A room at most one change away from a sound one: a head, a parent, a whole version, the capacity or the hub is another.
 pub fn near_miss(rng: &mut Rng, sound_room: &Room) -> Room {
     let mut room = sound_room.clone();
     let number = rng.below(room.versions.len());
-    match rng.below(5) {
+    match rng.below(6) {
         0 => room.heads[rng.below(CONSOLES)] = Some(number),
         1 => room.heads[rng.between(1, CONSOLES - 1)] = None,
         2 if number > 0 => room.versions[number] = random_merge_at(rng, number),
         3 => room.capacity = rng.between(room.versions.len(), room.capacity),
+        4 => room.hub = !room.hub,
         _ if number > 0 => change_parent(rng, &mut room.versions[number], number),
         _ => {}
     }
@@ -729,9 +850,9 @@ fn change_parent(rng: &mut Rng, version: &mut Version, number: usize) {
 pub fn graph_tape(rng: &mut Rng) -> Vec<u8> {
     let (capacity, length) = (rng.between(1, 40), rng.below(60));
     let room = match rng.below(4) {
-        0 => random_room(rng, capacity, length),
+        0 => some_room(rng, capacity, length),
         1 => {
-            let reached = random_room(rng, capacity, length);
+            let reached = some_room(rng, capacity, length);
             near_miss(rng, &reached)
         }
         2 => random_graph(rng, capacity),
@@ -762,8 +883,15 @@ fn damage_tape_once(rng: &mut Rng, tape: &mut Vec<u8>) {
         5 => change_bits(rng, tape, place),
         6..=8 => move_record(rng, tape),
         9 => set_field(rng, tape, 1),
+        10 => put_hub_record(rng, tape),
         _ => change_record(rng, tape),
     }
+}
+
+/// Puts a record of the hub before another record.
+fn put_hub_record(rng: &mut Rng, tape: &mut Vec<u8>) {
+    let (place, _) = rng.pick(&record_places(tape)).unwrap_or((0, 0));
+    tape.insert(place, record::HUB);
 }
 
 fn change_bits(rng: &mut Rng, bytes: &mut [u8], place: usize) {
@@ -845,11 +973,12 @@ fn damage_header(rng: &mut Rng, store: &mut [u8]) {
     let zero = rng.below(layout::HEADER_BYTES);
     let entry_row = layout::ENTRY_ROW_AT + rng.below(128);
     let common = layout::common_at(rng.below(CONSOLES), rng.below(CONSOLES));
-    match rng.below(5) {
+    match rng.below(6) {
         0 => set_byte(store, zero, rng.byte()),
         1 => change_bits(rng, store, entry_row),
         2 => set_field(rng, store, layout::CAPACITY_AT),
         3 => set_field(rng, store, layout::VERSION_COUNT_AT),
+        4 => set_field(rng, store, layout::HUB_AT),
         _ => set_field(rng, store, common),
     }
 }
@@ -870,10 +999,7 @@ fn damage_block(rng: &mut Rng, store: &mut [u8]) {
 
 /// Where some block starts, mostly one of a version that the store holds.
 fn some_block(rng: &mut Rng, store: &[u8]) -> usize {
-    let count = match store.get(2..4) {
-        Some(&[high, low]) => usize::from(u16::from_be_bytes([high, low])),
-        _ => 1,
-    };
+    let count = layout::version_count(store).unwrap_or(1);
     layout::block_at(rng.below(count.min(1024) + 1))
 }
 
@@ -912,10 +1038,10 @@ pub fn garbage(rng: &mut Rng, longest: usize) -> Vec<u8> {
         .map(|_| if all_zero { 0 } else { rng.byte() })
         .collect();
     if rng.chance(50) {
-        set_byte(&mut bytes, 0, 0);
-        set_byte(&mut bytes, 1, rng.between(1, 20) as u8);
-        set_byte(&mut bytes, 2, 0);
-        set_byte(&mut bytes, 3, rng.between(1, 20) as u8);
+        let (capacity, hub, count) = (rng.between(1, 20), rng.below(2), rng.between(1, 20));
+        let header = [0, capacity as u8, 0, hub as u8, 0, count as u8];
+        let places = bytes.iter_mut().zip(header);
+        places.for_each(|(place, byte)| *place = byte);
     }
     bytes
 }

@@ -10,7 +10,8 @@ pub const BLOCK_BYTES: usize = 544;
 pub const BOARD_BYTES: usize = 384;
 
 pub const CAPACITY_AT: usize = 0;
-pub const VERSION_COUNT_AT: usize = 2;
+pub const HUB_AT: usize = 2;
+pub const VERSION_COUNT_AT: usize = 4;
 pub const ENTRY_ROW_AT: usize = 128;
 pub const COMMONS_AT: usize = 256;
 
@@ -39,9 +40,19 @@ pub fn common_at(console: usize, other: usize) -> usize {
     COMMONS_AT + 2 * (CONSOLES * console + other)
 }
 
+/// The field of the number of versions, where the bytes are long enough to have it.
+pub fn version_count(store: &[u8]) -> Option<usize> {
+    get_16_bits(store, VERSION_COUNT_AT)
+}
+
 /// Whether a sound store has no version free.
 pub fn is_full(store: &[u8]) -> bool {
-    get_16_bits(store, VERSION_COUNT_AT) == get_16_bits(store, CAPACITY_AT)
+    version_count(store) == get_16_bits(store, CAPACITY_AT)
+}
+
+/// Whether console 0 is the hub in a sound store.
+pub fn has_hub(store: &[u8]) -> bool {
+    read_hub(store) == Some(true)
 }
 
 // ---------------------------------------------------------------- writing
@@ -95,6 +106,7 @@ fn put_row(bytes: &mut [u8], place: usize, in_row: &[bool]) {
 
 fn put_header(bytes: &mut [u8], room: &Room, common_of: &dyn Fn(usize, usize) -> usize) {
     put_16_bits(bytes, CAPACITY_AT, room.capacity);
+    put_16_bits(bytes, HUB_AT, usize::from(room.hub));
     put_16_bits(bytes, VERSION_COUNT_AT, room.versions.len());
     let is_entry = |version: &Version| matches!(version, Version::Entry(_));
     let entries: Vec<bool> = room.versions.iter().map(is_entry).collect();
@@ -177,10 +189,20 @@ fn get_16_bits(bytes: &[u8], place: usize) -> Option<usize> {
     }
 }
 
-/// Capacity, number of versions, nodes and heads, where the bytes are long enough to have them.
+/// Whether console 0 is the hub; nothing for a field that is neither 0 nor 1.
+fn read_hub(bytes: &[u8]) -> Option<bool> {
+    match get_16_bits(bytes, HUB_AT)? {
+        0 => Some(false),
+        1 => Some(true),
+        _ => None,
+    }
+}
+
+/// Capacity, hub, number of versions, nodes and heads, where the bytes are long enough to have them.
 fn read_fields(bytes: &[u8]) -> Option<Room> {
     let capacity = get_16_bits(bytes, CAPACITY_AT)?;
-    let version_count = get_16_bits(bytes, VERSION_COUNT_AT)?;
+    let hub = read_hub(bytes)?;
+    let version_count = version_count(bytes)?;
     let long_enough = bytes.len() >= store_bytes(capacity);
     if !capacity_is_in_range(capacity) || !long_enough || version_count > capacity {
         return None;
@@ -191,6 +213,7 @@ fn read_fields(bytes: &[u8]) -> Option<Room> {
     }
     Some(Room {
         capacity,
+        hub,
         versions,
         heads: read_heads(bytes)?,
     })

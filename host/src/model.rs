@@ -5,6 +5,8 @@ use std::cell::{OnceCell, RefCell};
 use std::collections::HashMap;
 
 pub const CONSOLES: usize = 16;
+/// The console through which a room with a hub meets.
+pub const HUB: usize = 0;
 pub const STRIPS: usize = 32;
 pub const MARKS: usize = 16;
 pub const HIGHEST_CAPACITY: usize = 1024;
@@ -24,6 +26,7 @@ pub mod code {
     pub const MERGE: u8 = 0x09;
     pub const FAST_FORWARD: u8 = 0x0A;
     pub const LEAVE: u8 = 0x0B;
+    pub const MAKE_HUB: u8 = 0x0C;
 }
 
 /// The code bytes of tape records.
@@ -33,6 +36,7 @@ pub mod record {
     pub const MERGE: u8 = 0x22;
     pub const HEAD: u8 = 0x23;
     pub const END: u8 = 0x24;
+    pub const HUB: u8 = 0x25;
 }
 
 /// The numbers of the refusals.
@@ -58,6 +62,8 @@ pub mod refusal {
     pub const BUFFER_TOO_SHORT: u32 = 19;
     pub const CONSOLE_0_LEAVES: u32 = 20;
     pub const NO_OTHER_HEAD_DESCENDS: u32 = 21;
+    pub const NOT_THROUGH_HUB: u32 = 22;
+    pub const CANNOT_MAKE_HUB: u32 = 23;
 }
 
 /// The refusal where the condition holds; a `?` behind it ends the caller.
@@ -94,6 +100,8 @@ pub enum Version {
 #[derive(Clone, Debug, PartialEq, Eq)]
 pub struct Room {
     pub capacity: usize,
+    /// Whether console 0 is the hub, through which all meet; once it is, it is for good.
+    pub hub: bool,
     pub versions: Vec<Version>,
     pub heads: [Option<usize>; CONSOLES],
 }
@@ -105,6 +113,7 @@ impl Room {
         heads[0] = Some(0);
         Room {
             capacity,
+            hub: false,
             versions: vec![Version::Start],
             heads,
         }
@@ -220,8 +229,12 @@ impl<'a> Ancestry<'a> {
 
 /// The common version of two present consoles; of a console with itself, its head.
 pub fn common_version(room: &Room, first: usize, second: usize) -> Option<usize> {
-    let (one, other) = (room.head(first)?, room.head(second)?);
-    Ancestry::new(room).lowest_common(one, other)
+    common_by(room, &Ancestry::new(room), first, second)
+}
+
+/// The same, with the room's ancestries lent by a caller who needs them again.
+fn common_by(room: &Room, ancestry: &Ancestry, first: usize, second: usize) -> Option<usize> {
+    ancestry.lowest_common(room.head(first)?, room.head(second)?)
 }
 
 /// The number of entries among the ancestors of a present console's head.
@@ -491,6 +504,7 @@ pub fn sound_by(room: &Room, ancestry: &Ancestry) -> bool {
         && every_merge_has_a_base(room, ancestry)
         && every_two_heads_have_a_common_version(room, ancestry)
         && every_version_is_an_ancestor_of_a_head(room, ancestry)
+        && (!room.hub || can_make_hub(room, ancestry))
 }
 
 pub fn capacity_is_in_range(capacity: usize) -> bool {
@@ -577,6 +591,22 @@ fn every_version_is_an_ancestor_of_a_head(room: &Room, ancestry: &Ancestry) -> b
     })
 }
 
+/// Whether console 0 can be the hub: the common version of every two present consoles is an ancestor of its head.
+fn can_make_hub(room: &Room, ancestry: &Ancestry) -> bool {
+    let Some(hub_head) = room.head(HUB) else {
+        return false;
+    };
+    let is_behind_hub = |one: usize, other: usize| {
+        common_by(room, ancestry, one, other)
+            .is_some_and(|common| ancestry.is_ancestor(common, hub_head))
+    };
+    let present = room.present();
+    present.iter().all(|&one| {
+        let mut others = present.iter().filter(|&&other| other != one);
+        others.all(|&other| is_behind_hub(one, other))
+    })
+}
+
 // ---------------------------------------------------------------- commands
 
 #[derive(Clone, Copy, Debug, PartialEq, Eq)]
@@ -602,9 +632,10 @@ pub enum Command {
     Leave {
         console: usize,
     },
+    MakeHub,
 }
 
-/// The length of a command, which its code alone decides; nothing for a code outside 01 to 0B.
+/// The length of a command, which its code alone decides; nothing for a code outside 01 to 0C.
 pub fn command_length(command_code: u8) -> Option<usize> {
     match command_code {
         code::FORK => Some(3),
@@ -613,6 +644,7 @@ pub fn command_length(command_code: u8) -> Option<usize> {
         code::CALL_COUNTED | code::ALERT_ON | code::ALERT_OFF => Some(3),
         code::MERGE | code::FAST_FORWARD => Some(3),
         code::LEAVE => Some(2),
+        code::MAKE_HUB => Some(1),
         _ => None,
     }
 }
@@ -669,23 +701,25 @@ fn split_command(bytes: &[u8]) -> Option<Command> {
         [code::LEAVE, console] => Some(Command::Leave {
             console: usize::from(console),
         }),
+        [code::MAKE_HUB] => Some(Command::MakeHub),
         _ => None,
     }
 }
 
-/// The consoles that a command names: two, or the one of an entry or a leave.
-fn named_consoles(command: &Command) -> (usize, Option<usize>) {
+/// The consoles that a command names: two, the one of an entry or a leave, or none.
+fn named_consoles(command: &Command) -> Vec<usize> {
     match *command {
-        Command::Fork { new, old } => (new, Some(old)),
-        Command::Entry { console, .. } | Command::Leave { console } => (console, None),
-        Command::Merge { receiver, giver } => (receiver, Some(giver)),
-        Command::FastForward { receiver, giver } => (receiver, Some(giver)),
+        Command::Fork { new, old } => vec![new, old],
+        Command::Entry { console, .. } | Command::Leave { console } => vec![console],
+        Command::Merge { receiver, giver } => vec![receiver, giver],
+        Command::FastForward { receiver, giver } => vec![receiver, giver],
+        Command::MakeHub => vec![],
     }
 }
 
 fn names_too_high_console(command: &Command) -> bool {
-    let (first, second) = named_consoles(command);
-    first >= CONSOLES || second.is_some_and(|console| console >= CONSOLES)
+    let mut named = named_consoles(command).into_iter();
+    named.any(|console| console >= CONSOLES)
 }
 
 fn names_too_high_strip(command: &Command) -> bool {
@@ -697,11 +731,10 @@ fn has_too_high_operand(command: &Command) -> bool {
 }
 
 fn names_same_console_twice(command: &Command) -> bool {
-    let (first, second) = named_consoles(command);
-    second == Some(first)
+    matches!(named_consoles(command)[..], [first, second] if first == second)
 }
 
-/// The room after a decoded command, or the first that applies of the refusals 12 to 18 and then 21.
+/// The room after a decoded command, or the first that applies of the refusals 12, 13, 22, 14 to 18, 21 and 23.
 pub fn step(room: &Room, command: &Command) -> Result<Room, u32> {
     match *command {
         Command::Fork { new, old } => fork(room, new, old),
@@ -723,6 +756,7 @@ pub fn step(room: &Room, command: &Command) -> Result<Room, u32> {
         Command::Merge { receiver, giver } => merge(room, receiver, giver),
         Command::FastForward { receiver, giver } => fast_forward(room, receiver, giver),
         Command::Leave { console } => leave(room, console),
+        Command::MakeHub => make_hub(room),
     }
 }
 
@@ -743,12 +777,20 @@ fn named_head(room: &Room, console: usize) -> Result<usize, u32> {
 fn fork(room: &Room, new: usize, old: usize) -> Result<Room, u32> {
     let head = named_head(room, old)?;
     refuse_if(room.head(new).is_some(), refusal::NEW_CONSOLE_PRESENT)?;
+    refuse_if(room.hub && old != HUB, refusal::NOT_THROUGH_HUB)?;
     Ok(with_head(room, new, Some(head)))
 }
 
+/// The heads of receiver and giver, or refusal 12, or 22 in a room with a hub that is neither of them.
+fn heads_of_two(room: &Room, receiver: usize, giver: usize) -> Result<(usize, usize), u32> {
+    let heads = (named_head(room, receiver)?, named_head(room, giver)?);
+    let is_through_hub = receiver == HUB || giver == HUB;
+    refuse_if(room.hub && !is_through_hub, refusal::NOT_THROUGH_HUB)?;
+    Ok(heads)
+}
+
 fn fast_forward(room: &Room, receiver: usize, giver: usize) -> Result<Room, u32> {
-    let receiver_head = named_head(room, receiver)?;
-    let giver_head = named_head(room, giver)?;
+    let (receiver_head, giver_head) = heads_of_two(room, receiver, giver)?;
     let ancestry = Ancestry::new(room);
     refuse_if(
         ancestry.is_ancestor(giver_head, receiver_head),
@@ -762,8 +804,7 @@ fn fast_forward(room: &Room, receiver: usize, giver: usize) -> Result<Room, u32>
 }
 
 fn merge(room: &Room, receiver: usize, giver: usize) -> Result<Room, u32> {
-    let receiver_head = named_head(room, receiver)?;
-    let giver_head = named_head(room, giver)?;
+    let (receiver_head, giver_head) = heads_of_two(room, receiver, giver)?;
     let ancestry = Ancestry::new(room);
     refuse_if(
         ancestry.is_ancestor(giver_head, receiver_head),
@@ -799,6 +840,15 @@ fn leave(room: &Room, console: usize) -> Result<Room, u32> {
     Ok(without)
 }
 
+/// Console 0 becomes the hub, or stays it.
+fn make_hub(room: &Room) -> Result<Room, u32> {
+    let is_possible = can_make_hub(room, &Ancestry::new(room));
+    refuse_if(!is_possible, refusal::CANNOT_MAKE_HUB)?;
+    let mut changed = room.clone();
+    changed.hub = true;
+    Ok(changed)
+}
+
 /// For some third console, its common versions with receiver and giver are neither an ancestor of the other.
 fn some_third_console_is_torn(
     room: &Room,
@@ -806,9 +856,7 @@ fn some_third_console_is_torn(
     receiver: usize,
     giver: usize,
 ) -> bool {
-    let common = |one: usize, other: usize| -> Option<usize> {
-        ancestry.lowest_common(room.head(one)?, room.head(other)?)
-    };
+    let common = |one: usize, other: usize| common_by(room, ancestry, one, other);
     let torn = |third: usize| match (common(third, receiver), common(third, giver)) {
         (Some(one), Some(other)) => {
             !ancestry.is_ancestor(one, other) && !ancestry.is_ancestor(other, one)
@@ -929,6 +977,9 @@ pub fn tape_of(room: &Room) -> Vec<u8> {
         push_version(&mut tape, version);
     }
     push_heads(&mut tape, room);
+    if room.hub {
+        tape.push(record::HUB);
+    }
     tape.push(record::END);
     tape
 }
@@ -977,17 +1028,19 @@ pub fn room_of_tape(tape: &[u8]) -> Result<Room, u32> {
     Ok(room)
 }
 
-/// What a tape says, in any range: version 0 and the versions of its records, and its head records in order.
+/// What a tape says, in any range: version 0 and the versions of its records, its head records in order, and whether it names the hub.
 struct WrittenTape {
     capacity: usize,
     versions: Vec<Version>,
     heads: Vec<(usize, usize)>,
+    hub: bool,
 }
 
 enum Record {
     Capacity(usize),
     Version(Version),
     Head { console: usize, version: usize },
+    Hub,
     End,
 }
 
@@ -1021,24 +1074,27 @@ fn split_record(tape: &[u8]) -> Option<(Record, &[u8])> {
             };
             Some((head, rest))
         }
+        [record::HUB, ref rest @ ..] => Some((Record::Hub, rest)),
         [record::END, ref rest @ ..] => Some((Record::End, rest)),
         _ => None,
     }
 }
 
-/// The tape as capacity, versions, at least one head, and the end, in this order; nothing for any other bytes.
+/// The tape as capacity, versions, at least one head, the hub where it is named, and the end, in this order; nothing for any other bytes.
 fn split_tape(tape: &[u8]) -> Option<WrittenTape> {
     let (Record::Capacity(capacity), mut rest) = split_record(tape)? else {
         return None;
     };
     let mut versions = vec![Version::Start];
     let mut heads = Vec::new();
+    let mut hub = false;
     loop {
         let (next, behind) = split_record(rest)?;
         rest = behind;
         match next {
             Record::Version(version) if heads.is_empty() => versions.push(version),
-            Record::Head { console, version } => heads.push((console, version)),
+            Record::Head { console, version } if !hub => heads.push((console, version)),
+            Record::Hub if !heads.is_empty() && !hub => hub = true,
             Record::End if !heads.is_empty() && rest.is_empty() => break,
             _ => return None,
         }
@@ -1047,6 +1103,7 @@ fn split_tape(tape: &[u8]) -> Option<WrittenTape> {
         capacity,
         versions,
         heads,
+        hub,
     })
 }
 
@@ -1085,6 +1142,7 @@ fn room_as_written(written: WrittenTape) -> Room {
     }
     Room {
         capacity: written.capacity,
+        hub: written.hub,
         versions: written.versions,
         heads,
     }

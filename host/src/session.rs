@@ -3,7 +3,7 @@
 use crate::calls::{self, Told};
 use crate::compare::Outcome;
 use crate::gen;
-use crate::model::{decode, refusal, Room};
+use crate::model::{code, decode, refusal, Room};
 use crate::rng::Rng;
 use std::fmt;
 use std::io::{self, Write};
@@ -73,20 +73,21 @@ fn ends(command: &[u8]) -> bool {
     refusal == Some(refusal::NO_SUCH_COMMAND) || refusal == Some(refusal::WRONG_LENGTH)
 }
 
-/// An input: commands of which most are accepted, whole or cut or with a byte changed, or garbage. In half of them consoles come and go.
+/// An input: commands of which most are accepted, whole or cut or with a byte changed, or garbage. In a third of them consoles come and go,
+/// and a third are for a room with a hub.
 fn some_input(rng: &mut Rng) -> Vec<u8> {
     let length = rng.below(120);
-    let (mut commands, _) = if rng.chance(50) {
-        gen::command_sequence(rng, 64, length)
-    } else {
-        gen::turnover_from(rng, Room::opened(64), 2 * length)
+    let (mut commands, _) = match rng.below(3) {
+        0 => gen::command_sequence(rng, 64, length),
+        1 => gen::turnover_from(rng, Room::opened(64), 3 * length),
+        _ => gen::hub_sequence(rng, 64, 2 * length),
     };
     commands.retain(|command| !ends(command));
     let mut input = commands.concat();
     match rng.below(6) {
         0 => input.truncate(rng.below(input.len() + 1)),
         1 => input = gen::garbage(rng, 40),
-        2 => input = (0..rng.below(60)).map(|_| rng.below(13) as u8).collect(),
+        2 => input = (0..rng.below(60)).map(|_| rng.below(14) as u8).collect(),
         3 => {
             let place = rng.below(input.len());
             if let Some(byte) = input.get_mut(place) {
@@ -98,24 +99,42 @@ fn some_input(rng: &mut Rng) -> Vec<u8> {
     input
 }
 
-/// How many inputs and lines were compared, how many accepted leaves were among them, and how many inputs had merges that clashed.
+/// How many inputs and lines were compared; how many accepted leaves and hubs, commands past the hub and refused hubs were among them; and
+/// how many inputs had merges that clashed.
 #[derive(Default)]
 pub struct Compared {
     inputs: usize,
     lines: usize,
     leaves: usize,
+    hubs: usize,
+    past_hub: usize,
+    hubs_refused: usize,
     clashing: usize,
 }
 
 impl Compared {
     fn note(&mut self, session: &Told) {
-        let lines = session.printed.lines();
         self.inputs += 1;
-        self.lines += lines.clone().count();
-        // After no other accepted command is the console in the first operand absent.
-        let is_leave = |line: &&str| line.ends_with(" 0 -");
-        self.leaves += lines.filter(is_leave).count();
+        self.lines += session.printed.lines().count();
         self.clashing += usize::from(session.clashes > 0);
+        for answered in &session.answers {
+            match *answered {
+                (code::LEAVE, 0) => self.leaves += 1,
+                (code::MAKE_HUB, 0) => self.hubs += 1,
+                (_, refusal::NOT_THROUGH_HUB) => self.past_hub += 1,
+                (_, refusal::CANNOT_MAKE_HUB) => self.hubs_refused += 1,
+                _ => {}
+            }
+        }
+    }
+
+    /// Whether there was enough of everything in so many random inputs.
+    fn is_enough(&self, count: usize) -> bool {
+        self.leaves >= count
+            && self.hubs >= count / 10
+            && self.past_hub >= count / 10
+            && self.hubs_refused >= count / 30
+            && self.clashing >= count / 10
     }
 }
 
@@ -123,14 +142,20 @@ impl fmt::Display for Compared {
     fn fmt(&self, out: &mut fmt::Formatter) -> fmt::Result {
         write!(
             out,
-            "{} inputs, {} lines, {} accepted leaves, {} inputs with clashes",
-            self.inputs, self.lines, self.leaves, self.clashing
+            "{} inputs, {} lines, {} accepted leaves, {} accepted hubs, {} commands past the hub, {} hubs refused, {} inputs with clashes",
+            self.inputs,
+            self.lines,
+            self.leaves,
+            self.hubs,
+            self.past_hub,
+            self.hubs_refused,
+            self.clashing
         )
     }
 }
 
 /// Compares the program with the model on the paper's session, cut at every place, and on so many random inputs, in which there must
-/// be as many accepted leaves at least, and clashes in one of ten.
+/// be enough of what is counted.
 pub fn compare_program(program: &Path, seed: u64, count: usize) -> Outcome<Compared> {
     let mut compared = Compared::default();
     compare_input(program, &PAPER_INPUT, PAPER_LINES)?;
@@ -142,7 +167,7 @@ pub fn compare_program(program: &Path, seed: u64, count: usize) -> Outcome<Compa
         compare_input(program, &input, &expected.printed)?;
         compared.note(&expected);
     }
-    if compared.leaves < count || compared.clashing < count / 10 {
+    if !compared.is_enough(count) {
         return Err(format!("seed {seed}: too little in {compared}"));
     }
     Ok(compared)

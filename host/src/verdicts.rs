@@ -2,17 +2,30 @@
 
 use crate::calls::Reply;
 use crate::implementations::Calls;
-use crate::layout::is_full;
-use crate::model::{code, refusal, Verdict, CONSOLES};
+use crate::layout::{has_hub, is_full};
+use crate::model::{code, refusal, Verdict, CONSOLES, HUB};
 
 /// The answer for this sound store, where the commands bear it out; else the difference in words.
 pub fn check(calls: &Calls, store: &[u8]) -> Result<Verdict, String> {
     let reply = (calls.mergeable)(store);
     let due = by_commands(calls, store)?;
-    if reply.verdict() == Some(due) {
+    if has_hub(store) && !is_through_hub(due) {
+        Err(format!("{due:?} by the commands, though there is a hub"))
+    } else if reply.verdict() == Some(due) {
         Ok(due)
     } else {
         Err(format!("{due:?} by the commands, {reply:?} answered"))
+    }
+}
+
+/// Whether this can be where there is a hub: nothing is stuck there, and of two that meet one is console 0.
+fn is_through_hub(verdict: Verdict) -> bool {
+    match verdict {
+        Verdict::AllAgree => true,
+        Verdict::Stuck => false,
+        Verdict::Merge { receiver, giver } | Verdict::FastForward { receiver, giver } => {
+            receiver == HUB || giver == HUB
+        }
     }
 }
 

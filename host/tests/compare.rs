@@ -1,5 +1,5 @@
-// The unit and the fast implementation against the model, on fewer cases than the program `compare` runs; and some that count wrongly
-// or name a wrong pair, which must be found.
+// The unit and the fast implementation against the model, on fewer cases than the program `compare` runs; and some that count wrongly,
+// name a wrong pair or mistake a hub, which must be found.
 
 use room_host::calls::Reply;
 use room_host::compare::{compare, seed, Effort};
@@ -18,8 +18,9 @@ fn assert_differs(wrong: Calls) {
     let found = compare(wrong, seed(), EFFORT).err();
     let difference = found.unwrap_or_default();
     let name = wrong.name;
+    let differs = ["replies differ", "store differs"];
     assert!(
-        difference.contains("replies differ"),
+        differs.iter().any(|differs| difference.contains(differs)),
         "{name}: {difference}"
     );
 }
@@ -250,4 +251,178 @@ fn the_right_pair_by_trying_is_no_difference() {
         first_pair(store, receivers_first, &[0, 18])
     });
     compare(trying, seed(), EFFORT).expect("no difference");
+}
+
+// ---------------------------------------------------------------- hubs
+
+/// The low byte of the hub's field.
+const HUB_LOW_BYTE: usize = 3;
+
+fn has_hub(store: &[u8]) -> bool {
+    store.get(HUB_LOW_BYTE) == Some(&1)
+}
+
+/// A copy of the store with another value of the hub's field.
+fn with_hub(store: &[u8], hub: u8) -> Vec<u8> {
+    let mut changed = store.to_vec();
+    if let Some(field) = changed.get_mut(HUB_LOW_BYTE) {
+        *field = hub;
+    }
+    changed
+}
+
+/// Obeys as if there were no hub, and puts it back.
+fn past_hub(store: &mut [u8], command: &[u8]) -> Reply {
+    let mut free = with_hub(store, 0);
+    let reply = fast::command(&mut free, command);
+    store.copy_from_slice(&with_hub(&free, store[HUB_LOW_BYTE]));
+    reply
+}
+
+/// The reply of the fast implementation, or another one where it has this answer, the command this code and the store a hub.
+fn answered(
+    store: &mut [u8],
+    command: &[u8],
+    (answer, code): (u32, u8),
+    other: fn(&mut [u8], &[u8]) -> Reply,
+) -> Reply {
+    let reply = fast::command(store, command);
+    let is_meant = reply.answer == answer && command.first() == Some(&code) && has_hub(store);
+    if is_meant {
+        other(store, command)
+    } else {
+        reply
+    }
+}
+
+fn refused(answer: u32) -> Reply {
+    Reply { answer, count: 0 }
+}
+
+/// Commands that mistake the hub.
+const MISLED: [(&str, CommandCall); 10] = [
+    ("forks past the hub", |store, command| {
+        answered(store, command, (22, 0x01), past_hub)
+    }),
+    ("merges past the hub", |store, command| {
+        answered(store, command, (22, 0x09), past_hub)
+    }),
+    ("fast-forwards past the hub", |store, command| {
+        answered(store, command, (22, 0x0A), past_hub)
+    }),
+    ("14 before 22", |store, command| {
+        answered(store, command, (22, 0x09), |store, command| {
+            let free = fast::command(&mut with_hub(store, 0), command);
+            refused(if free.answer == 14 { 14 } else { 22 })
+        })
+    }),
+    ("22 before 12", |store, command| {
+        answered(store, command, (12, 0x0A), |_, command| {
+            let is_past_hub = command[1] != 0 && command[2] != 0;
+            refused(if is_past_hub { 22 } else { 12 })
+        })
+    }),
+    ("22 before 13", |store, command| {
+        answered(store, command, (13, 0x01), |_, command| {
+            refused(if command[2] != 0 { 22 } else { 13 })
+        })
+    }),
+    ("a hub twice", |store, command| {
+        let had_hub = has_hub(store);
+        let reply = fast::command(store, command);
+        match (reply.answer, command) {
+            (0, [0x0C]) if had_hub => refused(23),
+            _ => reply,
+        }
+    }),
+    ("a hub that is only acknowledged", |store, command| {
+        answered(store, command, (0, 0x0C), |store, _| {
+            store[HUB_LOW_BYTE] = 0;
+            refused(0)
+        })
+    }),
+    ("a hub that any room can have", |store, command| {
+        let reply = fast::command(store, command);
+        if reply.answer == 23 {
+            store[HUB_LOW_BYTE] = 1;
+            return refused(0);
+        }
+        reply
+    }),
+    ("a hub that goes with a leave", |store, command| {
+        answered(store, command, (0, 0x0B), |store, _| {
+            store[HUB_LOW_BYTE] = 0;
+            refused(0)
+        })
+    }),
+];
+
+/// The reply to a tape without the hub that it ends with, which is put into the store, where the tape gave this answer.
+fn resumed_past_hub(tape: &[u8], store: &mut [u8], answer: u32, hub: u8) -> Reply {
+    let reply = fast::resume(tape, store);
+    let [without @ .., 0x25, 0x24] = tape else {
+        return reply;
+    };
+    if reply.answer != answer {
+        return reply;
+    }
+    let again = fast::resume(&[without, &[0x24]].concat(), store);
+    if again.answer == 0 {
+        store[HUB_LOW_BYTE] = hub;
+    }
+    again
+}
+
+/// Tapes, pauses and stores that mistake the hub.
+fn mistaken() -> [Calls; 6] {
+    let resuming = |name, resume| Calls {
+        name,
+        resume,
+        ..FAST
+    };
+    [
+        resuming("a tape's hub is let go", |tape, store| {
+            resumed_past_hub(tape, store, 0, 0)
+        }),
+        resuming("a tape's hub is not judged", |tape, store| {
+            resumed_past_hub(tape, store, 10, 1)
+        }),
+        resuming("a hub twice on a tape", |tape, store| {
+            resumed_past_hub(tape, store, 7, 1)
+        }),
+        Calls {
+            name: "a tape without the hub",
+            pause: |store, tape| fast::pause(&with_hub(store, 0), tape),
+            ..FAST
+        },
+        Calls {
+            name: "a store's hub is not judged",
+            heard: |store, console| fast::heard(&with_hub(store, 0), console),
+            ..FAST
+        },
+        Calls {
+            name: "only the low byte of the hub's field is read",
+            heard: |store, console| {
+                let mut low = store.to_vec();
+                if let Some(high) = low.get_mut(HUB_LOW_BYTE - 1) {
+                    *high = 0;
+                }
+                fast::heard(&low, console)
+            },
+            ..FAST
+        },
+    ]
+}
+
+#[test]
+fn a_mistaken_hub_is_found() {
+    for (name, command) in MISLED {
+        let misled = Calls {
+            name,
+            command,
+            ..FAST
+        };
+        assert_differs(misled);
+    }
+    mistaken().into_iter().for_each(assert_differs);
 }

@@ -4,7 +4,7 @@ use room_host::gen;
 use room_host::layout::{self, encode};
 use room_host::model::{
     cell_origin, decode, parents, reported, room_of_tape, sound, sound_boards, step, tape_of,
-    verdict, Ancestry, Board, Cell, Command, Entry, Room, Verdict, Version, Worked, CONSOLES,
+    verdict, Ancestry, Board, Cell, Command, Entry, Room, Verdict, Version, Worked, CONSOLES, HUB,
     STRIPS,
 };
 use room_host::rng::Rng;
@@ -47,6 +47,11 @@ fn every_step_keeps_the_room_sound() {
     }
 }
 
+/// Whether no hub stands between these two.
+fn is_met(room: &Room, receiver: usize, giver: usize) -> bool {
+    !room.hub || receiver == HUB || giver == HUB
+}
+
 /// The room with this merge, whatever would refuse it.
 fn forced_merge(room: &Room, receiver: usize, giver: usize) -> Room {
     let head = |console: usize| room.head(console).expect("the console is present");
@@ -60,7 +65,7 @@ fn forced_merge(room: &Room, receiver: usize, giver: usize) -> Room {
     forced
 }
 
-/// Refusal 17 stands exactly where the merge would leave two heads without a common version.
+/// Refusal 17 stands exactly where the merge would leave two heads without a common version. With a hub the merges through it are looked at.
 #[test]
 fn refusal_17_is_exact() {
     let rooms = gen::random_rooms(4, 60);
@@ -74,7 +79,7 @@ fn refusal_17_is_exact() {
         room.present().into_iter().flat_map(pairs).map(merge)
     });
     let (mut torn, mut merged) = (0, 0);
-    for (room, receiver, giver) in merges {
+    for (room, receiver, giver) in merges.filter(|&(room, one, other)| is_met(room, one, other)) {
         let is_sound = sound(&forced_merge(room, receiver, giver));
         match step(room, &Command::Merge { receiver, giver }) {
             Ok(_) | Err(18) => {
@@ -206,6 +211,17 @@ fn sound_clause_by_clause() {
     assert!(!sound(&nothing));
 }
 
+#[test]
+fn sound_with_a_hub() {
+    // 1 and 2 have version 1 in common.
+    let mut with_hub = small_room(&[call_on(0)], &[Some(0), Some(1), Some(1)]);
+    assert!(sound(&with_hub));
+    with_hub.hub = true;
+    assert!(!sound(&with_hub), "console 0 is on version 0");
+    with_hub.heads[0] = Some(1);
+    assert!(sound(&with_hub));
+}
+
 /// For each version the set of its ancestors, made of its parents' sets.
 fn ancestor_sets(room: &Room) -> Vec<BTreeSet<usize>> {
     let mut sets: Vec<BTreeSet<usize>> = Vec::new();
@@ -217,11 +233,22 @@ fn ancestor_sets(room: &Room) -> Vec<BTreeSet<usize>> {
     sets
 }
 
+/// Whether a hub can be there, told by sets: what two other heads have heard alike console 0 has heard too.
+fn hub_by_sets(room: &Room, sets: &[BTreeSet<usize>]) -> bool {
+    let heads = room.present_heads();
+    let is_heard =
+        |one: usize, other: usize| (&sets[one] & &sets[other]).is_subset(&sets[heads[0]]);
+    (0..heads.len()).all(|one| (0..one).all(|other| is_heard(heads[one], heads[other])))
+}
+
 /// Soundness of a graph whose fields are in range, told in another way: the ancestors that two versions share are
 /// exactly the ancestors of some one version.
 fn sound_by_sets(room: &Room) -> bool {
     let count = room.versions.len();
     let sets = ancestor_sets(room);
+    if room.hub && !hub_by_sets(room, &sets) {
+        return false;
+    }
     let shared = |one: usize, other: usize| -> Option<usize> {
         let both: BTreeSet<usize> = sets[one].intersection(&sets[other]).copied().collect();
         (0..count).find(|&version| sets[version] == both)
@@ -457,6 +484,7 @@ fn verdicts_by_sets(room: &Room) -> Vec<Verdict> {
         .collect();
     let pairs = (0..heads.len()).flat_map(|one| (0..heads.len()).map(move |other| (one, other)));
     pairs
+        .filter(|&(one, other)| is_met(room, heads[one].0, heads[other].0))
         .filter_map(|(one, other)| verdict_by_sets(&heads, one, other))
         .collect()
 }
@@ -555,6 +583,120 @@ fn the_last_two_keep_the_others_apart() {
     assert_eq!(answers_without(&[14, 15]), BTreeSet::from([0]));
 }
 
+// ---------------------------------------------------------------- rooms with a hub
+
+/// So many rooms with a hub.
+fn hub_rooms(seed: u64, count: usize) -> Vec<Room> {
+    let rng = &mut Rng::new(seed);
+    (0..count)
+        .map(|_| {
+            let (capacity, length) = (rng.between(1, 60), rng.below(120));
+            gen::hub_room(rng, capacity, length)
+        })
+        .collect()
+}
+
+/// The same room in which console 0 is no hub.
+fn without_hub(room: &Room) -> Room {
+    Room {
+        hub: false,
+        ..room.clone()
+    }
+}
+
+/// Refusal 23 stands exactly where two consoles have heard something alike that console 0 has not; and all that 0C changes is the hub.
+#[test]
+fn refusal_23_is_exact() {
+    let (mut refused, mut entered) = (0, 0);
+    for room in gen::random_rooms(31, 300) {
+        let after = step(&room, &Command::MakeHub);
+        if hub_by_sets(&room, &ancestor_sets(&room)) {
+            let entering = without_hub(&room);
+            assert_eq!(step(&entering, &Command::MakeHub), after);
+            assert_eq!(after.map(|room| without_hub(&room)), Ok(entering));
+            entered += 1;
+        } else {
+            assert_eq!(after, Err(23));
+            refused += 1;
+        }
+    }
+    assert!(refused > 50 && entered > 50, "{refused} {entered}");
+}
+
+/// What each merge and fast-forward is answered: 22 exactly where neither console is the hub, else as without a hub, and never 17.
+#[test]
+fn a_hub_changes_no_answer_but_to_22() {
+    let mut met = [0; 24];
+    for room in hub_rooms(32, 150) {
+        let present = room.present();
+        let of_two = |one: usize| present.iter().flat_map(move |&other| [(one, other); 2]);
+        let pairs = present.iter().flat_map(|&one| of_two(one));
+        let free_answers = joining_answers(&without_hub(&room), &present);
+        let answers = joining_answers(&room, &present);
+        for (((one, other), free), answer) in pairs.zip(free_answers).zip(answers) {
+            let due = if is_met(&room, one, other) { free } else { 22 };
+            assert_eq!(answer, due, "{one} and {other}: {room:?}");
+            met[answer as usize] += 1;
+        }
+    }
+    assert_eq!(met[17], 0);
+    let often = [0, 14, 15, 16, 18, 22];
+    assert!(often.into_iter().all(|answer| met[answer] > 100), "{met:?}");
+}
+
+/// A room that can have a hub names the same two with it and without it, and is never stuck.
+#[test]
+fn a_hub_changes_no_verdict() {
+    let mut met = [0; 4];
+    for room in hub_rooms(33, 200) {
+        let found = verdict(&room);
+        assert_eq!(found, verdict(&without_hub(&room)), "{room:?}");
+        met[found.number() / 256] += 1;
+    }
+    let [agreeing, stuck, merging, forwarding] = met;
+    assert_eq!(stuck, 0);
+    assert!(agreeing > 10 && merging > 20 && forwarding > 20, "{met:?}");
+}
+
+/// A hub is for good, and every step keeps it possible.
+#[test]
+fn every_step_keeps_the_hub() {
+    let mut rng = Rng::new(34);
+    let (mut hubs, mut steps) = (0, 0);
+    for _ in 0..30 {
+        let opened = Room::opened(48);
+        let (commands, _) = gen::hub_from(&mut rng, opened.clone(), 150);
+        let mut had_hub = false;
+        for (command, room) in accepted_from(opened, commands) {
+            assert!(sound(&room) && sound_by_sets(&room), "{command:02X?}");
+            assert!(room.hub || !had_hub, "{command:02X?}");
+            had_hub = room.hub;
+            steps += usize::from(had_hub);
+        }
+        hubs += usize::from(had_hub);
+    }
+    assert!(hubs > 25 && steps > 1000, "{hubs} {steps}");
+}
+
+/// With n consoles and n - 1 versions free at most 2(n - 1) commands, all accepted, bring all to one head.
+#[test]
+fn a_hub_gathers_all() {
+    let mut longest = 0;
+    for mut room in hub_rooms(35, 200) {
+        let others = room.present().len() - 1;
+        room.capacity = room.versions.len() + others;
+        let commands = gen::gathering(&room);
+        let count = commands.len();
+        assert!(count <= 2 * others);
+        let steps = accepted_from(room.clone(), commands);
+        assert_eq!(steps.len(), count, "{room:?}");
+        let (_, gathered) = steps.last().cloned().unwrap_or((vec![], room));
+        assert_eq!(verdict(&gathered), Verdict::AllAgree);
+        longest = longest.max(count);
+    }
+    assert!(longest > 12, "{longest}");
+}
+
 // ---------------------------------------------------------------- the generators
 
 #[test]
@@ -582,6 +724,26 @@ fn full_rooms_with_a_merge_in_every_second_place() {
         }));
         assert_eq!(layout::read(&encode(&room)), Some(room));
     }
+}
+
+#[test]
+fn full_rooms_through_a_hub() {
+    for capacity in [64, 256, 1024] {
+        let room = gen::full_through_hub(&mut Rng::new(36), capacity);
+        assert!(room.hub && sound(&room));
+        assert_eq!(room.versions.len(), capacity);
+        assert_eq!(room.present().len(), CONSOLES);
+        let merges = capacity - 1 - entry_count(&room);
+        assert_eq!(merges, capacity / 2 - 1);
+    }
+}
+
+#[test]
+fn rooms_with_a_hub_are_sound() {
+    let rooms = hub_rooms(37, 200);
+    assert!(rooms.iter().all(|room| room.hub && sound(room)));
+    let merges = |room: &Room| room.versions.len() - 1 - entry_count(room);
+    assert!(rooms.iter().filter(|room| merges(room) > 0).count() > 50);
 }
 
 #[test]
@@ -624,11 +786,13 @@ fn entry_count(room: &Room) -> usize {
 #[test]
 fn most_commands_of_a_sequence_are_accepted() {
     let mut rng = Rng::new(15);
-    let mut accepted_codes = [0; 12];
+    let mut accepted_codes = [0; 13];
     for (command, _) in (0..20).flat_map(|_| accepted_steps(&mut rng, 64, 100)) {
         accepted_codes[usize::from(command[0])] += 1;
     }
-    assert!(accepted_codes[1..].iter().all(|&count| count > 50));
+    assert!(accepted_codes[1..12].iter().all(|&count| count > 50));
+    // A hub is for good, and would be in most rooms if it were made more often.
+    assert!(accepted_codes[12] < 10);
     assert!(accepted_codes.iter().sum::<usize>() > 1400);
 }
 

@@ -36,9 +36,11 @@ fn open_into_null() {
 
 #[test]
 fn command_on_a_null_store() {
-    let commands: [(&[u8], u32); 8] = [
+    let commands: [(&[u8], u32); 10] = [
         (&CALL_COUNTED, 11),
-        (&[0x0C, 0, 0], 1),
+        (&[0x0D, 0, 0], 1),
+        (&[0x0C, 0], 2),
+        (&[0x0C], 11),
         (&[0x06, 0], 2),
         (&[0x06, 16, 0], 3),
         (&[0x0B, 0, 0], 2),

@@ -13,6 +13,7 @@ mod model {
     mod bytes;
     mod cases;
     mod clashes;
+    mod hub;
     mod leaving;
     mod mergeable;
     mod origins;
@@ -28,6 +29,7 @@ mod unit {
     mod bytes;
     mod cases;
     mod clashes;
+    mod hub;
     mod leaving;
     mod mergeable;
     mod origins;
@@ -43,6 +45,7 @@ mod fast {
     mod bytes;
     mod cases;
     mod clashes;
+    mod hub;
     mod leaving;
     mod mergeable;
     mod origins;

@@ -8,7 +8,7 @@ use room_host::rng::Rng;
 use room_host::session::{compare_program, printed, program};
 
 /// Inputs and what is printed for them.
-const SESSIONS: [(&[u8], &str); 19] = [
+const SESSIONS: [(&[u8], &str); 23] = [
     (
         &[
             0x01, 0x01, 0x00, 0x02, 0x00, 0x05, 0x00, 0x64, 0x06, 0x01, 0x05, 0x09, 0x00, 0x01,
@@ -21,7 +21,7 @@ const SESSIONS: [(&[u8], &str); 19] = [
     (&[0x06], "1 2 -\nend 1\n"),
     (&[0x06, 0x01], "1 2 -\nend 1\n"),
     (&[0x06, 0x10], "1 2 -\nend 1\n"),
-    (&[0x0C, 0x00, 0x00], "1 1 -\nend 1\n"),
+    (&[0x0D, 0x00, 0x00], "1 1 -\nend 1\n"),
     (&[0x00], "1 1 -\nend 1\n"),
     (&[0x06, 0x10, 0x00], "1 3 -\nend 1\n"),
     (&[0x06, 0, 32, 0x06, 0, 31], "1 4 0\n2 0 1\nend 2\n"),
@@ -49,6 +49,22 @@ const SESSIONS: [(&[u8], &str); 19] = [
     ),
     // The input ends in the middle of a leave.
     (&[0x01, 1, 0, 0x0B], "1 0 0\n2 2 -\nend 1\n"),
+    // A hub has no operand; what follows is the next command.
+    (&[0x0C], "1 0 -\nend 1\n"),
+    (&[0x0C, 0], "1 0 -\n2 1 -\nend 1\n"),
+    // With a hub a fork from console 1 is refused, and console 2 stays absent.
+    (
+        &[0x0C, 0x0C, 0x01, 1, 0, 0x01, 2, 1, 0x01, 2, 0],
+        "1 0 -\n2 0 -\n3 0 0\n4 22 -\n5 0 0\nend 1\n",
+    ),
+    // Consoles 1 and 2 have version 1 in common: a hub only once console 0 has it too, and then they don't merge.
+    (
+        &[
+            0x01, 1, 0, 0x06, 1, 5, 0x01, 2, 1, 0x0C, 0x0A, 0, 1, 0x0C, 0x06, 1, 5, 0x09, 2, 1,
+            0x0A, 2, 1,
+        ],
+        "1 0 0\n2 0 1\n3 0 1\n4 23 -\n5 0 1\n6 0 -\n7 0 2\n8 22 1\n9 22 1\nend 3\n",
+    ),
 ];
 
 fn check_lines(print: impl Fn(&[u8]) -> String) {

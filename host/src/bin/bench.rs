@@ -31,14 +31,17 @@ const KINDS: [&str; 2] = ["entries", "merges"];
 
 const MEMCMP: &str = "memcmp_of_the_store";
 const SOUNDNESS: &str = "soundness";
+const WITHOUT_HUB: &str = "without_the_hub";
 
 /// What each of these may be at most, against what: the limits of docs/PERFORMANCE.md.
-const LIMITS: [(&str, &str, f64); 18] = [
+const LIMITS: [(&str, &str, f64); 20] = [
     ("soundness_entries_1024", MEMCMP, 4.5),
     ("soundness_merges_1024", MEMCMP, 13.0),
+    ("soundness_hub_1024", WITHOUT_HUB, 1.05),
     ("entry", SOUNDNESS, 1.3),
     ("merge", SOUNDNESS, 1.3),
     ("leave", SOUNDNESS, 1.3),
+    ("hub", SOUNDNESS, 1.3),
     ("pause_entries_1023", SOUNDNESS, 1.3),
     ("pause_merges_1023", SOUNDNESS, 1.3),
     ("resume_entries_1023", SOUNDNESS, 3.0),
@@ -152,25 +155,32 @@ fn times_of(work: &Work) -> Times {
     let fresh = layout::encode(&work.room);
     let mut store = fresh.clone();
     let mut output = vec![0; tape_of(&work.room).len().max(BOARD_BYTES)];
-    let mut shortest = [f64::MAX; 4];
-    for round in 0..ROUNDS {
-        at_depth(round % DEPTHS, &mut || {
-            let turn = [
-                shortest_of(|| seconds(|| assert!(black_box(&store) == black_box(&fresh)))),
-                shortest_of(|| seconds(|| judge(&store))),
-                shortest_of(|| call_seconds(work, &UNIT, &mut store, &mut output, &fresh)),
-                shortest_of(|| call_seconds(work, &FAST, &mut store, &mut output, &fresh)),
-            ];
-            shortest = array::from_fn(|place| turn[place].min(shortest[place]));
-        });
-    }
-    let [memcmp, soundness, unit, fast] = shortest;
+    let [memcmp, soundness, unit, fast] = by_turns(|| {
+        [
+            shortest_of(|| seconds(|| assert!(black_box(&store) == black_box(&fresh)))),
+            shortest_of(|| seconds(|| judge(&store))),
+            shortest_of(|| call_seconds(work, &UNIT, &mut store, &mut output, &fresh)),
+            shortest_of(|| call_seconds(work, &FAST, &mut store, &mut output, &fresh)),
+        ]
+    });
     Times {
         memcmp,
         soundness,
         unit,
         fast,
     }
+}
+
+/// The shortest time of each thing in many turns.
+fn by_turns<const THINGS: usize>(mut turn: impl FnMut() -> [f64; THINGS]) -> [f64; THINGS] {
+    let mut shortest = [f64::MAX; THINGS];
+    for round in 0..ROUNDS {
+        at_depth(round % DEPTHS, &mut || {
+            let times = turn();
+            shortest = array::from_fn(|place| times[place].min(shortest[place]));
+        });
+    }
+    shortest
 }
 
 /// Does a turn so many small frames further down the stack. The soundness test has boards and quarters of boards there, and took up to a
@@ -243,20 +253,40 @@ fn print_growth(what: &str, per: &str, sizes: [usize; 3], amounts: [usize; 3], t
 /// The soundness test, by the question that costs little else.
 fn bench_soundness(report: &mut Report) {
     for kind in KINDS {
-        let works = CAPACITIES.map(|capacity| Work {
-            what: format!("soundness_{kind}_{capacity}"),
-            call: Call::Common {
-                first: 0,
-                second: 0,
-            },
-            room: full_room(kind, capacity),
-            input: Vec::new(),
+        let works = CAPACITIES.map(|capacity| {
+            let what = format!("soundness_{kind}_{capacity}");
+            soundness_of(what, full_room(kind, capacity))
         });
         let times = works.each_ref().map(|work| bench(report, work));
         let what = format!("soundness_{kind}");
         let lengths = CAPACITIES.map(layout::store_bytes);
         print_growth(&what, "byte", CAPACITIES, lengths, times);
     }
+}
+
+fn soundness_of(what: String, room: Room) -> Work {
+    let (first, second) = (0, 0);
+    Work {
+        what,
+        call: Call::Common { first, second },
+        room,
+        input: Vec::new(),
+    }
+}
+
+/// The soundness test of a full room with a hub, and what the hub adds to it: in one buffer, with and without the hub by turns.
+fn bench_soundness_with_hub(report: &mut Report) {
+    let what = "soundness_hub_1024";
+    let room = gen::full_through_hub(&mut Rng::new(SEED), 1024);
+    let mut store = layout::encode(&room);
+    bench(report, &soundness_of(what.to_string(), room));
+    let [with, without] = by_turns(|| {
+        [1u16, 0].map(|hub| {
+            store[layout::HUB_AT..layout::HUB_AT + 2].copy_from_slice(&hub.to_be_bytes());
+            shortest_of(|| seconds(|| judge(&store)))
+        })
+    });
+    report.judge(what, WITHOUT_HUB, with / without);
 }
 
 /// Resume of tapes of several lengths, and pause of the rooms they give.
@@ -364,11 +394,26 @@ fn bench_calls(report: &mut Report) {
     for (what, input) in commands {
         bench_call(what, Call::Command, input);
     }
+    bench_making_hub(report);
 }
 
-// ---------------------------------------------------------------- a room in which every command is accepted
+/// The command that makes the hub, in a room of 1,000 versions whose consoles met through console 0 alone: the other room refuses it.
+fn bench_making_hub(report: &mut Report) {
+    let mut room = gen::full_through_hub(&mut Rng::new(SEED), 1000);
+    room.capacity = 1024;
+    room.hub = false;
+    let work = Work {
+        what: "hub".to_string(),
+        call: Call::Command,
+        room,
+        input: vec![code::MAKE_HUB],
+    };
+    bench(report, &work);
+}
 
-/// A room of 1,000 versions and 15 consoles, and an accepted command of each kind in it.
+// ---------------------------------------------------------------- a room in which every command but the hub's is accepted
+
+/// A room of 1,000 versions and 15 consoles, and an accepted command of each kind but that in it.
 fn busy_room() -> (Room, [(&'static str, Vec<u8>); 5]) {
     let mut room = full_room("merges", 990);
     room.capacity = 1024;
@@ -417,6 +462,7 @@ fn main() -> ExitCode {
     let mut report = Report::default();
     println!("seed {SEED}");
     bench_soundness(&mut report);
+    bench_soundness_with_hub(&mut report);
     bench_calls(&mut report);
     bench_origins(&mut report);
     bench_mergeable(&mut report);

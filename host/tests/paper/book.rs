@@ -78,7 +78,7 @@ fn some_tape(rng: &mut Rng, store: &Store) -> Vec<u8> {
 fn lists_of_calls_agree_with_the_book() {
     let rng = &mut Rng::new(2);
     let (mut resumes, mut same, mut clashes) = (0, 0, 0);
-    for _ in 0..30 {
+    for _ in 0..40 {
         let opened = Room::opened(rng.between(1, 40));
         let mut kept = Kept::open(opened.capacity);
         kept.say_all(gen::commands_from(rng, opened, 80));
@@ -150,4 +150,44 @@ fn consoles_that_come_and_go_agree_with_the_book() {
         leaves += kept.leaves;
     }
     assert!(leaves > 150 && same > 300, "{leaves} {same}");
+}
+
+/// With 0C said at every step: what is on whose head, and which pairs have heard the same, is worked out by hand.
+#[test]
+fn the_book_has_no_hub() {
+    let mut kept = Kept::open(16);
+    let mut after = |commands: &[&[u8]]| {
+        for command in commands {
+            kept.say(&[0x0C]);
+            kept.say(command);
+        }
+        kept.check()
+    };
+    assert_eq!(after(&[&[0x01, 1, 0], &[0x01, 2, 0]]), 6, "all three");
+    assert_eq!(after(&[&[0x06, 1, 0], &[0x0A, 2, 1]]), 2, "0 and 2 on 0");
+    assert_eq!(after(&[&[0x01, 3, 1], &[0x01, 3, 0]]), 6, "0, 2 and 3 on 0");
+    assert_eq!(after(&[&[0x0A, 0, 1], &[0x0A, 3, 0]]), 6, "0, 1 and 3 on 1");
+    assert_eq!(after(&[&[0x0B, 1], &[0x09, 3, 2]]), 2, "0 and 3 on 1");
+    let tape = kept.store.tape();
+    assert!(tape.ends_with(&[0x25, 0x24]));
+    assert!(kept.resume(&tape));
+    assert_eq!(kept.check(), 2);
+}
+
+/// Long lists in rooms that are to have a hub, with pauses and resumes in between.
+#[test]
+fn rooms_with_a_hub_agree_with_the_book() {
+    let rng = &mut Rng::new(30);
+    let (mut hubs, mut same) = (0, 0);
+    for capacity in [6, 40, 80] {
+        let mut kept = Kept::open(capacity);
+        for _ in 0..6 {
+            kept.say_all(gen::hub_from(rng, kept.room(), 60));
+            same += kept.check();
+            assert!(kept.resume(&kept.store.tape()));
+            same += kept.check();
+            hubs += usize::from(kept.room().hub);
+        }
+    }
+    assert!(hubs > 12 && same > 300, "{hubs} {same}");
 }

@@ -18,7 +18,8 @@ fn the_layout_of_a_small_store() {
     assert_eq!(store.bytes[288..294], [0, 3, 0, 3, 0, 0]);
     store.say_all(&PRINTED_INPUT[4..5]);
     let bytes = &store.bytes;
-    assert_eq!(bytes[..4], [0, 64, 0, 4]);
+    assert_eq!(bytes[..6], [0, 64, 0, 0, 0, 4]);
+    assert!(bytes[6..128].iter().all(|&byte| byte == 0));
     assert_eq!(bytes[128], 0b0110);
     assert_eq!(bytes[256..260], [0, 4, 0, 4]);
     assert_eq!(bytes[288..292], [0, 4, 0, 4]);
@@ -40,13 +41,14 @@ fn the_layout_of_a_small_store() {
 #[test]
 fn the_bytes_of_a_new_store() {
     let mut expected = [0; 4096 + 544];
-    expected[..4].copy_from_slice(&[0, 1, 0, 1]);
+    expected[..6].copy_from_slice(&[0, 1, 0, 0, 0, 1]);
     expected[256..258].copy_from_slice(&[0, 1]);
     expected[4096 + 32] = 1;
     assert_eq!(Store::open(1).bytes[..4640], expected);
 }
 
-/// Every changed bit of a store gives 11, save in the capacity, which may name a smaller sound store.
+/// Every changed bit of a store gives 11, save in the capacity, which may name a smaller sound store. Console 0 can't be the hub there, as 1
+/// and 2 have version 4 in common, which it has not heard.
 #[test]
 fn every_changed_bit_is_seen() {
     let mut store = Store::open(6);
@@ -56,6 +58,7 @@ fn every_changed_bit_is_seen() {
         &[0x06, 1, 5],
         &[0x09, 0, 1],
         &[0x04, 1, 5, 3],
+        &[0x01, 2, 1],
     ]);
     let length = store_bytes(6);
     for bit in 16..8 * length {

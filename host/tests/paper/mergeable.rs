@@ -389,7 +389,7 @@ fn bytes_without_a_store_give_11() {
 fn a_damaged_store_gives_11() {
     let store = stuck_store();
     let block_6 = 4096 + 544 * 6;
-    for place in [4, 256 + 5, 256 + 15, 4095, block_6 + 32, block_6 + 543] {
+    for place in [6, 256 + 5, 256 + 15, 4095, block_6 + 32, block_6 + 543] {
         let mut damaged = store.clone();
         damaged.bytes[place] ^= 1;
         assert_eq!(damaged.mergeable(), refused(11), "{place}");

@@ -16,9 +16,9 @@ fn refusal_1_no_such_command() {
         &[][..],
         &[0x00],
         &[0x00, 2, 0],
-        &[0x0C],
-        &[0x0C, 1],
-        &[0x0C, 0, 0],
+        &[0x0D],
+        &[0x0D, 1],
+        &[0x0D, 0, 0],
         &of_a_tape,
         &[0xFF; 5],
     ];
@@ -29,6 +29,7 @@ fn refusal_1_no_such_command() {
     assert_eq!(store.say(&[0x06, 0, 0]), 0);
     assert_eq!(store.say(&[0x0A, 1, 0]), 0);
     assert_eq!(store.say(&[0x0B, 1]), 0);
+    assert_eq!(store.say(&[0x0C]), 0);
 }
 
 #[test]
@@ -59,6 +60,10 @@ fn refusal_2_length() {
     assert_eq!(store.say(&[0x0B, 1, 0]), 2);
     assert_eq!(store.say(&[0x0B, 0, 0]), 2);
     assert_eq!(store.say(&[0x0B, 1]), 0);
+    assert_eq!(store.say(&[0x0C, 0]), 2);
+    assert_eq!(store.say(&[0x0C, 0x0C]), 2);
+    assert_eq!(store.say(&[0x0C, 0, 0]), 2);
+    assert_eq!(store.say(&[0x0C]), 0);
 }
 
 #[test]
@@ -150,13 +155,14 @@ fn refusal_7_no_tape() {
     assert_eq!(resume(&tape_with(&[&HEAD_0_ON_0, &CALL_ON_0])), 7);
     let merge = [0x22, 0, 0, 0, 0];
     assert_eq!(resume(&tape_with(&[&HEAD_0_ON_0, &merge])), 7);
-    assert_eq!(resume(&tape_with(&[&HEAD_0_ON_0, &[0x25]])), 7);
+    assert_eq!(resume(&tape_with(&[&HEAD_0_ON_0, &[0x26]])), 7);
     let command = [0x06, 0, 0];
     assert_eq!(resume(&tape_with(&[&command, &HEAD_0_ON_0])), 7);
     assert_eq!(resume(&tape_with(&[&[0x20, 4, 0], &HEAD_0_ON_0])), 7);
     assert_eq!(resume(&tape_with(&[&HEAD_0_ON_0, &[0x24]])), 7);
     assert_eq!(resume(&tape_with(&[&[0x25], &HEAD_0_ON_0])), 7);
     assert_eq!(resume(&tape_with(&[&HEAD_0_ON_0])), 0);
+    assert_eq!(resume(&tape_with(&[&HEAD_0_ON_0, &[0x25]])), 0);
 }
 
 #[test]
@@ -284,9 +290,10 @@ fn refusal_11_no_sound_store() {
     assert_eq!(tested::pause(&zeros, &mut [0; 99]), refused(11));
     assert_eq!(tested::board(&zeros, 0, &mut [0; 384]), refused(11));
     assert_eq!(tested::origin(&zeros, 0, 0, 0), refused(11));
-    store.bytes[4] = 1;
+    store.bytes[6] = 1;
     assert_eq!(store.say(&[0x06, 0, 0]), 11);
-    store.bytes[4] = 0;
+    assert_eq!(store.say(&[0x0C]), 11);
+    store.bytes[6] = 0;
     assert_eq!(store.say(&[0x06, 0, 0]), 0);
 }
 
@@ -437,12 +444,42 @@ fn refusal_21_no_other_head_descends() {
     assert_eq!(store.say(&[0x0B, 1]), 12);
 }
 
-/// The order of the tests; it rises but for 20, which comes right after 6.
+/// Through console 0 alone, once it is the hub; the neighbours are accepted in a room without one.
+#[test]
+fn refusal_22_not_through_the_hub() {
+    let past_hub: [&[u8]; 3] = [&[0x01, 3, 1], &[0x09, 1, 2], &[0x0A, 4, 1]];
+    let mut store = Store::open(8);
+    store.say_all(&[&[0x01, 4, 0], &[0x01, 1, 0], &[0x01, 2, 0]]);
+    store.say_all(&[&[0x06, 1, 0], &[0x06, 2, 0], &[0x06, 0, 0]]);
+    for command in past_hub {
+        assert_eq!(store.clone().say(command), 0);
+    }
+    store.say_all(&[&[0x0C]]);
+    for command in past_hub {
+        assert_eq!(store.say(command), 22);
+    }
+    store.say_all(&[&[0x01, 3, 0], &[0x09, 1, 0], &[0x0A, 4, 0]]);
+}
+
+/// The last test of 0C, which has no other of the room, and so in a full room too: 1 and 2 have version 1 in common.
+#[test]
+fn refusal_23_the_room_cannot_enter() {
+    let mut store = Store::open(2);
+    store.say_all(&[&[0x01, 1, 0], &[0x06, 1, 0], &[0x01, 2, 1]]);
+    assert_eq!(store.say(&[0x06, 0, 0]), 18);
+    assert_eq!(store.say(&[0x0C]), 23);
+    store.say_all(&[&[0x0A, 0, 1]]);
+    assert_eq!(store.say(&[0x0C]), 0);
+}
+
+/// The order of the tests; it rises but for 20, which comes right after 6, and 22, which comes right after 13.
 #[test]
 fn the_first_refusal_is_given() {
     let mut garbage = vec![FILLER; 50];
-    let cases: [(&[u8], u32); 14] = [
-        (&[0x0C, 99], 1),
+    let cases: [(&[u8], u32); 16] = [
+        (&[0x0D, 99], 1),
+        (&[0x0C, 99], 2),
+        (&[0x0C], 11),
         (&[0x0B], 2),
         (&[0x0B, 0, 0], 2),
         (&[0x0B, 16], 3),

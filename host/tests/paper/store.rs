@@ -95,7 +95,7 @@ impl Store {
 
     /// The field of docs/LAYOUT.md.
     pub fn version_count(&self) -> u16 {
-        u16::from_be_bytes([self.bytes[2], self.bytes[3]])
+        u16::from_be_bytes([self.bytes[4], self.bytes[5]])
     }
 
     pub fn board(&self, console: u32) -> Vec<u8> {
