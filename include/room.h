@@ -28,8 +28,8 @@ extern "C" {
 #define ROOM_BOARD_BYTES 384
 #define ROOM_MAX_CAPACITY 1024
 #define ROOM_STORE_BYTES(capacity) ((size_t)4096 + (size_t)544 * (size_t)(capacity))
-/* The longest tape of a room of this capacity: its start, its versions, 16 heads and its end. */
-#define ROOM_TAPE_BYTES(capacity) ((size_t)7 * (size_t)(capacity) + (size_t)61)
+/* The longest tape of a room of this capacity: its start, its versions, 16 heads, the byte 25 of a hub room and its end. */
+#define ROOM_TAPE_BYTES(capacity) ((size_t)7 * (size_t)(capacity) + (size_t)62)
 /* The most clashes of a merge: the level and the heading of every strip. */
 #define ROOM_MAX_CLASHES 64
 
@@ -54,7 +54,7 @@ extern "C" {
 /* What room_mergeable counts: 256 times the kind, and for a pair 16 times the receiver, and the giver, more. */
 enum room_pair_kind {
     ROOM_ALL_AGREE = 0,       /* no pair: every head is one version (one console alone too) */
-    ROOM_STUCK = 1,           /* no pair, but heads that differ */
+    ROOM_STUCK = 1,           /* no pair, but heads that differ: never in a hub room */
     ROOM_CAN_MERGE = 2,       /* the receiver can merge the giver */
     ROOM_CAN_FAST_FORWARD = 3 /* the receiver can fast-forward to the giver */
 };
@@ -62,7 +62,9 @@ enum room_pair_kind {
 #define ROOM_RECEIVER_OF(count) ((uint32_t)(count) / 16u % 16u)
 #define ROOM_GIVER_OF(count) ((uint32_t)(count) % 16u)
 
-/* Codes of commands, with the bytes that follow. */
+/* Codes of commands, with the bytes that follow. ROOM_HUB makes the room a hub room for good: console 0 is its hub, one of the two in every
+   merge and fast-forward, and the only one that is forked from. Given again it changes nothing. In a hub room of n consoles with n - 1
+   versions free, at most 2 (n - 1) accepted commands bring all to one head: console 0 takes over from each, then each from console 0. */
 #define ROOM_FORK 0x01         /* new console, old console */
 #define ROOM_LEVEL 0x02        /* console, strip, level in 16 bits */
 #define ROOM_HEADING 0x03      /* console, strip, heading in 16 bits */
@@ -74,12 +76,13 @@ enum room_pair_kind {
 #define ROOM_MERGE 0x09        /* receiver, giver */
 #define ROOM_FAST_FORWARD 0x0A /* receiver, giver */
 #define ROOM_LEAVE 0x0B        /* console */
+#define ROOM_HUB 0x0C          /* nothing */
 
 /* Refusals. Each call below names its own in the order of its tests, and the first that applies is given: that is the lowest, but a command
-   tests 20 right after 6. An ancestor of a version may be the version itself. */
+   tests 20 right after 6, and 22 right after 13. An ancestor of a version may be the version itself. */
 enum room_refusal {
     ROOM_ACCEPTED = 0,
-    ROOM_NO_COMMAND = 1,          /* empty command, or code outside 01 to 0B */
+    ROOM_NO_COMMAND = 1,          /* empty command, or code outside 01 to 0C */
     ROOM_WRONG_LENGTH = 2,        /* length not the code's */
     ROOM_CONSOLE_TOO_HIGH = 3,    /* console above 15 */
     ROOM_STRIP_TOO_HIGH = 4,      /* strip above 31 */
@@ -88,18 +91,20 @@ enum room_refusal {
     ROOM_BROKEN_TAPE = 7,         /* no sequence of whole records with at least one head */
     ROOM_BAD_CAPACITY = 8,        /* capacity outside 1 to 1,024 */
     ROOM_TAPE_OUT_OF_RANGE = 9,   /* a number on the tape is out of range */
-    ROOM_TAPE_NOT_SOUND = 10,     /* the tape's versions and heads give no sound store */
+    ROOM_TAPE_NOT_SOUND = 10,     /* the tape's versions and heads give no sound store; with 25 on it, also where hub gives 23 */
     ROOM_NO_STORE = 11,           /* the lent bytes hold no sound store */
     ROOM_CONSOLE_ABSENT = 12,     /* a named console is absent (fork: the old one) */
     ROOM_CONSOLE_PRESENT = 13,    /* fork's new console is present */
     ROOM_GIVER_BEHIND = 14,       /* the giver's head is an ancestor of the receiver's */
     ROOM_RECEIVER_BEHIND = 15,    /* merge: the receiver's head is an ancestor of the giver's */
     ROOM_NOT_BEHIND = 16,         /* fast-forward: the receiver's head is no ancestor of the giver's */
-    ROOM_THIRD_CONSOLE = 17,      /* merge: a third console's common versions with the two are apart */
+    ROOM_THIRD_CONSOLE = 17,      /* merge: a third console's common versions with the two are apart; never in a hub room */
     ROOM_FULL = 18,               /* no version left */
     ROOM_BUFFER_TOO_SHORT = 19,   /* lent output or store buffer too short */
     ROOM_CONSOLE_0_LEAVES = 20,   /* leave: the console is 0, which stays for good */
-    ROOM_BEHIND_NO_OTHER = 21     /* leave: the console's head is an ancestor of no other console's head */
+    ROOM_BEHIND_NO_OTHER = 21,    /* leave: the console's head is an ancestor of no other console's head */
+    ROOM_NOT_THROUGH_HUB = 22,    /* in a hub room: fork off another console than 0, merge or fast-forward of two others */
+    ROOM_HUB_LACKS_COMMON = 23    /* hub: the common version of two consoles is no ancestor of console 0's head */
 };
 
 /* 0 or a refusal; and a question's number, the clashes of a merge, or for room_pause and room_board the bytes written, else 0. */
@@ -113,7 +118,7 @@ struct room_reply room_open(uint32_t capacity, uint8_t *store, size_t store_leng
 
 /* Carries out one command. An accepted merge counts its clashes, 0 to ROOM_MAX_CLASHES: the levels and headings of which the receiver, the
    giver and their common version showed three different values before it. There the receiver's stays. Every other command counts 0.
-   Refusals 1 to 6, 20, 11 to 18, 21. */
+   Refusals 1 to 6, 20, 11 to 13, 22, 14 to 18, 21, 23. */
 struct room_reply room_command(uint8_t *store, size_t store_length, const uint8_t *command, size_t command_length);
 
 /* Writes the tape of the room; counts its bytes. Refusals 11, 19. */

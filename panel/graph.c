@@ -43,7 +43,7 @@ struct place {
     unsigned version;
 };
 
-/* Whether a whole record stands at this place, other than the tape's end. */
+/* Whether a whole record stands at this place, other than the tape's end and the byte before it that tells of a hub. */
 static int has_record(const struct place *place)
 {
     return place->left > 0 && place->next[0] >= START && place->next[0] <= HEAD && record_bytes(place->next[0]) <= place->left;

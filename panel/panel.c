@@ -22,6 +22,8 @@ static const char HELP[] =
     "call CONSOLE STRIP           and alert, quiet\n"
     "merge RECEIVER GIVER         and forward; a merge says how many cells clashed\n"
     "leave CONSOLE                it goes home; its number can be forked again\n"
+    "hub                          for good: fork, merge and forward go through console 0\n"
+    "gather                       all to one version: console 0 takes over from each, then each from it\n"
     "board CONSOLE                the console's strips\n"
     "heads                        where every console stands\n"
     "heard CONSOLE                how many entries it has heard\n"
@@ -52,6 +54,7 @@ static const struct named_command COMMANDS[] = {
     {"merge", ROOM_MERGE, 2, 0},
     {"forward", ROOM_FAST_FORWARD, 2, 0},
     {"leave", ROOM_LEAVE, 1, 0},
+    {"hub", ROOM_HUB, 0, 0},
 };
 
 /* A line that was typed: a word, then a file's name, or up to three numbers and the name of a cell. */
@@ -130,6 +133,17 @@ static size_t encode(const struct named_command *named, const struct line *line,
     return length;
 }
 
+/* Gives the room a command and says what came of it; the answer. */
+static uint32_t give(const uint8_t *bytes, size_t length)
+{
+    struct room_reply reply = room_command(store, sizeof store, bytes, length);
+    if (bytes[0] == ROOM_MERGE)
+        say_merged(reply);
+    else
+        say_done(reply);
+    return reply.answer;
+}
+
 static void carry_out(const struct named_command *named, const struct line *line)
 {
     uint8_t bytes[COMMAND_BYTES];
@@ -138,14 +152,50 @@ static void carry_out(const struct named_command *named, const struct line *line
         printf("that number does not fit into the command\n");
         return;
     }
-    struct room_reply reply = room_command(store, sizeof store, bytes, length);
-    if (named->code == ROOM_MERGE)
-        say_merged(reply);
-    else
-        say_done(reply);
-    /* Only a merge is refused with it, and the refusal alone does not say what can be done next. */
-    if (reply.answer == ROOM_THIRD_CONSOLE)
-        show_mergeable();
+    /* These two refusals alone do not say what can be done next. */
+    switch (give(bytes, length)) {
+    case ROOM_THIRD_CONSOLE: show_mergeable(); break;
+    case ROOM_NOT_THROUGH_HUB: show_way_through_hub(bytes); break;
+    default: break;
+    }
+}
+
+static int is_present(uint8_t console)
+{
+    return room_common(store, sizeof store, console, console).answer == ROOM_ACCEPTED;
+}
+
+/* Of a console with itself, its head. */
+static uint32_t common_of(uint8_t first, uint8_t second)
+{
+    return room_common(store, sizeof store, first, second).count;
+}
+
+/* The receiver takes over from the giver, both present, by the command that fits, which is said as it would be typed. Whether nothing was
+   refused. */
+static int take_over(uint8_t receiver, uint8_t giver)
+{
+    uint32_t common = common_of(receiver, giver);
+    if (common == common_of(giver, giver)) {
+        printf("console %u has nothing new for console %u\n", giver, receiver);
+        return 1;
+    }
+    int is_behind = common == common_of(receiver, receiver);
+    uint8_t bytes[] = {is_behind ? ROOM_FAST_FORWARD : ROOM_MERGE, receiver, giver};
+    printf("%s %u %u: ", is_behind ? "forward" : "merge", receiver, giver);
+    return give(bytes, sizeof bytes) == ROOM_ACCEPTED;
+}
+
+/* Console 0 takes over from each, then each from console 0, up to the first refusal: of a merge without a version left, and outside a hub
+   room also of one that a third console keeps apart. Last comes what `who` says: all on one version, or what could be done. */
+static void gather(void)
+{
+    int goes_on = 1;
+    for (uint8_t console = 1; goes_on && console < ROOM_CONSOLES; console++)
+        goes_on = !is_present(console) || take_over(0, console);
+    for (uint8_t console = 1; goes_on && console < ROOM_CONSOLES; console++)
+        goes_on = !is_present(console) || take_over(console, 0);
+    show_mergeable();
 }
 
 static void show_console(uint32_t console)
@@ -301,6 +351,8 @@ static void follow(const struct line *line)
         show_origin(line, ROOM_HEADING_CELL);
     else if (is_word(line, "who", 0))
         show_mergeable();
+    else if (is_word(line, "gather", 0))
+        gather();
     else if (is_file_word(line, "pause"))
         pause_to(line->file);
     else if (is_file_word(line, "resume"))

@@ -12,6 +12,9 @@ const char *refusal_in_words(uint32_t answer);
 /* Prints a count of room_mergeable in words, a pair with what to type. In a full room a merge is not offered, as it would be refused. */
 void show_pair(uint32_t count, int is_full);
 
+/* Prints what to type instead of a fork, merge or fast-forward that was refused because it did not go through console 0, the hub. */
+void show_way_through_hub(const uint8_t *command);
+
 /* Prints the strips of a board that are not empty, as a table. */
 void show_board(const uint8_t *board);
 

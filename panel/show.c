@@ -1,4 +1,4 @@
-/* What the panel shows: refusals and the pair that can merge in words, and a board as a table. */
+/* What the panel shows: refusals, the pair that can merge and the way through the hub in words, and a board as a table. */
 #include "panel.h"
 
 #include <string.h>
@@ -28,6 +28,8 @@ static const char *const MEANINGS[] = {
     [ROOM_BUFFER_TOO_SHORT] = "the buffer is too short",
     [ROOM_CONSOLE_0_LEAVES] = "console 0 never leaves",
     [ROOM_BEHIND_NO_OTHER] = "no other console has all that this one has: let one take it over first",
+    [ROOM_NOT_THROUGH_HUB] = "fork, merge and fast-forward go through console 0, the hub of this room",
+    [ROOM_HUB_LACKS_COMMON] = "two consoles have in common what console 0 lacks: let it take over from one of them first",
 };
 
 const char *refusal_in_words(uint32_t answer)
@@ -57,6 +59,17 @@ void show_pair(uint32_t count, int is_full)
         break;
     default: printf("an answer that this panel does not know\n");
     }
+}
+
+/* A fork's first operand is the new console, that of the other two commands the receiver. */
+void show_way_through_hub(const uint8_t *command)
+{
+    unsigned first = command[1];
+    unsigned giver = command[2];
+    if (command[0] == ROOM_FORK)
+        printf("fork it from console 0: `fork %u 0`\n", first);
+    else
+        printf("console 0 takes over from console %u, then console %u from console 0: `gather` does so for all\n", giver, first);
 }
 
 static unsigned cell(const uint8_t *strip, size_t at)

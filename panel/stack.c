@@ -2,7 +2,8 @@
    counted. Each is the first call of a process of its own, so that what the loader does to find the unit's C functions counts too.
    Each is made in two rooms: one almost all of entries, one with as many merges as it can have, so that the walk to an origin is a long one
    over either. The measured fork makes the last of 16 consoles, and the measured entry and merge the last versions. Which pair is mergeable
-   is asked twice, as a merge and a fast-forward go by different tests. */
+   is asked twice, as a merge and a fast-forward go by different tests. The measured hub tests every two of 16 consoles; the calls behind it
+   are made in the hub room, and resume has its tape. */
 #define _DEFAULT_SOURCE /* for pthread_attr_setstack and MAP_ANONYMOUS */
 #include <pthread.h>
 #include <stdint.h>
@@ -84,6 +85,13 @@ static struct room_reply merge_1_into_0(void)
 static struct room_reply forward_1_to_0(void)
 {
     return command(ROOM_FAST_FORWARD, 1, 0);
+}
+
+/* Accepted, as console 0 has the common version of any two. */
+static struct room_reply make_0_the_hub(void)
+{
+    uint8_t bytes[] = {ROOM_HUB};
+    return carry_out(bytes, sizeof bytes);
 }
 
 /* Its head is where console 1 was at the fork, and 0 has merged that. */
@@ -231,6 +239,7 @@ int main(void)
         {"mergeable, a merge", ask_mergeable, ROOM_STACK},
         {"a merge", merge_1_into_0, ROOM_STACK},
         {"a fast-forward", forward_1_to_0, ROOM_STACK},
+        {"a hub", make_0_the_hub, ROOM_STACK},
         {"pause", pause_room, ROOM_STACK},
         {"board", show_board_of_0, ROOM_STACK},
         {"heard", ask_heard_by_0, ROOM_STACK},
