@@ -1,5 +1,4 @@
--- What is true of a room where a command on it is accepted: the case of none of its refusals is there; and when a fork, a leave and the making of
--- the hub are accepted.
+-- What is true of a room where a command on it is accepted: the case of none of its refusals is there; and when one that is no entry is accepted.
 -- Assumes nothing.
 use Prim.Native.Nat.{ℕ, _<_}
 use mathlib.Core.Path.{_≡_, refl}
@@ -34,7 +33,7 @@ through-hub r c d hub h =
       | inr not-beside ↦ inl (is-hub r c hub not-beside)
     ]
 
--- console d is present, and c, where it is, is behind d: what a move of c to the head of d asks for
+-- console d is present, c, where it is, is behind d, and one of the two is the hub, where there is one: what a move of c to the head of d asks for
 pub record MayMove (r : Room) (c d : ℕ) : Type 0 where
   pub target : present r d ≡ true
   pub ahead : present r c ≡ true → behind r c d ≡ true

@@ -397,7 +397,7 @@ fn bench_calls(report: &mut Report) {
     bench_making_hub(report);
 }
 
-/// The command that makes the hub, in a room of 1,000 versions whose consoles met through console 0 alone: the other room refuses it.
+/// The command that makes the hub, in a room of 1,000 versions whose forks and merges all went through console 0: the other room refuses it.
 fn bench_making_hub(report: &mut Report) {
     let mut room = gen::full_through_hub(&mut Rng::new(SEED), 1000);
     room.capacity = 1024;
