@@ -28,6 +28,10 @@ zeros n = replicate n 0
 abbrev pub part : List ℕ → ℕ → ℕ → List ℕ
 part s at n = take n (drop at s)
 
+-- where in memory the byte at a place of a buffer lies, by the pointer to its first byte: a pointer is a block of memory and an offset in it
+abbrev pub addressOf : ℕ × ℕ → ℕ → ℕ × ℕ
+addressOf pointer at = (pointer .0, at + pointer .1)
+
 -- the list with new elements in place of as many from a place on
 unfoldable pub withPart : List ℕ → ℕ → List ℕ → List ℕ
 withPart s at new = take at s ++ (new ++ drop (at + length new) s)

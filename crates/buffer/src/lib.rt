@@ -1,8 +1,9 @@
 // Bytes of a lent buffer: 16-bit fields, bit rows and parts. Nothing here knows the room unit.
 ghost use mathlib.Core.Path.{_≡_};
 ghost use Prim.Native.Nat.{_+_, _*_, _/_, _%_, _<_, _≤_};
+ghost use denote.Ref.{ptr};
 ghost use lib.ListN.{length};
-ghost use Rattle.buffer.specs.Field.{wordAt, putWord, part, withPart, same, allZero, zeros};
+ghost use Rattle.buffer.specs.Field.{wordAt, putWord, part, addressOf, withPart, same, allZero, zeros};
 ghost use Rattle.buffer.specs.Row.{rowWidth, member, union, intersection, withMember, noneFrom, memberCount};
 ghost use Rattle.buffer.specs.Word.{longWord};
 
@@ -24,10 +25,10 @@ pub fn word_at(s: &[u8], at: usize) -> usize
     wide(s[at]) * 256 + wide(s[at + 1])
 }
 
-// The n bytes at a place.
+// The n bytes at a place, where they lie.
 pub fn part_of(s: &[u8], at: usize, n: usize) -> &[u8]
     requires { ⌜ at + n ≤ length (now s) ⌝ }
-    ensures { λ r. ⌜ (now r ≡ part (now (s .entry)) at n) × (length (now r) ≡ n) ⌝ }
+    ensures { λ r. ⌜ (now r ≡ part (now (s .entry)) at n) × (length (now r) ≡ n) × (ptr r ≡ addressOf (ptr (s .entry)) at) ⌝ }
 {
     let end = at + n;
     &s[at..end]

@@ -11,3 +11,4 @@ pub mod Convergence
 pub mod Traced
 pub mod RoundTrip
 pub mod Hub
+pub mod View

@@ -30,7 +30,7 @@ unfolding pauseOutcome firstRefusal
 pause-done store output tape held e fits = rw (held, e, le-ltb (length output) (length tape) fits)
 
 -- what a pause that answers 0 was lent
-pause-allowed : (store output : List ℕ) → pauseOutcome store output .reply .answer ≡ 0
+pub pause-allowed : (store output : List ℕ) → pauseOutcome store output .reply .answer ≡ 0
     → (holdsStore store ≡ true) × (length (tapeOf (roomIn store)) ≤ length output)
 unfolding pauseOutcome
 pause-allowed store output h =

@@ -1,7 +1,7 @@
 -- "A refusal returns its number, counts 0, and changes no lent byte. An accepted call returns 0, and with it a question its number, pause
 -- and the copied board the bytes written, all others count 0.", but for "An accepted merge reports the number" of its clashes. For each call
--- its reply and the lent buffer that it may write, afterwards; a command, a tape to resume, and the store of a question or a pause are lent
--- for reading alone, so that nothing can change them.
+-- its reply and the lent buffer that it may write, afterwards, and of a view the bytes of the part that it returns; a command, a tape to
+-- resume, and the stores of a question or a pause are lent for reading alone, so that nothing can change them.
 use Prim.Native.Nat.{ℕ}
 use mathlib.Core.Bool.{Bool, cond, not, _||_}
 use mathlib.Core.List.{List, [], _∷_, _++_}
@@ -22,7 +22,7 @@ use Rattle.room.specs.Boards.{boardOf}
 use Rattle.room.specs.Origin.{origin}
 use Rattle.room.specs.Step.{absent, versionFree, stateTests, step, clashCount}
 use Rattle.room.specs.Mergeable.{mergeable}
-use Rattle.store.specs.Layout.{storeSize, encode, roomIn, holdsStore}
+use Rattle.store.specs.Layout.{storeSize, boardAt, encode, roomIn, holdsStore}
 use Rattle.tape.specs.Tape.{Content, contentOf, tapeTests, roomOf, tapeOf}
 use Rattle.unit.specs.declared.Reply.{Reply}
 
@@ -147,11 +147,48 @@ originReply store console strip cell =
     let room : Room = roomIn store in
     questionReply (originTests store console strip cell) (origin room console strip (cellOf cell))
 
+-- the board that a console shows: that of its head
+abbrev pub boardShown : Room → ℕ → List ℕ
+boardShown room console = boardOf (room .versions) (head room console)
+
 -- "a console's board copied out"
 unfoldable pub boardOutcome : List ℕ → ℕ → List ℕ → Outcome
-boardOutcome store console output =
-    let room : Room = roomIn store in
-    outputOutcome (consoleTests store console) boardSize (boardOf (room .versions) (head room console)) output
+boardOutcome store console output = outputOutcome (consoleTests store console) boardSize (boardShown (roomIn store) console) output
+
+-- "Given the live store and a resumed one, a console and a choice byte (0 live, 1 frozen), return the 384 bytes of that console's board as a
+-- part of the store chosen, with no copy." Of two stores, or of the pointers to them, the one that the choice names; where it names none the
+-- frozen one, and 5 is given. A choice is never cut to 8 bits.
+abbrev pub chosen : {X : Type 0} → ℕ → X → X → X
+chosen choice live frozen = cond (eqb choice 0) live frozen
+
+abbrev pub isChoice : ℕ → Bool
+isChoice choice = ltb choice 2
+
+-- "(Another choice byte: 5.)"
+abbrev pub viewInputTests : ℕ → ℕ → List (ℕ × Bool)
+viewInputTests console choice =
+    3 when not (isConsole console)
+    ∷ 5 when not (isChoice choice)
+    ∷ []
+
+-- "Only the chosen store is tested for soundness."
+abbrev pub viewTests : List ℕ → List ℕ → ℕ → ℕ → List (ℕ × Bool)
+viewTests live frozen console choice = viewInputTests console choice ++ consoleStateTests (chosen choice live frozen) console
+
+-- the part's bytes; "A refusal gives a part of length 0"
+unfoldable pub viewPart : List ℕ → List ℕ → ℕ → ℕ → List ℕ
+viewPart live frozen console choice =
+    cond (eqb (firstRefusal (viewTests live frozen console choice)) 0) (boardShown (roomIn (chosen choice live frozen)) console) []
+
+-- The part itself is returned to Rattle alone, as an exported call can't return a reference. C is told where it begins in the store chosen,
+unfoldable pub viewAtReply : List ℕ → List ℕ → ℕ → ℕ → Reply
+viewAtReply live frozen console choice =
+    let room : Room = roomIn (chosen choice live frozen) in
+    questionReply (viewTests live frozen console choice) (boardAt (head room console))
+
+-- and "a second question with the same operands gives its number, or 0, and counts 0".
+unfoldable pub viewRefusalReply : List ℕ → List ℕ → ℕ → ℕ → Reply
+viewRefusalReply live frozen console choice = questionReply (viewTests live frozen console choice) 0
 
 -- why a room as a whole can't be asked about
 abbrev pub roomTests : List ℕ → List (ℕ × Bool)
@@ -169,12 +206,25 @@ pauseOutcome store output =
     let tape : List ℕ = tapeOf (roomIn store) in
     outputOutcome (roomTests store) (length tape) tape output
 
+-- The other store of a view: it is the frozen one, and the store that is asked the live one, or the other way round. The same store twice is
+-- either, with that store's bytes.
+pub data Beside : Type 0 where
+  asLive : List ℕ → Beside
+  asFrozen : List ℕ → Beside
+
+-- what a question about a live store and a frozen one replies, where this store is one of the two
+abbrev pub replyBeside : (List ℕ → List ℕ → Reply) → List ℕ → Beside → Reply
+replyBeside reply store (asLive frozen) = reply store frozen
+replyBeside reply store (asFrozen live) = reply live store
+
 -- What a store is asked, with the output lent for it: "the three questions (board, heard count, common version)", where a cell comes from,
--- which two can merge or fast-forward, and its tape.
+-- about the view of a console in this store or in another beside it, which two can merge or fast-forward, and its tape.
 pub data Question : Type 0 where
   heard : ℕ → Question
   commonVersion : ℕ → ℕ → Question
   cellOrigin : ℕ → ℕ → ℕ → Question
+  viewAt : Beside → ℕ → ℕ → Question
+  viewRefusal : Beside → ℕ → ℕ → Question
   mergeablePair : Question
   board : ℕ → List ℕ → Question
   pause : List ℕ → Question
@@ -184,6 +234,10 @@ unfoldable pub answerTo : List ℕ → Question → Outcome
 answerTo store (heard console) = record { reply = heardReply store console; buffer = [] }
 answerTo store (commonVersion first second) = record { reply = commonReply store first second; buffer = [] }
 answerTo store (cellOrigin console strip cell) = record { reply = originReply store console strip cell; buffer = [] }
+answerTo store (viewAt beside console choice) =
+    record { reply = replyBeside (λ live frozen. viewAtReply live frozen console choice) store beside; buffer = [] }
+answerTo store (viewRefusal beside console choice) =
+    record { reply = replyBeside (λ live frozen. viewRefusalReply live frozen console choice) store beside; buffer = [] }
 answerTo store mergeablePair = record { reply = mergeableReply store; buffer = [] }
 answerTo store (board console output) = boardOutcome store console output
 answerTo store (pause output) = pauseOutcome store output

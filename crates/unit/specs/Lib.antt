@@ -7,3 +7,4 @@ pub mod Clashes
 pub mod Mergeable
 pub mod Convergence
 pub mod Hub
+pub mod View

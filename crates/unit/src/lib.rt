@@ -5,6 +5,7 @@ pub mod opening;
 pub mod pausing;
 pub mod questions;
 pub mod resuming;
+pub mod views;
 
 // The answer of a call, 0 or the number of its refusal, and the count that goes with it.
 #[repr(C)]

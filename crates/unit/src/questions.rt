@@ -30,7 +30,7 @@ ghost use Rattle.command.specs.Code.{consoleCount};
 ghost use Rattle.unit.specs.Calls.{bufferTests, consoleTests, pairStateTests, pairTests, originInputTests, originTests, heardReply, commonReply, originReply, mergeableReply, boardOutcome};
 
 // Why these bytes can't be asked about two consoles, or 0.
-fn pair_state_refusal(store: &[u8], c: Console, d: Console) -> u32
+pub fn pair_state_refusal(store: &[u8], c: Console, d: Console) -> u32
     requires { ⌜ (c .0 < consoleCount) × (d .0 < consoleCount) ⌝ }
     ensures { λ r. ⌜ r ≡ firstRefusal (pairStateTests (now (store .entry)) (c .0) (d .0)) ⌝ }
 {

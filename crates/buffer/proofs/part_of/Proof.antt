@@ -11,7 +11,7 @@ returns : tie.Need-returns
 returns c =
     let a = c .before .args in
     let count : a .at + a .n - a .at ≡ a .n = omega arith in
-    rw count (refl, part-length (a .s .now) (a .at) (a .n) (omega arith))
+    rw count (refl, part-length (a .s .now) (a .at) (a .n) (omega arith), refl)
 
 pub part-of-spec : {M : Type 1} → statement M
 part-of-spec = tie.close (tie.spec (λ c. omega arith) (λ c. omega arith) (λ c. omega arith) (λ c. omega arith) returns)

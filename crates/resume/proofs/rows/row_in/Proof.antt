@@ -5,7 +5,7 @@ use Rattle.resume.proofs.rows.row_in.Statement.{statement}
 use Rattle.resume.proofs.rows.row_in.Tie as tie
 
 returns : tie.Need-returns
-returns c = c .part-of .ensures
+returns c = (c .part-of .ensures .0, c .part-of .ensures .1)
 
 pub row-in-spec : {M : Type 1} → statement M
 row-in-spec =

@@ -5,7 +5,9 @@ use Rattle.store.proofs.places.board_part.Statement.{statement}
 use Rattle.store.proofs.places.board_part.Tie as tie
 
 returns : tie.Need-returns
-returns c = rw (c .before .board-at .ensures) at (c .part-of .ensures)
+returns c =
+    let e = rw (c .before .board-at .ensures) at (c .part-of .ensures) in
+    (e .0, e .1)
 
 pub board-part-spec : {M : Type 1} → statement M
 board-part-spec =

@@ -14,7 +14,9 @@ part-of-requires : tie.Need-part-of-requires
 part-of-requires c κs = rw (c .before .version-of .ensures) (c .before .before .before .pre)
 
 returns : tie.Need-returns
-returns c = rw (c .before .before .version-of .ensures) at (c .part-of .ensures)
+returns c =
+    let e = rw (c .before .before .version-of .ensures) at (c .part-of .ensures) in
+    (e .0, e .1)
 
 pub row-of-field-spec : {M : Type 1} → statement M
 row-of-field-spec = tie.close (tie.spec (λ c κs. tt) mul-part-of add-part-of part-of-requires returns)

@@ -5,7 +5,9 @@ use Rattle.store.proofs.places.row_part.Statement.{statement}
 use Rattle.store.proofs.places.row_part.Tie as tie
 
 returns : tie.Need-returns
-returns c = rw (c .before .row-at .ensures) at (c .part-of .ensures)
+returns c =
+    let e = rw (c .before .row-at .ensures) at (c .part-of .ensures) in
+    (e .0, e .1)
 
 pub row-part-spec : {M : Type 1} → statement M
 row-part-spec =
