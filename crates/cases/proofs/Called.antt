@@ -23,24 +23,26 @@ use Rattle.command.specs.declared.Decoded.the-variants.{Whole, Refused}
 use Rattle.command.specs.Decode.{decode}
 use Rattle.refusal.proofs.Refusals.{none-applies}
 use Rattle.command.proofs.Ranges.{decode-range}
-use Rattle.room.specs.Room.{Room, headOf, present, common, openSettings, fresh}
+use Rattle.room.specs.Room.{Room, headOf, head, present, common, openSettings, fresh}
 use Rattle.room.specs.Sound.{soundRoom}
 use Rattle.room.specs.Origin.{origin}
 use Rattle.room.specs.Mergeable.{mergeable}
-use Rattle.room.specs.Step.{stepRefusal, step, clashCount}
+use Rattle.room.specs.Step.{absent, stepRefusal, step, clashCount}
 use Rattle.room.proofs.Sound.{present-console, sound-facts}
 use Rattle.room.proofs.Steps.{common-self, step-sound, fresh-sound}
-use Rattle.store.specs.Layout.{storeSize, encode}
+use Rattle.store.specs.Layout.{storeSize, boardAt, encode}
 use Rattle.store.proofs.RoundTrip.{encode-length, room-encode, holds-encode}
 use Rattle.tape.specs.Tape.{tapeOf}
 use Rattle.unit.specs.declared.Reply.{Reply}
-use Rattle.unit.specs.Calls.{Outcome, replied, written, openOutcome, stepOutcome, commandOutcome, pauseOutcome, commonReply, originReply, mergeableReply, command, replyTo, storeAfter}
+use Rattle.unit.specs.Calls.{Outcome, replied, written, openOutcome, stepOutcome, commandOutcome, pauseOutcome, commonReply, originReply, boardShown, viewPart, viewAtReply, viewRefusalReply, mergeableReply, command, replyTo, storeAfter}
+use Rattle.unit.specs.View.{View, viewOf, refusedView}
 use Rattle.unit.specs.Journal.{Journal, feed}
 use Rattle.unit.specs.Convergence.{afterCalls}
 use Rattle.unit.proofs.Answered.{origin-answered}
 use Rattle.unit.proofs.Commanded.{held-refused}
 use Rattle.unit.proofs.RoundTrip.{pause-done}
 use Rattle.cases.specs.Run.{answerIn, countIn, roomAfter, made, replies}
+use Rattle.cases.specs.Requests.{viewIn}
 use Rattle.cases.specs.Called.{repliesTo, headReply, Called}
 
 -- the bytes of a sound room, written over those of another of the same capacity
@@ -126,6 +128,20 @@ module _ (r : Room) (rest : List ℕ) (s : soundRoom r ≡ true) where
   unfolding mergeableReply firstRefusal
   pair-called = rw (holds-encode r rest s, room-encode r rest s)
 
+  -- the view of a console
+  view-called : (other : List ℕ) (c : ℕ) → c < consoleCount
+      → (viewOf (encode r ++ rest) other c 0 ≡ viewIn r c) × (viewOf other (encode r ++ rest) c 1 ≡ viewIn r c)
+  unfolding viewPart viewAtReply viewRefusalReply firstRefusal
+  view-called other c l =
+      let e = go (absent r c) (boardShown r c) (boardAt (head r c)) in
+      rw (holds-encode r rest s, room-encode r rest s, lt-ltb c consoleCount l) (e, e)
+    where
+      go : (b : Bool) (bytes : List ℕ) (at : ℕ) → let n : ℕ = cond b 12 0 in
+          _≡_ {A = View} record { bytes = cond (eqb n 0) bytes []; atReply = replied n at; refusalReply = replied n 0 }
+          (cond b (refusedView 12) record { bytes = bytes; atReply = replied 0 at; refusalReply = replied 0 0 })
+      go true bytes at = refl
+      go false bytes at = refl
+
 -- a list of commands, one call after the other: the buffer afterwards, the replies, and the room
 module _ (rest : List ℕ) where
   made-called : (r : Room) → soundRoom r ≡ true → (cs : List (List ℕ)) (j : Journal)
@@ -159,6 +175,7 @@ called r rest commands s =
       heads = head-called (made r commands) rest after;
       origins = origin-called (made r commands) rest after;
       pair = pair-called (made r commands) rest after;
+      views = view-called (made r commands) rest after;
     }
 
 -- an opening gives such a buffer

@@ -16,11 +16,11 @@ use Rattle.room.specs.Step.{stateTests, stepRefusal, step, clashCount}
 use Rattle.room.specs.Mergeable.{pairNumber, firstPair, headsAgree, mergeable}
 use Rattle.room.specs.Gathering.{hubTakes, hubGives, afterAll, forEach, gathering}
 use Rattle.store.specs.Layout.{holdsStore}
-use Rattle.unit.specs.Calls.{originReply, mergeableReply, stepOutcome, commandOutcome, resumed, resumeOutcome}
+use Rattle.unit.specs.Calls.{originReply, viewPart, viewAtReply, viewRefusalReply, mergeableReply, stepOutcome, commandOutcome, resumed, resumeOutcome}
 use Rattle.tape.specs.Record.{recordFrom, recordIn}
 use Rattle.tape.specs.Tape.{versionRecords, headRecords, tapeOf, afterRecord, readOn, contentOf, headSlots, consolesRise, headsNamed}
 use Rattle.cases.specs.Run.{Case, merge, forward, answerIn, countIn, roomAfter, made, replies, session}
-use Rattle.cases.specs.Requests.{originCases, leaveCases, everywhere, clashCases, stuckCases, agreeCases, pairCases, hubCases, hubTapeCases, stuckHubCases, spelled, gatherCases}
+use Rattle.cases.specs.Requests.{originCases, leaveCases, everywhere, clashCases, stuckCases, agreeCases, pairCases, hubCases, hubTapeCases, stuckHubCases, spelled, gatherCases, viewCases}
 use Rattle.cases.specs.Starred.{crossed, stuck, acceptedBy, accepted, starred}
 
 -- the stuck room takes no merge and no fast-forward: its own declarations, for the checker's bound on the steps of one
@@ -82,3 +82,7 @@ stuck-hub-holds = refl
 pub gathers-hold : map (λ (c : Case). c .got) gatherCases ≡ map (λ (c : Case). c .due) gatherCases
 unfolding everyBelow someBelow highestBelow ancestor isMeet meet firstRefusal shapeOf lengthOf numberAt operandsOf isOperand kindOf commandRefusal decode commandBytes common canMakeHub stateTests stepRefusal step hubTakes hubGives afterAll forEach gathering answerIn roomAfter made spelled gatherCases
 gathers-hold = refl
+
+pub views-hold : map (λ (c : Case). c .got) viewCases ≡ map (λ (c : Case). c .due) viewCases
+unfolding mergeFlag mergeStrip mergeStrips enter everyBelow someBelow highestBelow ancestor isMeet meet firstRefusal shapeOf lengthOf numberAt operandsOf isOperand kindOf commandRefusal decode common stateTests stepRefusal step boardMade boardOf holdsStore viewPart viewAtReply viewRefusalReply answerIn roomAfter made viewCases
+views-hold = refl

@@ -14,9 +14,11 @@ use Rattle.store.specs.Layout.{encode}
 use Rattle.tape.specs.Tape.{tapeOf}
 use Rattle.unit.specs.declared.Reply.{Reply}
 use Rattle.unit.specs.Calls.{Call, command, replied, written, pauseOutcome, commonReply, originReply, mergeableReply, replyTo, storeAfter}
+use Rattle.unit.specs.View.{viewOf}
 use Rattle.unit.specs.Journal.{Journal}
 use Rattle.unit.specs.Convergence.{afterCalls}
 use Rattle.cases.specs.Run.{made, replies}
+use Rattle.cases.specs.Requests.{viewIn}
 
 -- the replies to these calls on a store, one after the other
 unfoldable pub repliesTo : List ℕ → List Call → List Reply
@@ -42,3 +44,6 @@ pub record Called (r : Room) (rest : List ℕ) (commands : List (List ℕ)) : Ty
       → originReply (encode (made r commands) ++ rest) c k cell ≡ replied 0 (origin (made r commands) c k (cellOf cell))
   -- which two can merge or fast-forward
   pub pair : mergeableReply (encode (made r commands) ++ rest) ≡ replied 0 (mergeable (made r commands))
+  -- the view of a console, as the live store or as the frozen one, beside any bytes
+  pub views : (other : List ℕ) (c : ℕ) → c < consoleCount → let store = encode (made r commands) ++ rest in
+      (viewOf store other c 0 ≡ viewIn (made r commands) c) × (viewOf other store c 1 ≡ viewIn (made r commands) c)

@@ -1,18 +1,22 @@
 -- The cases of the customer's requests (docs/CHANGES.md has their titles), worked out by hand: what the definitions give for each, and what the
 -- request says.
 use Prim.Native.Nat.{ℕ, zero, suc}
+use mathlib.Core.Bool.{cond}
 use mathlib.Core.List.{List, [], _∷_, _++_}
-use lib.ListN.{replicate, getD}
+use lib.ListN.{length, replicate, getD}
+use Rattle.buffer.specs.Field.{part}
 use Rattle.board.specs.Board.{stripCount, cellOf}
 use Rattle.command.specs.declared.Command.{Command}
 use Rattle.command.specs.Decode.{commandBytes}
 use Rattle.room.specs.Room.{Room, fresh}
 use Rattle.room.specs.Origin.{origin, valueShown}
+use Rattle.room.specs.Step.{absent}
 use Rattle.room.specs.Mergeable.{mergeable}
 use Rattle.room.specs.Gathering.{afterAll, gathering}
 use Rattle.unit.specs.declared.Reply.{Reply}
 use Rattle.tape.specs.Tape.{tapeOf}
 use Rattle.unit.specs.Calls.{commandOutcome, resumeOutcome, originReply, mergeableReply}
+use Rattle.unit.specs.View.{View, viewOf, refusedView, shownView}
 use Rattle.cases.specs.Run.{Case, _gives_, fork, level, heading, mark, call, alert, merge, forward, leave, hub, made, answers, counts, nowhere, on, headsShown, session}
 use Rattle.cases.specs.Starred.{crossed, stuck}
 
@@ -224,4 +228,35 @@ gatherCases =
     ∷ (headsShown (afterAll scattered (gathering scattered)) gives on 3 ∷ on 3 ∷ on 3 ∷ on 3 ∷ replicate 12 nowhere)
     -- one console alone has nothing to do
     ∷ (spelled (gathering (fresh 64)) gives [])
+    ∷ []
+
+-- Seven: a console's view of a store that holds this room, beside any other bytes (`Called` has that the calls give it)
+abbrev pub viewIn : Room → ℕ → View
+viewIn r c = cond (absent r c) (refusedView 12) (shownView r c)
+
+-- the answer, the place, the length of the part, and the level of strip 5 there
+abbrev pub viewShown : View → List ℕ
+viewShown v = v .refusalReply .answer ∷ v .atReply .count ∷ length (v .bytes) ∷ part (v .bytes) 60 2
+
+-- a room, and what it was at a pause; console 1 came after it, and console 2 left
+abbrev pub beforePause : List (List ℕ)
+beforePause = fork 2 0 ∷ level 0 5 100 ∷ []
+
+abbrev pub afterPause : List (List ℕ)
+afterPause = leave 2 ∷ fork 1 0 ∷ level 0 5 200 ∷ []
+
+unfoldable pub viewCases : List Case
+viewCases =
+    -- frozen: version 1, at 4,096 + 544 + 160, level 100; live: version 2, at 4,096 + 2 × 544 + 160, level 200
+    (viewShown (viewIn (after beforePause) 0) gives 0 ∷ 4800 ∷ 384 ∷ 0 ∷ 100 ∷ [])
+    ∷ (viewShown (viewIn (after (beforePause ++ afterPause)) 0) gives 0 ∷ 5344 ∷ 384 ∷ 0 ∷ 200 ∷ [])
+    -- absent in the one and present in the other, both ways; console 2 was on version 0, at 4,096 + 160
+    ∷ (viewShown (viewIn (after beforePause) 1) gives 12 ∷ 0 ∷ 0 ∷ [])
+    ∷ (viewShown (viewIn (after (beforePause ++ afterPause)) 1) gives 0 ∷ 4800 ∷ 384 ∷ 0 ∷ 100 ∷ [])
+    ∷ (viewShown (viewIn (after beforePause) 2) gives 0 ∷ 4256 ∷ 384 ∷ 0 ∷ 0 ∷ [])
+    ∷ (viewShown (viewIn (after (beforePause ++ afterPause)) 2) gives 12 ∷ 0 ∷ 0 ∷ [])
+    -- by the calls themselves, on bytes that hold no store: choices 2 and 256; console 16, also with choice 2; each store
+    ∷ (viewShown (viewOf [] [] 0 2) ++ viewShown (viewOf [] [] 0 256) gives 5 ∷ 0 ∷ 0 ∷ 5 ∷ 0 ∷ 0 ∷ [])
+    ∷ (viewShown (viewOf [] [] 16 0) ++ viewShown (viewOf [] [] 16 2) gives 3 ∷ 0 ∷ 0 ∷ 3 ∷ 0 ∷ 0 ∷ [])
+    ∷ (viewShown (viewOf [] [] 15 0) ++ viewShown (viewOf [] [] 15 1) gives 11 ∷ 0 ∷ 0 ∷ 11 ∷ 0 ∷ 0 ∷ [])
     ∷ []

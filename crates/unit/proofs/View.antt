@@ -23,8 +23,8 @@ use Rattle.store.specs.Layout.{boardAt, encode, roomIn, holdsStore}
 use Rattle.store.proofs.RoundTrip.{room-over, holds-over, holds-sound}
 use Rattle.store.proofs.Whole.{whole-sound, whole-block}
 use Rattle.query.proofs.Answers.{head-answer, board-answer}
-use Rattle.unit.specs.Calls.{Outcome, replied, bufferTests, consoleStateTests, consoleTests, boardShown, boardOutcome, chosen, isChoice, viewTests, viewPart, viewAtReply, viewRefusalReply}
-use Rattle.unit.specs.View.{View, viewOf, refusedView, Told, AsPaused, Viewed}
+use Rattle.unit.specs.Calls.{Outcome, bufferTests, consoleStateTests, consoleTests, boardOutcome, chosen, isChoice, viewTests, viewPart, viewAtReply, viewRefusalReply}
+use Rattle.unit.specs.View.{viewOf, refusedView, shownView, Told, AsPaused, Viewed}
 use Rattle.unit.proofs.Answered.{Allowed, pair-answered}
 use Rattle.unit.proofs.RoundTrip.{pause-allowed, store-over, paused-resumes}
 
@@ -42,14 +42,6 @@ view-allowed live frozen console choice z =
     let named = ltb-true console consoleCount (not-false (isConsole console) (n .0)) in
     let here = not-false (present (roomIn store) console) (n .1 .1 .1 .0) in
     record { first = named; second = named; held = not-false (holdsStore store) (n .1 .1 .0); here = here; there = here }
-
--- what is shown where nothing is refused
-abbrev shownView : List ℕ → ℕ → View
-shownView store console = record {
-  bytes = boardShown (roomIn store) console;
-  atReply = replied 0 (boardAt (head (roomIn store) console));
-  refusalReply = replied 0 0;
-}
 
 -- the board of a console's head
 module _ (store : List ℕ) (console : ℕ) (a : Allowed store console console) where
@@ -70,7 +62,7 @@ module _ (live frozen : List ℕ) (console choice : ℕ) where
   refused-view given = rw (ne-eqb (firstRefusal (viewTests live frozen console choice)) 0 given)
 
   shown-view : firstRefusal (viewTests live frozen console choice) ≡ 0
-      → viewOf live frozen console choice ≡ shownView (chosen choice live frozen) console
+      → viewOf live frozen console choice ≡ shownView (roomIn (chosen choice live frozen)) console
   unfolding viewPart viewAtReply viewRefusalReply
   shown-view none = rw none
 
@@ -99,7 +91,7 @@ module _ (store other : List ℕ) (console : ℕ) where
   unfolding firstRefusal
   board-number output fits = rw (le-ltb (length output) boardSize fits)
 
-  shown-told : number ≡ 0 → Told store console (shownView store console)
+  shown-told : number ≡ 0 → Told store console (shownView (roomIn store) console)
   unfolding boardOutcome
   shown-told none =
       let a = view-allowed store other console 0 none in

@@ -10,9 +10,10 @@ use lib.ListN.{length, take}
 use Rattle.buffer.specs.Field.{part}
 use Rattle.board.specs.Board.{boardSize}
 use Rattle.command.specs.Code.{isConsole}
+use Rattle.room.specs.Room.{Room, head}
 use Rattle.store.specs.Layout.{storeSize, boardAt, roomIn}
 use Rattle.unit.specs.declared.Reply.{Reply}
-use Rattle.unit.specs.Calls.{replied, written, commonReply, boardOutcome, viewPart, viewAtReply, viewRefusalReply, pauseOutcome, resumeOutcome}
+use Rattle.unit.specs.Calls.{replied, written, commonReply, boardShown, boardOutcome, viewPart, viewAtReply, viewRefusalReply, pauseOutcome, resumeOutcome}
 
 -- the part's bytes, and what the two questions with the same operands reply
 pub record View : Type 0 where
@@ -30,6 +31,14 @@ viewOf live frozen console choice = record {
 -- a view that both questions refuse with this number
 abbrev pub refusedView : ℕ → View
 refusedView number = record { bytes = []; atReply = replied number 0; refusalReply = replied number 0 }
+
+-- one that is not refused, of a store with this room
+abbrev pub shownView : Room → ℕ → View
+shownView room console = record {
+  bytes = boardShown room console;
+  atReply = replied 0 (boardAt (head room console));
+  refusalReply = replied 0 0;
+}
 
 -- what is said of a view of this store
 pub record Told (store : List ℕ) (console : ℕ) (view : View) : Type 0 where
