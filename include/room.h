@@ -4,7 +4,7 @@
  * What the caller owes:
  * - A pointer and the length behind it describe bytes that the caller may read, and write where the pointer is not const.
  *   With a length of 0 the pointer may be NULL.
- * - The two buffers of one call do not overlap.
+ * - A buffer that a call writes overlaps no other buffer of that call. The two stores of a view are only read, so they may overlap or be one.
  * - No other thread touches a lent buffer before the call has returned. The unit keeps no pointer and no state of its own.
  * - room_resume needs ROOM_RESUME_STACK bytes of stack, room_origin ROOM_ORIGIN_STACK bytes, any other call ROOM_STACK bytes.
  * Nothing else: any bytes may stand in a lent buffer, and any number may be passed.
@@ -51,6 +51,10 @@ extern "C" {
 #define ROOM_LEVEL_CELL 0
 #define ROOM_HEADING_CELL 1
 
+/* The stores that a view chooses from. */
+#define ROOM_LIVE 0
+#define ROOM_FROZEN 1
+
 /* What room_mergeable counts: 256 times the kind, and for a pair 16 times the receiver, and the giver, more. */
 enum room_pair_kind {
     ROOM_ALL_AGREE = 0,       /* no pair: every head is one version (one console alone too) */
@@ -86,13 +90,13 @@ enum room_refusal {
     ROOM_WRONG_LENGTH = 2,        /* length not the code's */
     ROOM_CONSOLE_TOO_HIGH = 3,    /* console above 15 */
     ROOM_STRIP_TOO_HIGH = 4,      /* strip above 31 */
-    ROOM_OPERAND_TOO_HIGH = 5,    /* level above 600, heading above 360, mark above 15, cell above 1 */
+    ROOM_OPERAND_TOO_HIGH = 5,    /* level above 600, heading above 360, mark above 15, cell above 1, choice above 1 */
     ROOM_SAME_CONSOLE = 6,        /* the same console twice in 01, 09, 0A */
     ROOM_BROKEN_TAPE = 7,         /* no sequence of whole records with at least one head */
     ROOM_BAD_CAPACITY = 8,        /* capacity outside 1 to 1,024 */
     ROOM_TAPE_OUT_OF_RANGE = 9,   /* a number on the tape is out of range */
     ROOM_TAPE_NOT_SOUND = 10,     /* the tape's versions and heads give no sound store; with 25 on it, also where hub gives 23 */
-    ROOM_NO_STORE = 11,           /* the lent bytes hold no sound store */
+    ROOM_NO_STORE = 11,           /* the lent bytes hold no sound store; of a view, those of the store chosen */
     ROOM_CONSOLE_ABSENT = 12,     /* a named console is absent (fork: the old one) */
     ROOM_CONSOLE_PRESENT = 13,    /* fork's new console is present */
     ROOM_GIVER_BEHIND = 14,       /* the giver's head is an ancestor of the receiver's */
@@ -107,7 +111,8 @@ enum room_refusal {
     ROOM_HUB_LACKS_COMMON = 23    /* hub: the common version of two consoles is no ancestor of console 0's head */
 };
 
-/* 0 or a refusal; and a question's number, the clashes of a merge, or for room_pause and room_board the bytes written, else 0. */
+/* 0 or a refusal; and a question's number, the clashes of a merge, for room_pause and room_board the bytes written, or for room_view_at where
+   the board begins, else 0. */
 struct room_reply {
     uint32_t answer;
     uint32_t count;
@@ -143,6 +148,30 @@ struct room_reply room_origin(const uint8_t *store, size_t store_length, uint32_
 /* Its count is the first pair of consoles of which a merge or a fast-forward would be accepted if versions were free, and which of the two,
    or the kind of a room without one: see enum room_pair_kind. Receivers rise, and for each receiver the givers. Refusal 11. */
 struct room_reply room_mergeable(const uint8_t *store, size_t store_length);
+
+/* A view: a console's board as a part of one of two stores, the live one or a frozen one (resumed from the tape of a pause), with no copy.
+   Only the store chosen, ROOM_LIVE or ROOM_FROZEN, is judged and read: anything may stand in the other. Three functions take the same
+   operands: room_view, below, gives the board itself, and these two what it is made of. */
+
+/* Answers why room_view gives no board, or 0 where it gives one; always counts 0. Refusals 3, 5, 11, 12. */
+struct room_reply room_view_refusal(const uint8_t *live, size_t live_length, const uint8_t *frozen, size_t frozen_length, uint32_t console,
+                                    uint32_t choice);
+
+/* Its count is the offset of the console's board in the store chosen. Refusals 3, 5, 11, 12. */
+struct room_reply room_view_at(const uint8_t *live, size_t live_length, const uint8_t *frozen, size_t frozen_length, uint32_t console,
+                               uint32_t choice);
+
+/* Points at the ROOM_BOARD_BYTES of the console's board inside the store chosen; NULL where that is refused. The pointer is good until that
+   store is written, by room_command, room_open or room_resume: then ask again, as the console's board may stand elsewhere. As long as it is
+   in use the store must stay lent: where it is, and with no other thread that writes it. */
+static inline const uint8_t *room_view(const uint8_t *live, size_t live_length, const uint8_t *frozen, size_t frozen_length, uint32_t console,
+                                       uint32_t choice)
+{
+    struct room_reply at = room_view_at(live, live_length, frozen, frozen_length, console, choice);
+    if (at.answer != ROOM_ACCEPTED)
+        return NULL;
+    return (choice == ROOM_LIVE ? live : frozen) + at.count;
+}
 
 #ifdef __cplusplus
 }

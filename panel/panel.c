@@ -12,6 +12,8 @@ enum { LINE_BYTES = 256, COMMAND_BYTES = 5, NUMBERS = 3, FIRST_CAPACITY = 64 };
 
 static uint8_t store[ROOM_STORE_BYTES(ROOM_MAX_CAPACITY)];
 static uint8_t tape[ROOM_TAPE_BYTES(ROOM_MAX_CAPACITY)];
+/* The room as it was at the last freeze. Before the first it is all zero, which is no store. */
+static uint8_t frozen[ROOM_STORE_BYTES(ROOM_MAX_CAPACITY)];
 
 static const char HELP[] =
     "open CAPACITY                a new room, with console 0\n"
@@ -30,6 +32,8 @@ static const char HELP[] =
     "common FIRST SECOND          the last version that both have\n"
     "origin CONSOLE STRIP CELL    the entry behind that cell, level or heading\n"
     "who                          which two can merge or fast-forward, and what to type\n"
+    "freeze                       keeps the room as it is now, for the wall\n"
+    "wall CONSOLE live            and frozen: its strips in that room, with a * where the other room's differ\n"
     "pause FILE                   and resume\n"
     "graph FILE                   the version graph for Graphviz\n"
     "quit\n";
@@ -57,21 +61,26 @@ static const struct named_command COMMANDS[] = {
     {"hub", ROOM_HUB, 0, 0},
 };
 
-/* A line that was typed: a word, then a file's name, or up to three numbers and the name of a cell. */
+/* A line that was typed: a word, then a file's name, or up to three numbers and a last word, which names a cell or a room. */
 struct line {
     char word[16];
     uint32_t number[NUMBERS];
     int numbers;
     char file[LINE_BYTES];
-    char cell[LINE_BYTES];
+    char last_word[LINE_BYTES];
 };
+
+static void say_refused(uint32_t answer, const char *why)
+{
+    printf("refused (%u): %s\n", (unsigned)answer, why);
+}
 
 /* Says a refusal in words; whether there was none. */
 static int say(struct room_reply reply)
 {
     if (reply.answer == ROOM_ACCEPTED)
         return 1;
-    printf("refused (%u): %s\n", (unsigned)reply.answer, refusal_in_words(reply.answer));
+    say_refused(reply.answer, refusal_in_words(reply.answer));
     return 0;
 }
 
@@ -202,7 +211,7 @@ static void show_console(uint32_t console)
 {
     uint8_t board[ROOM_BOARD_BYTES];
     if (say(room_board(store, sizeof store, console, board, sizeof board)))
-        show_board(board);
+        show_board(board, NULL);
 }
 
 static void show_heads(void)
@@ -262,9 +271,65 @@ static void show_origin(const struct line *line, uint32_t cell)
     if (!say(reply))
         return;
     if (reply.count == 0)
-        printf("no entry: strip %u shows no %s\n", (unsigned)line->number[1], line->cell);
+        printf("no entry: strip %u shows no %s\n", (unsigned)line->number[1], line->last_word);
     else
         show_entry(tape, paused(), reply.count);
+}
+
+/* ---- the wall of a debrief ---- */
+
+/* By way of a tape, so that what is frozen is the room that a pause now would give back. */
+static void freeze(void)
+{
+    size_t length = paused();
+    if (length > 0)
+        say_done(room_resume(tape, length, frozen, sizeof frozen));
+}
+
+static const uint8_t *viewed(uint32_t console, uint32_t choice)
+{
+    return room_view(store, sizeof store, frozen, sizeof frozen, console, choice);
+}
+
+static uint32_t why_not_viewed(uint32_t console, uint32_t choice)
+{
+    return room_view_refusal(store, sizeof store, frozen, sizeof frozen, console, choice).answer;
+}
+
+/* As for any call, but that a frozen store which is none was most likely never made. */
+static const char *view_refusal_in_words(uint32_t answer, uint32_t choice)
+{
+    if (answer == ROOM_NO_STORE && choice == ROOM_FROZEN)
+        return "nothing is frozen: `freeze` keeps the room as it is now";
+    return refusal_in_words(answer);
+}
+
+/* Below a board on the wall: what the marks in it mean, or why there are none. */
+static void say_compared(const uint8_t *board, const uint8_t *other, uint32_t console, uint32_t other_choice)
+{
+    const char *room = other_choice == ROOM_LIVE ? "live" : "frozen";
+    if (other == NULL)
+        printf("not compared with the %s room: %s\n", room,
+               view_refusal_in_words(why_not_viewed(console, other_choice), other_choice));
+    else if (memcmp(board, other, ROOM_BOARD_BYTES) == 0)
+        printf("no cell differs from the %s board\n", room);
+    else
+        printf("* differs from the %s board\n", room);
+}
+
+/* Both boards are read where they stand: nothing here writes a store while they are in use. */
+static void show_wall(uint32_t console, uint32_t choice)
+{
+    uint32_t other_choice = choice == ROOM_LIVE ? ROOM_FROZEN : ROOM_LIVE;
+    const uint8_t *board = viewed(console, choice);
+    const uint8_t *other = viewed(console, other_choice);
+    if (board == NULL) {
+        uint32_t answer = why_not_viewed(console, choice);
+        say_refused(answer, view_refusal_in_words(answer, choice));
+        return;
+    }
+    show_board(board, other);
+    say_compared(board, other, console, other_choice);
 }
 
 /* ---- lines ---- */
@@ -301,7 +366,7 @@ static int take_apart(const char *text, struct line *line)
     copy_name(text, line->file);
     while (line->numbers < NUMBERS && take_number(&text, &line->number[line->numbers]))
         line->numbers++;
-    copy_name(text, line->cell);
+    copy_name(text, line->last_word);
     return 1;
 }
 
@@ -315,9 +380,9 @@ static int is_file_word(const struct line *line, const char *word)
     return strcmp(line->word, word) == 0 && line->file[0] != '\0';
 }
 
-static int is_cell_word(const struct line *line, const char *word, int numbers, const char *cell)
+static int is_word_with(const struct line *line, const char *word, int numbers, const char *last_word)
 {
-    return is_word(line, word, numbers) && strcmp(line->cell, cell) == 0;
+    return is_word(line, word, numbers) && strcmp(line->last_word, last_word) == 0;
 }
 
 static int is_command(const struct line *line)
@@ -331,9 +396,22 @@ static int is_command(const struct line *line)
     return 0;
 }
 
+static int is_file_line(const struct line *line)
+{
+    if (is_file_word(line, "pause"))
+        pause_to(line->file);
+    else if (is_file_word(line, "resume"))
+        resume_from(line->file);
+    else if (is_file_word(line, "graph"))
+        graph_to(line->file);
+    else
+        return 0;
+    return 1;
+}
+
 static void follow(const struct line *line)
 {
-    if (is_command(line))
+    if (is_command(line) || is_file_line(line))
         return;
     if (is_word(line, "open", 1))
         say_done(room_open(line->number[0], store, sizeof store));
@@ -345,20 +423,20 @@ static void follow(const struct line *line)
         say_number(room_heard(store, sizeof store, line->number[0]));
     else if (is_word(line, "common", 2))
         say_number(room_common(store, sizeof store, line->number[0], line->number[1]));
-    else if (is_cell_word(line, "origin", 2, "level"))
+    else if (is_word_with(line, "origin", 2, "level"))
         show_origin(line, ROOM_LEVEL_CELL);
-    else if (is_cell_word(line, "origin", 2, "heading"))
+    else if (is_word_with(line, "origin", 2, "heading"))
         show_origin(line, ROOM_HEADING_CELL);
     else if (is_word(line, "who", 0))
         show_mergeable();
     else if (is_word(line, "gather", 0))
         gather();
-    else if (is_file_word(line, "pause"))
-        pause_to(line->file);
-    else if (is_file_word(line, "resume"))
-        resume_from(line->file);
-    else if (is_file_word(line, "graph"))
-        graph_to(line->file);
+    else if (is_word(line, "freeze", 0))
+        freeze();
+    else if (is_word_with(line, "wall", 1, "live"))
+        show_wall(line->number[0], ROOM_LIVE);
+    else if (is_word_with(line, "wall", 1, "frozen"))
+        show_wall(line->number[0], ROOM_FROZEN);
     else if (is_word(line, "help", 0))
         fputs(HELP, stdout);
     else

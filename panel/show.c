@@ -1,4 +1,4 @@
-/* What the panel shows: refusals, the pair that can merge and the way through the hub in words, and a board as a table. */
+/* What the panel shows: refusals, the pair that can merge and the way through the hub in words, and a board as a table, alone or compared. */
 #include "panel.h"
 
 #include <string.h>
@@ -83,39 +83,55 @@ static int is_empty(const uint8_t *strip)
     return memcmp(strip, none, sizeof none) == 0;
 }
 
+/* What is printed behind a cell: a `*` where the other strip's differs. It takes the first of the two places between columns, so that a table
+   with and one without it have the same columns. */
+static char star(const uint8_t *strip, const uint8_t *other, size_t at)
+{
+    return cell(strip, at) == cell(other, at) ? ' ' : '*';
+}
+
 /* A level or a heading, where 0 stands for none given. */
-static void print_setting(unsigned value)
+static void print_setting(unsigned value, char behind)
 {
     if (value == 0)
-        printf("  %7s", "-");
+        printf(" %7s%c", "-", behind);
     else
-        printf("  %7u", value);
+        printf(" %7u%c", value, behind);
 }
 
-static void print_marks(unsigned marks)
+static void print_marks(unsigned marks, char behind)
 {
-    printf("  ");
+    putchar(' ');
     for (unsigned mark = 0; mark < 16; mark++)
         putchar((marks >> mark) & 1u ? "0123456789abcdef"[mark] : '.');
+    putchar(behind);
 }
 
-static void print_strip(size_t number, const uint8_t *strip)
+/* The flag is a byte and the last column: behind it stands a `*` or nothing. */
+static void print_flag(uint8_t flag, uint8_t other)
 {
-    printf("%5zu", number);
-    print_setting(cell(strip, ROOM_LEVEL_AT));
-    print_setting(cell(strip, ROOM_HEADING_AT));
-    print_marks(cell(strip, ROOM_MARKS_AT));
-    printf("  %5u", cell(strip, ROOM_CALLS_AT));
-    printf("  %6u", cell(strip, ROOM_ALERTS_AT));
-    printf("  %s\n", strip[ROOM_FLAG_AT] == 1 ? "ALERT" : "-");
+    printf(" %s%s\n", flag == 1 ? "ALERT" : "-", flag == other ? "" : "*");
 }
 
-void show_board(const uint8_t *board)
+static void print_strip(size_t number, const uint8_t *strip, const uint8_t *other)
 {
+    printf("%5zu ", number);
+    print_setting(cell(strip, ROOM_LEVEL_AT), star(strip, other, ROOM_LEVEL_AT));
+    print_setting(cell(strip, ROOM_HEADING_AT), star(strip, other, ROOM_HEADING_AT));
+    print_marks(cell(strip, ROOM_MARKS_AT), star(strip, other, ROOM_MARKS_AT));
+    printf(" %5u%c", cell(strip, ROOM_CALLS_AT), star(strip, other, ROOM_CALLS_AT));
+    printf(" %6u%c", cell(strip, ROOM_ALERTS_AT), star(strip, other, ROOM_ALERTS_AT));
+    print_flag(strip[ROOM_FLAG_AT], other[ROOM_FLAG_AT]);
+}
+
+/* With nothing to compare with, a board is compared with itself: then nothing differs. */
+void show_board(const uint8_t *board, const uint8_t *other)
+{
+    const uint8_t *beside = other != NULL ? other : board;
     printf("strip    level  heading  %-16s  calls  alerts  flag\n", "marks");
     for (size_t number = 0; number < ROOM_STRIPS; number++) {
-        const uint8_t *strip = board + ROOM_STRIP_BYTES * number;
-        if (!is_empty(strip))
-            print_strip(number, strip);
+        size_t at = ROOM_STRIP_BYTES * number;
+        if (!is_empty(board + at) || !is_empty(beside + at))
+            print_strip(number, board + at, beside + at);
     }
 }

@@ -3,7 +3,7 @@
    Each is made in two rooms: one almost all of entries, one with as many merges as it can have, so that the walk to an origin is a long one
    over either. The measured fork makes the last of 16 consoles, and the measured entry and merge the last versions. Which pair is mergeable
    is asked twice, as a merge and a fast-forward go by different tests. The measured hub tests every two of 16 consoles; the calls behind it
-   are made in the hub room, and resume has its tape. */
+   are made in the hub room, and resume has its tape. A view has the one room as its live and as its frozen store, and chooses either. */
 #define _DEFAULT_SOURCE /* for pthread_attr_setstack and MAP_ANONYMOUS */
 #include <pthread.h>
 #include <stdint.h>
@@ -136,6 +136,36 @@ static struct room_reply ask_mergeable(void)
     return room_mergeable(shared->store, sizeof shared->store);
 }
 
+static struct room_reply view_refusal(uint32_t choice)
+{
+    return room_view_refusal(shared->store, sizeof shared->store, shared->store, sizeof shared->store, 0, choice);
+}
+
+static struct room_reply view_at(uint32_t choice)
+{
+    return room_view_at(shared->store, sizeof shared->store, shared->store, sizeof shared->store, 0, choice);
+}
+
+static struct room_reply ask_live_view_refusal(void)
+{
+    return view_refusal(ROOM_LIVE);
+}
+
+static struct room_reply ask_frozen_view_refusal(void)
+{
+    return view_refusal(ROOM_FROZEN);
+}
+
+static struct room_reply ask_live_view_at(void)
+{
+    return view_at(ROOM_LIVE);
+}
+
+static struct room_reply ask_frozen_view_at(void)
+{
+    return view_at(ROOM_FROZEN);
+}
+
 static struct room_reply resume_room(void)
 {
     return room_resume(shared->tape, shared->tape_length, shared->store, sizeof shared->store);
@@ -246,6 +276,10 @@ int main(void)
         {"common", ask_common_of_0_and_1, ROOM_STACK},
         {"origin", ask_origin_for_0, ROOM_ORIGIN_STACK},
         {"mergeable, a fast-forward", ask_mergeable, ROOM_STACK},
+        {"the refusal of a live view", ask_live_view_refusal, ROOM_STACK},
+        {"the refusal of a frozen view", ask_frozen_view_refusal, ROOM_STACK},
+        {"the place of a live view", ask_live_view_at, ROOM_STACK},
+        {"the place of a frozen view", ask_frozen_view_at, ROOM_STACK},
         {"a leave", leave_by_last, ROOM_STACK},
         {"resume", resume_room, ROOM_RESUME_STACK},
         {"open", open_room, ROOM_STACK},
