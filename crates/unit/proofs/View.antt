@@ -66,12 +66,6 @@ module _ (live frozen : List ℕ) (console choice : ℕ) where
   unfolding viewPart viewAtReply viewRefusalReply
   shown-view none = rw none
 
-  -- as the code meets them
-  pub view-refused : viewAtReply live frozen console choice .answer ≢ 0
-      → (viewPart live frozen console choice ≡ []) × (viewAtReply live frozen console choice .count ≡ 0)
-  unfolding viewAtReply viewPart
-  view-refused given = rw (ne-eqb (firstRefusal (viewTests live frozen console choice)) 0 given) (refl, refl)
-
   pub view-done : viewAtReply live frozen console choice .answer ≡ 0
       → (viewAtReply live frozen console choice .count + boardSize ≤ length (chosen choice live frozen))
       × (viewPart live frozen console choice ≡ part (chosen choice live frozen) (viewAtReply live frozen console choice .count) boardSize)
@@ -80,6 +74,19 @@ module _ (live frozen : List ℕ) (console choice : ℕ) where
       let store = chosen choice live frozen in
       let a = view-allowed live frozen console choice none in
       rw none (head-inside store console a, sym (head-shown store console a))
+
+  -- as the code meets them: a part of the store chosen, none of it or its board
+  module _ (p q : ℕ × ℕ) {base pointer : ℕ × ℕ} {bytes : List ℕ} (chose : base ≡ chosen choice p q) where
+    pub view-empty : viewAtReply live frozen console choice .answer ≢ 0 → bytes ≡ [] → pointer ≡ base
+        → (bytes ≡ viewPart live frozen console choice) × (pointer ≡ addressOf (chosen choice p q) (viewAtReply live frozen console choice .count))
+    unfolding viewAtReply viewPart
+    view-empty given none front =
+        rw (ne-eqb (firstRefusal (viewTests live frozen console choice)) 0 given) (none, front ∙ chose ∙ address-front (chosen choice p q))
+
+    pub view-placed : {store : List ℕ} {at : ℕ} → store ≡ chosen choice live frozen → viewAtReply live frozen console choice .answer ≡ 0
+        → at ≡ viewAtReply live frozen console choice .count → bytes ≡ part store at boardSize → pointer ≡ addressOf base at
+        → (bytes ≡ viewPart live frozen console choice) × (pointer ≡ addressOf (chosen choice p q) (viewAtReply live frozen console choice .count))
+    view-placed from none counted shown lies = (rw (from, counted) at shown ∙ sym (view-done none .1), rw (chose, counted) at lies)
 
 -- what is said of a store's own view
 module _ (store other : List ℕ) (console : ℕ) where

@@ -3,7 +3,7 @@ use crate::Reply;
 use crate::answers::counted;
 use crate::answers::reply_of;
 use crate::answers::size;
-use crate::questions::pair_state_refusal;
+use crate::questions::console_state_refusal;
 use buffer::part_of;
 use command::numbers::is_console;
 use graph::Console;
@@ -57,7 +57,7 @@ fn view_state_refusal<'a>(live: &'a [u8], frozen: &'a [u8], c: Console, choice: 
     requires { ⌜ c .0 < consoleCount ⌝ }
     ensures { λ r. ⌜ r ≡ firstRefusal (consoleStateTests (chosen choice (now (live .entry)) (now (frozen .entry))) (c .0)) ⌝ }
 {
-    pair_state_refusal(chosen_store(live, frozen, choice), c, c)
+    console_state_refusal(chosen_store(live, frozen, choice), c)
 }
 
 // Why there is no view, or 0: the numbers first, then the store.

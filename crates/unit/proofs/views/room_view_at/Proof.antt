@@ -18,14 +18,6 @@ returns c =
     rw (c .reply-of .ensures)
     (replied-refused (boardAt (head (roomIn (chosen (a .choice) (a .live .now) (a .frozen .now))) (a .console))) (judged .view-refusal .ensures) (omega arith))
 
-shown-at-requires : tie.Need-shown-at-requires
-shown-at-requires c κs =
-    let found = c .before in
-    let judged = found .before .before in
-    let a = judged .before .before .before .args in
-    let p = view-allowed (a .live .now) (a .frozen .now) (a .console) (a .choice) (sym (judged .view-refusal .ensures) ∙ omega arith) in
-    rw (found .chosen-store .ensures .0, c .size .ensures) (p .held, p .first)
-
 returns-2 : tie.Need-returns-2
 unfolding viewAtReply
 returns-2 c =
@@ -34,6 +26,14 @@ returns-2 c =
     rw (c .counted .ensures)
     (replied-done (found .before .before .view-refusal .ensures) (omega arith)
     (rw (found .chosen-store .ensures .0, shown .before .size .ensures) at (shown .shown-at .ensures .0)))
+
+shown-at-requires : tie.Need-shown-at-requires
+shown-at-requires c κs =
+    let found = c .before in
+    let judged = found .before .before in
+    let a = judged .before .before .before .args in
+    let p = view-allowed (a .live .now) (a .frozen .now) (a .console) (a .choice) (sym (judged .view-refusal .ensures) ∙ omega arith) in
+    rw (found .chosen-store .ensures .0, c .size .ensures) (p .held, p .first)
 
 pub room-view-at-spec : {M : Type 1} → statement M
 room-view-at-spec =
