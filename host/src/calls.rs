@@ -2,12 +2,13 @@
 
 use crate::layout;
 use crate::model::{
-    capacity_is_in_range, cell_origin, command_length, common_version, console_board, decode,
-    heard_count, refusal, refuse_if, reported, room_of_tape, sound_boards, step, tape_of, verdict,
-    Ancestry, Cell, Room, Verdict, CONSOLES, STRIPS,
+    capacity_is_in_range, cell_origin, choice, command_length, common_version, console_board,
+    decode, heard_count, refusal, refuse_if, reported, room_of_tape, sound_boards, step, tape_of,
+    verdict, Ancestry, Cell, Room, Verdict, CONSOLES, STRIPS,
 };
 
-/// The answer is 0 or the refusal; the count is the question's number, the bytes written or the clashes of a merge, else 0.
+/// The answer is 0 or the refusal; the count is the question's number, the bytes written, the place of a view or the clashes of a merge,
+/// else 0.
 #[derive(Clone, Copy, Debug, PartialEq, Eq)]
 #[repr(C)]
 pub struct Reply {
@@ -80,6 +81,21 @@ pub fn mergeable(store: &[u8]) -> Reply {
     Reply::of(room_in(store).map(|room| verdict(&room).number()))
 }
 
+/// Why there is no view with these operands, or 0.
+pub fn view_refusal(live: &[u8], frozen: &[u8], console: u32, choice: u32) -> Reply {
+    Reply::of(viewed(live, frozen, console, choice).map(|_| 0))
+}
+
+/// Where the board viewed stands in the store chosen.
+pub fn view_at(live: &[u8], frozen: &[u8], console: u32, choice: u32) -> Reply {
+    Reply::of(viewed(live, frozen, console, choice).map(|view| view.place))
+}
+
+/// The board viewed as a part of the store chosen; a refusal gives a part of length 0.
+pub fn view<'a>(live: &'a [u8], frozen: &'a [u8], console: u32, choice: u32) -> &'a [u8] {
+    viewed(live, frozen, console, choice).map_or(&[], View::part)
+}
+
 // ---------------------------------------------------------------- what they are made of
 
 /// The room that the lent bytes hold, or refusal 11.
@@ -145,6 +161,40 @@ fn shown_board(store: &[u8], console: u32) -> Result<Vec<u8>, u32> {
     let room = room_in(store)?;
     let board = console_board(&room, console).ok_or(refusal::CONSOLE_ABSENT)?;
     Ok(layout::board_bytes(&board))
+}
+
+/// A board where it stands: the store chosen, and the place in it.
+struct View<'a> {
+    store: &'a [u8],
+    place: usize,
+}
+
+impl<'a> View<'a> {
+    fn part(self) -> &'a [u8] {
+        &self.store[self.place..self.place + layout::BOARD_BYTES]
+    }
+}
+
+/// The store that a view chooses, or refusal 5. The other one is not looked at.
+fn chosen_store<'a>(live: &'a [u8], frozen: &'a [u8], choice: u32) -> Result<&'a [u8], u32> {
+    match choice {
+        choice::LIVE => Ok(live),
+        choice::FROZEN => Ok(frozen),
+        _ => Err(refusal::OPERAND_TOO_HIGH),
+    }
+}
+
+fn viewed<'a>(
+    live: &'a [u8],
+    frozen: &'a [u8],
+    console: u32,
+    choice: u32,
+) -> Result<View<'a>, u32> {
+    let console = asked_console(console)?;
+    let store = chosen_store(live, frozen, choice)?;
+    let head = room_in(store)?.head(console);
+    let place = layout::board_at(head.ok_or(refusal::CONSOLE_ABSENT)?);
+    Ok(View { store, place })
 }
 
 fn heard_number(store: &[u8], console: u32) -> Result<usize, u32> {

@@ -1,7 +1,8 @@
 // The comparison of an implementation of the calls with the model, call by call: every reply, and every byte of every
 // lent buffer and of guard bytes around it; in sessions in which consoles come and go, with the book of demand 3; of the answer which
-// two can meet with what the commands then do; and of rooms with a hub with what is promised of them: no 17, nothing stuck, and all can be
-// brought to one head. The cases come from one seed, so that a difference can be met again.
+// two can meet with what the commands then do; of views of one of two stores with the store chosen and its board; and of rooms with a hub
+// with what is promised of them: no 17, nothing stuck, and all can be brought to one head. The cases come from one seed, so that a
+// difference can be met again.
 
 use crate::book::Book;
 use crate::calls::Reply;
@@ -9,10 +10,12 @@ use crate::gen;
 use crate::implementations::{Calls, MODEL};
 use crate::layout::{self, store_bytes, BOARD_BYTES};
 use crate::model::{
-    code, decode, record, refusal, room_of_tape, step, tape_of, Room, Verdict, CONSOLES, STRIPS,
+    choice, code, decode, record, refusal, room_of_tape, step, tape_of, Room, Verdict, CONSOLES,
+    STRIPS,
 };
 use crate::rng::Rng;
 use crate::verdicts;
+use crate::views::{self, Asked};
 use std::collections::{BTreeMap, BTreeSet};
 use std::fmt;
 use std::iter::repeat_n;
@@ -49,7 +52,7 @@ impl Buffer {
     }
 }
 
-/// The buffers of a call: the store, a command or tape to be read, and a tape or board to be written.
+/// The buffers of a call: the store, a command, a tape or the frozen store of a view to be read, and a tape or board to be written.
 #[derive(Clone)]
 struct Lent {
     store: Buffer,
@@ -61,6 +64,10 @@ impl Lent {
     fn make(&mut self, call: Call, calls: &Calls) -> Reply {
         let store = self.store.lent_mut();
         call.make(calls, store, self.input.lent(), self.output.lent_mut())
+    }
+
+    fn asked(&self, view: View) -> Asked<'_> {
+        view.asked(self.store.lent(), self.input.lent())
     }
 }
 
@@ -81,6 +88,22 @@ impl Pair {
         Pair {
             model: lent.clone(),
             tested: lent,
+        }
+    }
+
+    /// The two stores of a view.
+    fn of_stores(live: &[u8], frozen: &[u8]) -> Pair {
+        let mut pair = Pair::of_store(live);
+        pair.lend_input(frozen);
+        pair
+    }
+
+    /// The same, with either of them as the live one.
+    fn in_any_order(rng: &mut Rng, one: &[u8], other: &[u8]) -> Pair {
+        if rng.chance(50) {
+            Pair::of_stores(one, other)
+        } else {
+            Pair::of_stores(other, one)
         }
     }
 
@@ -132,6 +155,28 @@ impl Pair {
 
 // ---------------------------------------------------------------- one compared call
 
+/// What a view is asked for. The live store is the lent store, and the frozen one the lent input, or the lent store once more.
+#[derive(Clone, Copy, Debug)]
+pub struct View {
+    pub console: u32,
+    pub choice: u32,
+    pub is_of_one_store: bool,
+}
+
+impl View {
+    fn asked<'a>(self, store: &'a [u8], input: &'a [u8]) -> Asked<'a> {
+        Asked {
+            live: store,
+            frozen: if self.is_of_one_store { store } else { input },
+            console: self.console,
+            choice: self.choice,
+        }
+    }
+}
+
+/// What a view showed on both sides: the board, or the refusal.
+type Seen = Result<Vec<u8>, u32>;
+
 /// A call and its numbers; commands, tapes and outputs stand in the lent buffers.
 #[derive(Clone, Copy, Debug)]
 pub enum Call {
@@ -144,10 +189,12 @@ pub enum Call {
     Common { first: u32, second: u32 },
     Origin { console: u32, strip: u32, cell: u32 },
     Mergeable,
+    ViewRefusal(View),
+    ViewAt(View),
 }
 
 /// The calls, each with the answers that include/room.h lists for it, in the order of the tests.
-const LISTED: [(&str, &[usize]); 9] = [
+const LISTED: [(&str, &[usize]); 11] = [
     ("open", &[0, 8, 19]),
     (
         "command",
@@ -162,6 +209,8 @@ const LISTED: [(&str, &[usize]); 9] = [
     ("common", &[0, 3, 11, 12]),
     ("origin", &[0, 3, 4, 5, 11, 12]),
     ("mergeable", &[0, 11]),
+    ("view_refusal", &[0, 3, 5, 11, 12]),
+    ("view_at", &[0, 3, 5, 11, 12]),
 ];
 
 impl Call {
@@ -176,10 +225,12 @@ impl Call {
             Call::Common { .. } => 6,
             Call::Origin { .. } => 7,
             Call::Mergeable => 8,
+            Call::ViewRefusal(_) => 9,
+            Call::ViewAt(_) => 10,
         }
     }
 
-    /// Makes the call with the store, a command or tape to be read, and a tape or board to be written.
+    /// Makes the call with the store, a command, a tape or a frozen store to be read, and a tape or board to be written.
     pub fn make(self, calls: &Calls, store: &mut [u8], input: &[u8], output: &mut [u8]) -> Reply {
         match self {
             Call::Open { capacity } => (calls.open)(capacity, store),
@@ -195,6 +246,8 @@ impl Call {
                 cell,
             } => (calls.origin)(store, console, strip, cell),
             Call::Mergeable => (calls.mergeable)(store),
+            Call::ViewRefusal(view) => view.asked(store, input).refusal(calls),
+            Call::ViewAt(view) => view.asked(store, input).place(calls),
         }
     }
 }
@@ -206,6 +259,9 @@ const HIGHEST_REFUSAL: usize = refusal::CANNOT_MAKE_HUB as usize;
 
 /// The cells of a question for an origin: level and heading.
 const CELLS: [u32; 2] = [0, 1];
+
+/// The choices of a view.
+const CHOICES: [u32; 2] = [choice::LIVE, choice::FROZEN];
 
 /// What is counted beside the answers.
 #[derive(Clone, Copy)]
@@ -236,10 +292,18 @@ enum Figure {
     HubTapeRefused,
     LeaveWithHub,
     ForkedAgainWithHub,
+    ViewOfLive,
+    ViewOfFrozen,
+    ViewOfOneStore,
+    LiveBesideUnsound,
+    FrozenBesideUnsound,
+    LiveAlone,
+    FrozenAlone,
+    BoardsDiffer,
 }
 
 /// The figures, each with its name and the least that a run must have of it for each of its rounds.
-const FIGURES: [(Figure, &str, u64); 26] = [
+const FIGURES: [(Figure, &str, u64); 34] = [
     (Figure::OriginOfNoEntry, "origins of no entry", 1),
     (Figure::OriginOfAnEntry, "origins of an entry", 1),
     (Figure::Leave, "leaves accepted", 100),
@@ -310,17 +374,60 @@ const FIGURES: [(Figure, &str, u64); 26] = [
         "numbers forked again where there is a hub",
         5,
     ),
+    (Figure::ViewOfLive, "views of the live store", 250),
+    (Figure::ViewOfFrozen, "views of the frozen store", 250),
+    (
+        Figure::ViewOfOneStore,
+        "views of one store lent as both",
+        15,
+    ),
+    (
+        Figure::LiveBesideUnsound,
+        "views of the live store where the frozen one gives 11",
+        80,
+    ),
+    (
+        Figure::FrozenBesideUnsound,
+        "views of the frozen store where the live one gives 11",
+        80,
+    ),
+    (
+        Figure::LiveAlone,
+        "views of the live store where the frozen one gives 12",
+        10,
+    ),
+    (
+        Figure::FrozenAlone,
+        "views of the frozen store where the live one gives 12",
+        10,
+    ),
+    (
+        Figure::BoardsDiffer,
+        "boards that differ, live and frozen",
+        40,
+    ),
 ];
 
 /// From this console on a receiver is high: many pairs come before it.
 const HIGH_RECEIVER: usize = 8;
 
 /// How often each call gave each answer, the figures, and how many merges counted each number of clashes.
-#[derive(Clone, Default)]
+#[derive(Clone)]
 pub struct Tally {
     answers: [[u64; HIGHEST_REFUSAL + 1]; LISTED.len()],
     figures: [u64; FIGURES.len()],
     merges: BTreeMap<u32, u64>,
+}
+
+// Written out, as arrays of more than 32 have no default.
+impl Default for Tally {
+    fn default() -> Tally {
+        Tally {
+            answers: [[0; HIGHEST_REFUSAL + 1]; LISTED.len()],
+            figures: [0; FIGURES.len()],
+            merges: BTreeMap::new(),
+        }
+    }
 }
 
 impl Tally {
@@ -380,6 +487,30 @@ impl Tally {
         let figure = match reply.answer {
             0 if layout::has_hub(store) => Figure::HubResumed,
             refusal::TAPE_NOT_SOUND if is_sound_without_hub(tape) => Figure::HubTapeRefused,
+            _ => return,
+        };
+        self.count(figure, 1);
+    }
+
+    /// Counts a view that both sides accepted.
+    fn note_view(&mut self, view: View) {
+        let figure = if view.choice == choice::LIVE {
+            Figure::ViewOfLive
+        } else {
+            Figure::ViewOfFrozen
+        };
+        self.count(figure, 1);
+        self.count(Figure::ViewOfOneStore, view.is_of_one_store.into());
+    }
+
+    /// Counts what the two stores of a view showed of one console.
+    fn note_look(&mut self, live: Seen, frozen: Seen) {
+        let figure = match (live, frozen) {
+            (Ok(_), Err(refusal::NO_SOUND_STORE)) => Figure::LiveBesideUnsound,
+            (Err(refusal::NO_SOUND_STORE), Ok(_)) => Figure::FrozenBesideUnsound,
+            (Ok(_), Err(refusal::CONSOLE_ABSENT)) => Figure::LiveAlone,
+            (Err(refusal::CONSOLE_ABSENT), Ok(_)) => Figure::FrozenAlone,
+            (Ok(live), Ok(frozen)) if live != frozen => Figure::BoardsDiffer,
             _ => return,
         };
         self.count(figure, 1);
@@ -497,8 +628,8 @@ fn write_row(
     last: impl fmt::Display,
 ) -> fmt::Result {
     write!(out, "{first:>6}")?;
-    for column in columns {
-        write!(out, " {column:>9}")?;
+    for (column, (name, _)) in columns.into_iter().zip(LISTED) {
+        write!(out, " {column:>width$}", width = name.len().max(9))?;
     }
     writeln!(out, " {last:>9}")
 }
@@ -652,6 +783,43 @@ impl Comparison {
         Ok(verdict)
     }
 
+    /// A view on both sides: its refusal, its place and its part, and that these fit the store chosen and the board copied out of it.
+    fn view(&mut self, view: View, pair: &mut Pair) -> Outcome<Seen> {
+        self.call(Call::ViewRefusal(view), pair)?;
+        self.call(Call::ViewAt(view), pair)?;
+        let seen = self
+            .seen(view, pair)
+            .map_err(|difference| self.story(Call::ViewAt(view), pair, &difference))?;
+        if seen.is_ok() {
+            self.tally.note_view(view);
+        }
+        Ok(seen)
+    }
+
+    /// What a view shows, where the tested side's calls fit, the model shows the same bytes, and no lent byte has changed.
+    fn seen(&self, view: View, pair: &Pair) -> Outcome<Seen> {
+        let tested = views::check(&self.tested, pair.tested.asked(view))?;
+        let model = pair.model.asked(view).part(&MODEL);
+        if tested.unwrap_or_default() != model {
+            return Err("view differs: another part".to_string());
+        }
+        let difference = pair.difference();
+        difference.map_or(Ok(tested.map(<[u8]>::to_vec)), Err)
+    }
+
+    /// Views of one console, with either choice, in two lent stores.
+    fn look(&mut self, pair: &mut Pair, console: u32) -> Outcome<()> {
+        let view = |choice: u32| View {
+            console,
+            choice,
+            is_of_one_store: false,
+        };
+        let live = self.view(view(choice::LIVE), pair)?;
+        let frozen = self.view(view(choice::FROZEN), pair)?;
+        self.tally.note_look(live, frozen);
+        Ok(())
+    }
+
     /// Each call that reads a store, on bytes that may hold none.
     fn all_calls(&mut self, rng: &mut Rng, pair: &mut Pair) -> Outcome<()> {
         let console = rng.below(3) as u32;
@@ -663,7 +831,12 @@ impl Comparison {
         self.call(Call::Common { first, second }, pair)?;
         self.call(Call::Mergeable, pair)?;
         let strip = gen::some_strip(rng).into();
-        self.origins(pair, &[console], &[strip], &CELLS)
+        self.origins(pair, &[console], &[strip], &CELLS)?;
+        // Beside a store that is sound.
+        let sound = layout::encode(&gen::some_room(rng, 4, 8));
+        let both = &mut Pair::in_any_order(rng, pair.store(), &sound);
+        self.look(both, console)?;
+        self.view(some_view(rng), both).map(|_| ())
     }
 }
 
@@ -720,10 +893,20 @@ fn some_origin(rng: &mut Rng) -> Call {
     }
 }
 
+/// A view, mostly with its numbers in range; now and then one store is lent as both.
+fn some_view(rng: &mut Rng) -> View {
+    let choice = rng.below(CHOICES.len());
+    View {
+        console: some_console(rng),
+        choice: or_too_high(rng, choice, CHOICES.len()),
+        is_of_one_store: rng.chance(20),
+    }
+}
+
 // ---------------------------------------------------------------- sessions
 
-/// A running room: its buffers, the room that the model's rules give, from which commands are chosen, the book of its calls, and which
-/// consoles have left and not come back.
+/// A running room: its buffers, the room that the model's rules give, from which commands are chosen, the book of its calls, which
+/// consoles have left and not come back, and a store of the room as it was at some pause, empty before the first.
 struct Session<'a> {
     comparison: &'a mut Comparison,
     rng: Rng,
@@ -731,6 +914,7 @@ struct Session<'a> {
     room: Room,
     book: Book,
     has_left: [bool; CONSOLES],
+    frozen: Vec<u8>,
 }
 
 /// The steps of a session with turnover from one look at the book to the next.
@@ -754,6 +938,7 @@ impl<'a> Session<'a> {
             room,
             book,
             has_left: [false; CONSOLES],
+            frozen: Vec::new(),
         }
     }
 
@@ -864,7 +1049,7 @@ impl<'a> Session<'a> {
                 self.command(&bytes).map(|_| ())
             }
             55..=70 => self.ask(),
-            71..=77 => self.pause().map(|_| ()),
+            71..=77 => self.freeze(),
             78..=82 => self.come_back(),
             83..=86 => self.resume_elsewhere(),
             87..=88 => self.open_elsewhere(),
@@ -935,7 +1120,8 @@ impl<'a> Session<'a> {
         self.comparison.call(Call::Common { first, second }, pair)?;
         self.comparison.call(some_origin(&mut self.rng), pair)?;
         self.comparison.verdict(pair)?;
-        self.ask_origins()
+        self.ask_origins()?;
+        self.look()
     }
 
     /// The origins of a strip's cells with a present console.
@@ -944,6 +1130,30 @@ impl<'a> Session<'a> {
         let strip = gen::some_strip(&mut self.rng).into();
         let pair = &mut self.pair;
         self.comparison.origins(pair, &[console], &[strip], &CELLS)
+    }
+
+    /// Views of the running room and of the frozen one, or of what else may be lent with it.
+    fn look(&mut self) -> Outcome<()> {
+        let rng = &mut self.rng;
+        let beside = gen::store_beside(rng, &self.frozen);
+        let both = &mut Pair::in_any_order(rng, self.pair.store(), &beside);
+        let any = rng.below(CONSOLES);
+        let present = rng.pick(&self.room.present());
+        let console = present.filter(|_| rng.chance(50)).unwrap_or(any);
+        self.comparison.look(both, console as u32)?;
+        self.comparison.view(some_view(rng), both).map(|_| ())
+    }
+
+    /// Pauses, and resumes beside the running room, which goes on.
+    fn freeze(&mut self) -> Outcome<()> {
+        let Some(tape) = self.pause()? else {
+            return Ok(());
+        };
+        let length = store_length(&mut self.rng, self.room.capacity);
+        let mut pair = Pair::of_store(&bytes_of_length(&mut self.rng, length));
+        self.comparison.resume(&mut pair, &tape)?;
+        self.frozen = pair.store().to_vec();
+        Ok(())
     }
 
     /// Pauses into an output of some length; the tape, where it was long enough.
@@ -1240,7 +1450,7 @@ fn some_store(rng: &mut Rng) -> Vec<u8> {
 fn compare_every_byte(comparison: &mut Comparison, rng: &mut Rng, capacity: usize) -> Outcome<()> {
     let room = gen::some_room(rng, capacity, 5 * capacity);
     let store = layout::encode(&room);
-    let mut pair = Pair::of_store(&store);
+    let mut pair = Pair::of_stores(&store, &store);
     for place in 0..store.len() {
         let bits = if rng.chance(50) {
             1 << rng.below(8)
@@ -1250,6 +1460,7 @@ fn compare_every_byte(comparison: &mut Comparison, rng: &mut Rng, capacity: usiz
         pair.change_store(place, bits);
         comparison.call(Call::Heard { console: 0 }, &mut pair)?;
         comparison.call(Call::Mergeable, &mut pair)?;
+        comparison.look(&mut pair, 0)?;
         pair.change_store(place, bits);
     }
     compare_cut_store(comparison, &store)
@@ -1257,9 +1468,10 @@ fn compare_every_byte(comparison: &mut Comparison, rng: &mut Rng, capacity: usiz
 
 fn compare_cut_store(comparison: &mut Comparison, store: &[u8]) -> Outcome<()> {
     for length in (0..store.len()).step_by(37).chain([store.len() - 1]) {
-        let mut cut = Pair::of_store(&store[..length]);
+        let mut cut = Pair::of_stores(&store[..length], store);
         comparison.call(Call::Heard { console: 0 }, &mut cut)?;
         comparison.call(Call::Mergeable, &mut cut)?;
+        comparison.look(&mut cut, 0)?;
     }
     Ok(())
 }
@@ -1307,7 +1519,7 @@ fn compare_garbage(comparison: &mut Comparison, rng: &mut Rng, count: usize) -> 
     Ok(())
 }
 
-/// Numbers at and beyond the ends of the ranges of capacities, consoles, strips and cells, and of 8, 16 and 32 bits.
+/// Numbers at and beyond the ends of the ranges of capacities, consoles, strips, cells and choices, and of 8, 16 and 32 bits.
 const EDGE_NUMBERS: [u32; 20] = [
     0,
     1,
@@ -1338,8 +1550,24 @@ fn compare_numbers(comparison: &mut Comparison, rng: &mut Rng) -> Outcome<()> {
         compare_consoles(comparison, rng, store)?;
         let pair = &mut Pair::of_store(store);
         comparison.origins(pair, &EDGE_NUMBERS, &EDGE_NUMBERS, &EDGE_NUMBERS)?;
+        compare_views(comparison, &mut Pair::of_stores(store, &running))?;
+        compare_views(comparison, &mut Pair::of_stores(&running, store))?;
     }
     Ok(())
+}
+
+/// The views of these stores with every two of the edge numbers as console and choice, and with one store as both.
+fn compare_views(comparison: &mut Comparison, pair: &mut Pair) -> Outcome<()> {
+    let numbers = pairs(&EDGE_NUMBERS, &EDGE_NUMBERS);
+    let mut operands = pairs(&numbers, &[false, true]).into_iter();
+    operands.try_for_each(|((console, choice), is_of_one_store)| {
+        let view = View {
+            console,
+            choice,
+            is_of_one_store,
+        };
+        comparison.view(view, pair).map(|_| ())
+    })
 }
 
 fn compare_capacities(comparison: &mut Comparison, rng: &mut Rng) -> Outcome<()> {
@@ -1388,6 +1616,14 @@ fn compare_full_verdicts(comparison: &mut Comparison) -> Outcome<()> {
         comparison.verdict(&mut Pair::of_store(&layout::encode(&room)))?;
     }
     Ok(())
+}
+
+/// The boards of the highest versions, in the last bytes of full stores, side by side.
+fn compare_full_views(comparison: &mut Comparison) -> Outcome<()> {
+    let live = layout::encode(&gen::chain_of_entries(1024));
+    let frozen = layout::encode(&gen::chain_of_merges(1024));
+    let both = &mut Pair::of_stores(&live, &frozen);
+    (0..3).try_for_each(|console| comparison.look(both, console))
 }
 
 // ---------------------------------------------------------------- the paper's rooms
@@ -1623,6 +1859,7 @@ fn fixed_cases(comparison: &mut Comparison, rng: &mut Rng) -> Outcome<()> {
     compare_long_tapes(comparison, rng)?;
     compare_long_walks(comparison)?;
     compare_full_verdicts(comparison)?;
+    compare_full_views(comparison)?;
     for clashes in 0..=gen::VALUES {
         compare_clashes(comparison, rng, clashes)?;
     }

@@ -78,6 +78,21 @@ pub fn mergeable(store: &[u8]) -> Reply {
     Reply::of(find_pair(store))
 }
 
+pub fn view_refusal(live: &[u8], frozen: &[u8], console: u32, choice: u32) -> Reply {
+    let found = find_view(live, frozen, console as usize, choice as usize);
+    Reply::of(found.map(|_| 0))
+}
+
+pub fn view_at(live: &[u8], frozen: &[u8], console: u32, choice: u32) -> Reply {
+    let found = find_view(live, frozen, console as usize, choice as usize);
+    Reply::of(found.map(|(place, _)| place))
+}
+
+pub fn view<'a>(live: &'a [u8], frozen: &'a [u8], console: u32, choice: u32) -> &'a [u8] {
+    let found = find_view(live, frozen, console as usize, choice as usize);
+    found.map_or(&[], |(_, part)| part)
+}
+
 // ---------------------------------------------------------------- fields
 
 fn number(bytes: &[u8], place: usize) -> usize {
@@ -553,13 +568,32 @@ fn refuse_high_console(console: usize) -> Result<(), u32> {
 
 fn copy_board(store: &[u8], console: usize, board: &mut [u8]) -> Result<usize, u32> {
     refuse_high_console(console)?;
-    let (header, blocks) = sound_parts(store)?;
-    let shown = &blocks[head_of(header, console)?][BOARD_AT..];
+    let (_, shown) = board_part(store, console)?;
     let front = board.get_mut(..shown.len());
     front
         .ok_or(refusal::BUFFER_TOO_SHORT)?
         .copy_from_slice(shown);
     Ok(shown.len())
+}
+
+/// The place of a console's board in a sound store, and the board there, or refusal 11 or 12.
+fn board_part(store: &[u8], console: usize) -> Result<(usize, &[u8]), u32> {
+    let (header, blocks) = sound_parts(store)?;
+    let head = head_of(header, console)?;
+    let place = size_of::<Header>() + size_of::<Block>() * head + BOARD_AT;
+    Ok((place, &blocks[head][BOARD_AT..]))
+}
+
+/// The same in the store chosen; nothing is read of the other one.
+fn find_view<'a>(
+    live: &'a [u8],
+    frozen: &'a [u8],
+    console: usize,
+    choice: usize,
+) -> Result<(usize, &'a [u8]), u32> {
+    refuse_high_console(console)?;
+    let chosen = [live, frozen].get(choice).copied();
+    board_part(chosen.ok_or(refusal::OPERAND_TOO_HIGH)?, console)
 }
 
 fn count_heard(store: &[u8], console: usize) -> Result<usize, u32> {

@@ -1,4 +1,5 @@
-// Generators of cases: command sequences, full rooms, rooms with a hub, stuck rooms, graphs as tapes, and damaged tapes and stores.
+// Generators of cases: command sequences, full rooms, rooms with a hub, stuck rooms, graphs as tapes, damaged tapes and stores, and what
+// is lent beside a store.
 
 use crate::layout::{self, encode_with};
 use crate::model::{
@@ -1044,4 +1045,15 @@ pub fn garbage(rng: &mut Rng, longest: usize) -> Vec<u8> {
         places.for_each(|(place, byte)| *place = byte);
     }
     bytes
+}
+
+/// Bytes that are lent beside a store for a view: mostly an earlier store as it is, else a damaged or cut one, garbage, or none.
+pub fn store_beside(rng: &mut Rng, earlier: &[u8]) -> Vec<u8> {
+    match rng.below(10) {
+        0 => Vec::new(),
+        1 => garbage(rng, 8000),
+        2 => earlier[..rng.below(earlier.len() + 1)].to_vec(),
+        3 => damaged_store(rng, earlier),
+        _ => earlier.to_vec(),
+    }
 }

@@ -16,6 +16,9 @@ pub struct Calls {
     pub common: fn(&[u8], u32, u32) -> Reply,
     pub origin: fn(&[u8], u32, u32, u32) -> Reply,
     pub mergeable: fn(&[u8]) -> Reply,
+    pub view_refusal: fn(&[u8], &[u8], u32, u32) -> Reply,
+    pub view_at: fn(&[u8], &[u8], u32, u32) -> Reply,
+    pub view: for<'a> fn(&'a [u8], &'a [u8], u32, u32) -> &'a [u8],
 }
 
 pub const MODEL: Calls = Calls {
@@ -29,6 +32,9 @@ pub const MODEL: Calls = Calls {
     common: calls::common,
     origin: calls::origin,
     mergeable: calls::mergeable,
+    view_refusal: calls::view_refusal,
+    view_at: calls::view_at,
+    view: calls::view,
 };
 
 pub const FAST: Calls = Calls {
@@ -42,6 +48,9 @@ pub const FAST: Calls = Calls {
     common: fast::common,
     origin: fast::origin,
     mergeable: fast::mergeable,
+    view_refusal: fast::view_refusal,
+    view_at: fast::view_at,
+    view: fast::view,
 };
 
 pub const UNIT: Calls = Calls {
@@ -55,4 +64,7 @@ pub const UNIT: Calls = Calls {
     common: unit::common,
     origin: unit::origin,
     mergeable: unit::mergeable,
+    view_refusal: unit::view_refusal,
+    view_at: unit::view_at,
+    view: unit::view,
 };

@@ -35,6 +35,11 @@ pub fn block_at(version: usize) -> usize {
     HEADER_BYTES + BLOCK_BYTES * version
 }
 
+/// Where the board of a version starts.
+pub fn board_at(version: usize) -> usize {
+    block_at(version) + BOARD_AT
+}
+
 /// Where the common version of two consoles stands.
 pub fn common_at(console: usize, other: usize) -> usize {
     COMMONS_AT + 2 * (CONSOLES * console + other)

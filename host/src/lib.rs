@@ -1,7 +1,8 @@
 // The test host: an independent model of the room unit, its bytes, its calls, generators of cases, a fast second implementation,
-// the wrapper of the unit itself, the comparison of both, and of the session program, with the model, the book of demand 3, and
-// the question which two can meet by its consequences. The comparison also holds rooms with a hub to their promises: no 17, never stuck,
-// and all of n consoles gathered on one head where n - 1 versions are free.
+// the wrapper of the unit itself, the comparison of both, and of the session program, with the model, the book of demand 3,
+// the question which two can meet by its consequences, and views of one of two stores by what their calls say of each other. The
+// comparison also holds rooms with a hub to their promises: no 17, never stuck, and all of n consoles gathered on one head where n - 1
+// versions are free.
 
 pub mod book;
 pub mod calls;
@@ -15,3 +16,4 @@ pub mod rng;
 pub mod session;
 pub mod unit;
 pub mod verdicts;
+pub mod views;

@@ -39,6 +39,12 @@ pub mod record {
     pub const HUB: u8 = 0x25;
 }
 
+/// The choices of a view: the store of the running room, or the one that was resumed beside it.
+pub mod choice {
+    pub const LIVE: u32 = 0;
+    pub const FROZEN: u32 = 1;
+}
+
 /// The numbers of the refusals.
 pub mod refusal {
     pub const NO_SUCH_COMMAND: u32 = 1;

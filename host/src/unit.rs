@@ -1,7 +1,10 @@
 // The safe wrapper of the room unit: its calls as safe functions. A slice crosses the boundary as a pointer and a length, and the
-// unit's contracts have no conditions, so any bytes and any numbers may be handed over.
+// unit's contracts have no conditions, so any bytes and any numbers may be handed over. No slice comes back: of a view the unit says the
+// place, and the part is cut out here.
 
 use crate::calls::Reply;
+use crate::layout::BOARD_BYTES;
+use crate::model::choice::LIVE;
 
 // As include/room.h declares them; public for the tests of NULL, which no slice can be.
 #[link(name = "unit", kind = "static")]
@@ -42,6 +45,22 @@ extern "C" {
         cell: u32,
     ) -> Reply;
     pub fn room_mergeable(store: *const u8, store_length: usize) -> Reply;
+    pub fn room_view_refusal(
+        live: *const u8,
+        live_length: usize,
+        frozen: *const u8,
+        frozen_length: usize,
+        console: u32,
+        choice: u32,
+    ) -> Reply;
+    pub fn room_view_at(
+        live: *const u8,
+        live_length: usize,
+        frozen: *const u8,
+        frozen_length: usize,
+        console: u32,
+        choice: u32,
+    ) -> Reply;
 }
 
 // Each call below is sound for every argument: the unit reads and writes within the lengths given and keeps no pointer.
@@ -96,4 +115,42 @@ pub fn origin(store: &[u8], console: u32, strip: u32, cell: u32) -> Reply {
 /// Which two can meet; `Reply::verdict` takes the number apart.
 pub fn mergeable(store: &[u8]) -> Reply {
     unsafe { room_mergeable(store.as_ptr(), store.len()) }
+}
+
+/// Why there is no view with these operands, or 0.
+pub fn view_refusal(live: &[u8], frozen: &[u8], console: u32, choice: u32) -> Reply {
+    unsafe {
+        room_view_refusal(
+            live.as_ptr(),
+            live.len(),
+            frozen.as_ptr(),
+            frozen.len(),
+            console,
+            choice,
+        )
+    }
+}
+
+/// Where the board viewed stands in the store chosen.
+pub fn view_at(live: &[u8], frozen: &[u8], console: u32, choice: u32) -> Reply {
+    unsafe {
+        room_view_at(
+            live.as_ptr(),
+            live.len(),
+            frozen.as_ptr(),
+            frozen.len(),
+            console,
+            choice,
+        )
+    }
+}
+
+/// The board viewed as a part of the store chosen, without a copy; of length 0 where the view is refused.
+pub fn view<'a>(live: &'a [u8], frozen: &'a [u8], console: u32, choice: u32) -> &'a [u8] {
+    let Reply { answer, count } = view_at(live, frozen, console, choice);
+    if answer != 0 {
+        return &[];
+    }
+    let chosen = if choice == LIVE { live } else { frozen };
+    &chosen[count as usize..][..BOARD_BYTES]
 }

@@ -1,11 +1,12 @@
 // The unit and the fast implementation against the model, on fewer cases than the program `compare` runs; and some that count wrongly,
-// name a wrong pair or mistake a hub, which must be found.
+// name a wrong pair, mistake a hub or show a wrong part, which must be found.
 
 use room_host::calls::Reply;
 use room_host::compare::{compare, seed, Effort};
 use room_host::fast;
 use room_host::implementations::{Calls, FAST, UNIT};
 use room_host::rng::Rng;
+use room_host::views::{self, Asked};
 use room_host::{gen, layout, verdicts};
 use std::ops::RangeInclusive;
 
@@ -18,7 +19,7 @@ fn assert_differs(wrong: Calls) {
     let found = compare(wrong, seed(), EFFORT).err();
     let difference = found.unwrap_or_default();
     let name = wrong.name;
-    let differs = ["replies differ", "store differs"];
+    let differs = ["replies differ", "store differs", "view differs"];
     assert!(
         differs.iter().any(|differs| difference.contains(differs)),
         "{name}: {difference}"
@@ -425,4 +426,204 @@ fn a_mistaken_hub_is_found() {
         assert_differs(misled);
     }
     mistaken().into_iter().for_each(assert_differs);
+}
+
+// ---------------------------------------------------------------- views
+
+/// The live and the frozen store, the console and the choice.
+type ViewOf<'a> = (&'a [u8], &'a [u8], u32, u32);
+type ViewCall = fn(&[u8], &[u8], u32, u32) -> Reply;
+type ViewPart = for<'a> fn(&'a [u8], &'a [u8], u32, u32) -> &'a [u8];
+
+/// The reply of the fast implementation to a view, but this refusal where the condition holds.
+fn refused_if(is_met: bool, answer: u32, (live, frozen, console, choice): ViewOf) -> Reply {
+    if is_met {
+        refused(answer)
+    } else {
+        fast::view_refusal(live, frozen, console, choice)
+    }
+}
+
+/// Wrong answers why there is no view.
+const MISREFUSED: [(&str, ViewCall); 13] = [
+    ("the live store alone", |live, _, console, choice| {
+        fast::view_refusal(live, live, console, choice)
+    }),
+    ("the choices exchanged", |live, frozen, console, choice| {
+        fast::view_refusal(frozen, live, console, choice)
+    }),
+    ("both stores are judged", |live, frozen, console, choice| {
+        let other = fast::view_refusal(frozen, live, console, choice);
+        refused_if(other == refused(11), 11, (live, frozen, console, choice))
+    }),
+    ("absent in either store", |live, frozen, console, choice| {
+        let other = fast::view_refusal(frozen, live, console, choice);
+        refused_if(other == refused(12), 12, (live, frozen, console, choice))
+    }),
+    ("a choice of one bit", |live, frozen, console, choice| {
+        fast::view_refusal(live, frozen, console, choice & 1)
+    }),
+    ("a choice of 8 bits", |live, frozen, console, choice| {
+        fast::view_refusal(live, frozen, console, choice & 0xFF)
+    }),
+    ("a choice of 16 bits", |live, frozen, console, choice| {
+        fast::view_refusal(live, frozen, console, choice & 0xFFFF)
+    }),
+    ("frozen if not live", |live, frozen, console, choice| {
+        fast::view_refusal(live, frozen, console, choice.min(1))
+    }),
+    ("a console of 8 bits", |live, frozen, console, choice| {
+        fast::view_refusal(live, frozen, console & 0xFF, choice)
+    }),
+    ("5 before 3", |live, frozen, console, choice| {
+        refused_if(choice > 1, 5, (live, frozen, console, choice))
+    }),
+    ("11 before 5", |live, frozen, console, choice| {
+        let is_unsound = fast::heard(live, console) == refused(11);
+        let is_met = is_unsound && choice > 1;
+        refused_if(is_met, 11, (live, frozen, console, choice))
+    }),
+    ("12 before 11", |live, frozen, console, choice| {
+        let right = fast::view_refusal(live, frozen, console, choice);
+        let is_met = right == refused(11) && console > 0;
+        refused_if(is_met, 12, (live, frozen, console, choice))
+    }),
+    ("the place is counted", fast::view_at),
+];
+
+/// The place of the fast implementation, changed where a view is accepted.
+fn misplaced((live, frozen, console, choice): ViewOf, place: fn(u32) -> u32) -> Reply {
+    let reply = fast::view_at(live, frozen, console, choice);
+    match reply.answer {
+        0 => Reply {
+            answer: 0,
+            count: place(reply.count),
+        },
+        _ => reply,
+    }
+}
+
+/// Wrong answers where a view is.
+const MISPLACED: [(&str, ViewCall); 6] = [
+    ("the block's place", |live, frozen, console, choice| {
+        misplaced((live, frozen, console, choice), |place| place - 160)
+    }),
+    ("behind the header", |live, frozen, console, choice| {
+        misplaced((live, frozen, console, choice), |place| place - 4096)
+    }),
+    ("the version", |live, frozen, console, choice| {
+        misplaced((live, frozen, console, choice), |place| {
+            (place - 4256) / 544
+        })
+    }),
+    ("version 0", |live, frozen, console, choice| {
+        misplaced((live, frozen, console, choice), |_| 4256)
+    }),
+    ("in the other store", |live, frozen, console, choice| {
+        fast::view_at(frozen, live, console, choice)
+    }),
+    ("a place of no view", |live, frozen, console, choice| {
+        let Reply { answer, count } = fast::view_at(live, frozen, console, choice);
+        Reply {
+            answer,
+            count: count.max(4256),
+        }
+    }),
+];
+
+/// From some bytes before the board viewed on so many bytes of the store chosen; nothing where it is refused.
+fn reframed<'a>(view: ViewOf<'a>, before: usize, length: usize) -> &'a [u8] {
+    let (live, frozen, console, choice) = view;
+    match fast::view_at(live, frozen, console, choice) {
+        Reply { answer: 0, count } => {
+            let chosen = [live, frozen][choice as usize];
+            &chosen[count as usize - before..][..length]
+        }
+        _ => &[],
+    }
+}
+
+/// Wrong parts.
+const MISSHOWN: [(&str, ViewPart); 8] = [
+    ("a copy", |live, frozen, console, choice| {
+        let part = fast::view(live, frozen, console, choice);
+        part.to_vec().leak()
+    }),
+    ("of the live store alone", |live, _, console, choice| {
+        fast::view(live, live, console, choice)
+    }),
+    ("of the other store", |live, frozen, console, choice| {
+        fast::view(frozen, live, console, choice)
+    }),
+    ("a byte short", |live, frozen, console, choice| {
+        reframed((live, frozen, console, choice), 0, 383)
+    }),
+    ("with the ancestors", |live, frozen, console, choice| {
+        reframed((live, frozen, console, choice), 128, 384 + 128)
+    }),
+    ("a strip early", |live, frozen, console, choice| {
+        reframed((live, frozen, console, choice), 12, 384)
+    }),
+    ("without a store", |live, frozen, console, choice| {
+        let right = fast::view_refusal(live, frozen, console, choice);
+        match live.get(4256..4640) {
+            Some(part) if right == refused(11) => part,
+            _ => fast::view(live, frozen, console, choice),
+        }
+    }),
+    ("nothing at all", |_, _, _, _| &[]),
+];
+
+/// The fast implementation with one of the wrong calls.
+fn misviewing() -> Vec<Calls> {
+    let refusing = MISREFUSED.map(|(name, view_refusal)| Calls {
+        name,
+        view_refusal,
+        ..FAST
+    });
+    let placing = MISPLACED.map(|(name, view_at)| Calls {
+        name,
+        view_at,
+        ..FAST
+    });
+    let showing = MISSHOWN.map(|(name, view)| Calls { name, view, ..FAST });
+    [&refusing[..], &placing, &showing].concat()
+}
+
+#[test]
+fn a_wrong_view_is_found() {
+    misviewing().into_iter().for_each(assert_differs);
+}
+
+/// Views of two stores, the second of them also damaged, cut or missing, with either as the live one.
+fn asked_of<'a>([one, other]: &'a [Vec<u8>; 2]) -> Vec<Asked<'a>> {
+    let consoles = (0..17).chain([256]);
+    let operands = consoles.flat_map(|console| [0, 1, 2, 256, 65_536].map(|c| (console, c)));
+    let asked = |(console, choice)| {
+        [(one, other), (other, one)].map(|(live, frozen)| Asked {
+            live,
+            frozen,
+            console,
+            choice,
+        })
+    };
+    operands.flat_map(asked).collect()
+}
+
+/// The calls of a view alone disprove each wrong one of them, whatever the model says.
+#[test]
+fn a_wrong_view_does_not_fit() {
+    let rng = &mut Rng::new(33);
+    let rooms = gen::random_rooms(34, 60);
+    let stores: Vec<Vec<u8>> = rooms.iter().map(layout::encode).collect();
+    let beside = |two: &[Vec<u8>]| [two[0].clone(), gen::store_beside(rng, &two[1])];
+    let lent: Vec<[Vec<u8>; 2]> = stores.windows(2).map(beside).collect();
+    let is_disproved = |calls: &Calls| {
+        let mut all_asked = lent.iter().flat_map(asked_of);
+        all_asked.any(|asked| views::check(calls, asked).is_err())
+    };
+    for calls in misviewing() {
+        assert!(is_disproved(&calls), "{}", calls.name);
+    }
+    assert!(!is_disproved(&FAST));
 }

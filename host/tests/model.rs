@@ -828,3 +828,23 @@ fn graph_tapes_are_sound_and_unsound() {
     }
     assert!(answers[0] > 200 && answers[10] > 200, "{answers:?}");
 }
+
+#[test]
+fn what_is_lent_beside_a_store() {
+    let mut rng = Rng::new(35);
+    let earlier = encode(&gen::random_room(&mut rng, 12, 30));
+    let (mut same, mut none, mut shorter, mut sound_others, mut others) = (0, 0, 0, 0, 0);
+    for _ in 0..400 {
+        let beside = gen::store_beside(&mut rng, &earlier);
+        let kind = match layout::read(&beside) {
+            Some(_) if beside == earlier => &mut same,
+            Some(_) => &mut sound_others,
+            None if beside.is_empty() => &mut none,
+            None if earlier.starts_with(&beside) => &mut shorter,
+            None => &mut others,
+        };
+        *kind += 1;
+    }
+    assert!(same > 200 && sound_others < 10, "{same} {sound_others}");
+    assert!([none, shorter, others].iter().all(|&met| met > 20));
+}

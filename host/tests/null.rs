@@ -5,7 +5,7 @@
 use room_host::calls::Reply;
 use room_host::unit::{
     self, room_board, room_command, room_common, room_heard, room_mergeable, room_open,
-    room_origin, room_pause, room_resume,
+    room_origin, room_pause, room_resume, room_view_at, room_view_refusal,
 };
 use std::ptr::{null, null_mut};
 
@@ -161,4 +161,48 @@ fn origins_in_a_null_store() {
 #[test]
 fn mergeable_in_a_null_store() {
     assert_eq!(unsafe { room_mergeable(null(), 0) }, refused(11));
+}
+
+/// The refusal and the place of a view of two buffers, each a pointer and a length.
+fn view(live: (*const u8, usize), frozen: (*const u8, usize), operands: [u32; 2]) -> [Reply; 2] {
+    let [console, choice] = operands;
+    [room_view_refusal, room_view_at]
+        .map(|call| unsafe { call(live.0, live.1, frozen.0, frozen.1, console, choice) })
+}
+
+const NOTHING: (*const u8, usize) = (null(), 0);
+
+#[test]
+fn views_of_null_stores() {
+    let views = [
+        ([0, 0], 11),
+        ([0, 1], 11),
+        ([15, 1], 11),
+        ([15, 2], 5),
+        ([16, 0], 3),
+        ([16, 2], 3),
+    ];
+    for (operands, due) in views {
+        assert_eq!(view(NOTHING, NOTHING, operands), [refused(due); 2]);
+    }
+}
+
+/// The board of version 0 stands at 4,096 + 160.
+#[test]
+fn views_beside_a_null_store() {
+    let bytes = opened();
+    let store = (bytes.as_ptr(), bytes.len());
+    let shown = [0, 4256].map(|count| Reply { answer: 0, count });
+    assert_eq!(view(store, NOTHING, [0, 0]), shown);
+    assert_eq!(view(NOTHING, store, [0, 1]), shown);
+    let views = [([1, 0], 12), ([0, 1], 11), ([0, 2], 5), ([16, 2], 3)];
+    for ([console, choice], due) in views {
+        let in_store = view(store, NOTHING, [console, choice]);
+        assert_eq!(in_store, [refused(due); 2]);
+        // The same with the stores exchanged; 2 is neither.
+        let exchanged = [1, 0, 2][choice as usize];
+        let in_store = view(NOTHING, store, [console, exchanged]);
+        assert_eq!(in_store, [refused(due); 2]);
+    }
+    assert_eq!(bytes, opened());
 }

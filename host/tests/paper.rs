@@ -19,6 +19,7 @@ mod model {
     mod origins;
     mod refusals;
     mod store;
+    mod view;
 }
 
 #[path = "paper"]
@@ -35,6 +36,7 @@ mod unit {
     mod origins;
     mod refusals;
     mod store;
+    mod view;
 }
 
 #[path = "paper"]
@@ -51,4 +53,5 @@ mod fast {
     mod origins;
     mod refusals;
     mod store;
+    mod view;
 }

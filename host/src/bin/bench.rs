@@ -3,11 +3,11 @@
 // is cleared between runs. A line `limit WHAT AGAINST VALUE` behind a ratio says what it may be at most, with EXCEEDED where it is more.
 // Where a ratio is more than one and a half times its limit, the last line names it and the program ends with 1; less may be noise.
 
-use room_host::compare::Call;
+use room_host::compare::{Call, View};
 use room_host::gen::{self, STUCK_APART_VERSIONS, STUCK_VERSIONS};
 use room_host::implementations::{Calls, FAST, UNIT};
 use room_host::layout::{self, BOARD_BYTES};
-use room_host::model::{code, decode, step, tape_of, Room, CONSOLES};
+use room_host::model::{choice, code, decode, step, tape_of, Room, CONSOLES};
 use room_host::rng::Rng;
 use room_host::unit;
 use std::array;
@@ -34,7 +34,7 @@ const SOUNDNESS: &str = "soundness";
 const WITHOUT_HUB: &str = "without_the_hub";
 
 /// What each of these may be at most, against what: the limits of docs/PERFORMANCE.md.
-const LIMITS: [(&str, &str, f64); 20] = [
+const LIMITS: [(&str, &str, f64); 22] = [
     ("soundness_entries_1024", MEMCMP, 4.5),
     ("soundness_merges_1024", MEMCMP, 13.0),
     ("soundness_hub_1024", WITHOUT_HUB, 1.05),
@@ -55,6 +55,8 @@ const LIMITS: [(&str, &str, f64); 20] = [
     ("mergeable_all_agree_1024", SOUNDNESS, 1.2),
     ("mergeable_stuck_1024", SOUNDNESS, 1.2),
     ("mergeable_stuck_apart_1024", SOUNDNESS, 1.2),
+    ("view_live", SOUNDNESS, 1.2),
+    ("view_frozen", SOUNDNESS, 1.2),
 ];
 
 /// These have no limit, but docs/PERFORMANCE.md tells their ratio to the soundness test.
@@ -115,7 +117,7 @@ fn full_room(kind: &str, capacity: usize) -> Room {
 
 // ---------------------------------------------------------------- one call measured
 
-/// A call that is accepted, with its store and input.
+/// A call that is accepted, with its store and input: a command, a tape or a frozen store.
 struct Work {
     what: String,
     call: Call,
@@ -394,7 +396,27 @@ fn bench_calls(report: &mut Report) {
     for (what, input) in commands {
         bench_call(what, Call::Command, input);
     }
+    bench_views(report, &room);
     bench_making_hub(report);
+}
+
+/// A view of each of two such stores, the second resumed from the first. It costs the soundness test of the one that is chosen: were both
+/// tested it would be twice that. The call measured says the place, which is all that the wrapper's view asks for.
+fn bench_views(report: &mut Report, room: &Room) {
+    for (what, choice) in [("view_live", choice::LIVE), ("view_frozen", choice::FROZEN)] {
+        let view = View {
+            console: 0,
+            choice,
+            is_of_one_store: false,
+        };
+        let work = Work {
+            what: what.to_string(),
+            call: Call::ViewAt(view),
+            room: room.clone(),
+            input: layout::encode(room),
+        };
+        bench(report, &work);
+    }
 }
 
 /// The command that makes the hub, in a room of 1,000 versions whose forks and merges all went through console 0: the other room refuses it.

@@ -128,7 +128,7 @@ pub struct StripBytes {
     pub alert: (u16, u8),
 }
 
-fn strip_of(board: &[u8], strip: usize) -> StripBytes {
+pub fn strip_of(board: &[u8], strip: usize) -> StripBytes {
     let bytes = &board[12 * strip..12 * (strip + 1)];
     let field = |at: usize| u16::from_be_bytes([bytes[at], bytes[at + 1]]);
     assert_eq!(bytes[11], 0);
