@@ -1,6 +1,6 @@
 -- A view and the store that it lies in: what holds where it is not refused, what it shows, and where.
 -- Assumes nothing.
-use Prim.Native.Nat.{ℕ, _+_, _≤_, _<_}
+use Prim.Native.Nat.{ℕ, _+_, _^_, _≤_, _<_}
 use mathlib.Core.Path.{_≡_, refl, sym, _∙_, ap, subst}
 use mathlib.Core.Logic.{_≢_}
 use mathlib.Core.Bool.{Bool, true, false, cond, not}
@@ -16,20 +16,19 @@ use Rattle.refusal.specs.Refusal.{_when_, firstRefusal}
 use Rattle.refusal.proofs.Refusals.{none-applies}
 use Rattle.command.specs.Code.{consoleCount, isConsole}
 use Rattle.room.specs.Room.{present, head}
-use Rattle.room.specs.Boards.{boardOf}
 use Rattle.room.proofs.Lengths.{boardOf-length}
 use Rattle.room.proofs.Steps.{common-self}
 use Rattle.store.specs.Layout.{boardAt, encode, roomIn, holdsStore}
 use Rattle.store.proofs.RoundTrip.{room-over, holds-over, holds-sound}
-use Rattle.store.proofs.Whole.{whole-sound, whole-block}
+use Rattle.store.proofs.Whole.{whole-sound, whole-small, whole-block}
 use Rattle.query.proofs.Answers.{head-answer, board-answer}
-use Rattle.unit.specs.Calls.{Outcome, bufferTests, consoleStateTests, consoleTests, boardOutcome, chosen, isChoice, viewTests, viewPart, viewAtReply, viewRefusalReply}
+use Rattle.unit.specs.Calls.{Outcome, bufferTests, consoleStateTests, consoleTests, boardShown, boardOutcome, chosen, isChoice, viewTests, viewPart, viewAtReply, viewAddress, viewRefusalReply}
 use Rattle.unit.specs.View.{viewOf, refusedView, shownView, Told, AsPaused, Viewed}
 use Rattle.unit.proofs.Answered.{Allowed, pair-answered}
 use Rattle.unit.proofs.RoundTrip.{pause-allowed, store-over, paused-resumes}
 
 -- a buffer lies where its first byte does
-pub address-front : (pointer : ℕ × ℕ) → pointer ≡ addressOf pointer 0
+address-front : (pointer : ℕ × ℕ) → pointer ≡ addressOf pointer 0
 address-front pointer =
     let front : pointer .1 ≡ 0 + pointer .1 = omega arith in
     λ i. (pointer .0, front i)
@@ -48,11 +47,14 @@ module _ (store : List ℕ) (console : ℕ) (a : Allowed store console console) 
   head-low : head (roomIn store) console < versionCount (roomIn store .versions)
   head-low = rw (head-answer store (a .held) console (a .first) .0) at (head-answer store (a .held) console (a .first) .1)
 
-  pub head-inside : boardAt (head (roomIn store) console) + boardSize ≤ length store
-  head-inside = omega (arith, whole-block store (a .held) (head (roomIn store) console) head-low)
+  pub place-low : boardAt (head (roomIn store) console) < 2 ^ 32
+  place-low = omega (arith, whole-small store (a .held), head-low)
 
-  pub head-shown : part store (boardAt (head (roomIn store) console)) boardSize ≡ boardOf (roomIn store .versions) (head (roomIn store) console)
-  head-shown = board-answer store (a .held) (head (roomIn store) console) head-low
+  board-inside : boardAt (head (roomIn store) console) + boardSize ≤ length store
+  board-inside = omega (arith, whole-block store (a .held) (head (roomIn store) console) head-low)
+
+  board-stands : part store (boardAt (head (roomIn store) console)) boardSize ≡ boardShown (roomIn store) console
+  board-stands = board-answer store (a .held) (head (roomIn store) console) head-low
 
 -- a view that is refused, and one that is not
 module _ (live frozen : List ℕ) (console choice : ℕ) where
@@ -73,19 +75,19 @@ module _ (live frozen : List ℕ) (console choice : ℕ) where
   view-done none =
       let store = chosen choice live frozen in
       let a = view-allowed live frozen console choice none in
-      rw none (head-inside store console a, sym (head-shown store console a))
+      rw none (board-inside store console a, sym (board-stands store console a))
 
   -- as the code meets them: a part of the store chosen, none of it or its board
   module _ (p q : ℕ × ℕ) {base pointer : ℕ × ℕ} {bytes : List ℕ} (chose : base ≡ chosen choice p q) where
     pub view-empty : viewAtReply live frozen console choice .answer ≢ 0 → bytes ≡ [] → pointer ≡ base
-        → (bytes ≡ viewPart live frozen console choice) × (pointer ≡ addressOf (chosen choice p q) (viewAtReply live frozen console choice .count))
+        → (bytes ≡ viewPart live frozen console choice) × (pointer ≡ viewAddress p q live frozen console choice)
     unfolding viewAtReply viewPart
     view-empty given none front =
         rw (ne-eqb (firstRefusal (viewTests live frozen console choice)) 0 given) (none, front ∙ chose ∙ address-front (chosen choice p q))
 
     pub view-placed : {store : List ℕ} {at : ℕ} → store ≡ chosen choice live frozen → viewAtReply live frozen console choice .answer ≡ 0
         → at ≡ viewAtReply live frozen console choice .count → bytes ≡ part store at boardSize → pointer ≡ addressOf base at
-        → (bytes ≡ viewPart live frozen console choice) × (pointer ≡ addressOf (chosen choice p q) (viewAtReply live frozen console choice .count))
+        → (bytes ≡ viewPart live frozen console choice) × (pointer ≡ viewAddress p q live frozen console choice)
     view-placed from none counted shown lies = (rw (from, counted) at shown ∙ sym (view-done none .1), rw (chose, counted) at lies)
 
 -- what is said of a store's own view
@@ -109,8 +111,8 @@ module _ (store other : List ℕ) (console : ℕ) where
         noCount = refl;
         size = l;
         place = rw (pair-answered store console console a, common-self r (whole-sound store (a .held)) console (a .here)) refl;
-        inside = rw l (head-inside store console a);
-        stands = rw l (sym (head-shown store console a));
+        inside = rw l (board-inside store console a);
+        stands = rw l (sym (board-stands store console a));
         copied = λ output fits. rw (board-number output fits, none);
       }
 

@@ -8,7 +8,7 @@ use mathlib.Core.List.{List, [], _∷_, _++_}
 use mathlib.Core.Option.{Option, none, some}
 use lib.Dec.{eqb, ltb}
 use lib.ListN.{length}
-use Rattle.buffer.specs.Field.{overwrite}
+use Rattle.buffer.specs.Field.{overwrite, addressOf}
 use Rattle.board.specs.Board.{boardSize, cellOf}
 use Rattle.command.specs.declared.Command.{Command}
 use Rattle.command.specs.declared.Decoded.{Decoded}
@@ -157,7 +157,7 @@ boardOutcome store console output = outputOutcome (consoleTests store console) b
 
 -- "Given the live store and a resumed one, a console and a choice byte (0 live, 1 frozen), return the 384 bytes of that console's board as a
 -- part of the store chosen, with no copy." Of two stores, or of the pointers to them, the one that the choice names; where it names none the
--- frozen one, and 5 is given. A choice is never cut to 8 bits.
+-- frozen one, and the view is refused. A choice is never cut to 8 bits.
 abbrev pub chosen : {X : Type 0} → ℕ → X → X → X
 chosen choice live frozen = cond (eqb choice 0) live frozen
 
@@ -180,11 +180,16 @@ unfoldable pub viewPart : List ℕ → List ℕ → ℕ → ℕ → List ℕ
 viewPart live frozen console choice =
     cond (eqb (firstRefusal (viewTests live frozen console choice)) 0) (boardShown (roomIn (chosen choice live frozen)) console) []
 
--- The part itself is returned to Rattle alone, as an exported call can't return a reference. C is told where it begins in the store chosen,
+-- An exported call can't return a reference, so that the part itself is Rattle's alone, and C is told where it begins in the store chosen;
 unfoldable pub viewAtReply : List ℕ → List ℕ → ℕ → ℕ → Reply
 viewAtReply live frozen console choice =
     let room : Room = roomIn (chosen choice live frozen) in
     questionReply (viewTests live frozen console choice) (boardAt (head room console))
+
+-- where it lies in memory, by the pointers to the two stores: in the store chosen, at that place,
+abbrev pub viewAddress : ℕ × ℕ → ℕ × ℕ → List ℕ → List ℕ → ℕ → ℕ → ℕ × ℕ
+viewAddress toLive toFrozen live frozen console choice =
+    addressOf (chosen choice toLive toFrozen) ((viewAtReply live frozen console choice) .count)
 
 -- and "a second question with the same operands gives its number, or 0, and counts 0".
 unfoldable pub viewRefusalReply : List ℕ → List ℕ → ℕ → ℕ → Reply

@@ -27,7 +27,7 @@ ghost use Prim.Native.Nat.{_<_};
 ghost use Rattle.board.specs.Board.{boardSize};
 ghost use Rattle.refusal.specs.Refusal.{firstRefusal};
 ghost use Rattle.command.specs.Code.{consoleCount};
-ghost use Rattle.unit.specs.Calls.{bufferTests, consoleStateTests, consoleTests, pairStateTests, pairTests, originInputTests, originTests, heardReply, commonReply, originReply, mergeableReply, boardOutcome};
+ghost use Rattle.unit.specs.Calls.{bufferTests, consoleTests, pairStateTests, pairTests, originInputTests, originTests, heardReply, commonReply, originReply, mergeableReply, boardOutcome};
 
 // Why these bytes can't be asked about two consoles, or 0.
 fn pair_state_refusal(store: &[u8], c: Console, d: Console) -> u32
@@ -38,14 +38,6 @@ fn pair_state_refusal(store: &[u8], c: Console, d: Console) -> u32
         return 11;
     }
     when(12, !is_present(store, c) | !is_present(store, d))
-}
-
-// The same for one console.
-pub fn console_state_refusal(store: &[u8], c: Console) -> u32
-    requires { ⌜ c .0 < consoleCount ⌝ }
-    ensures { λ r. ⌜ r ≡ firstRefusal (consoleStateTests (now (store .entry)) (c .0)) ⌝ }
-{
-    pair_state_refusal(store, c, c)
 }
 
 // Why two consoles of a store can't be asked about, or 0.
@@ -130,7 +122,8 @@ fn origin_refusal(store: &[u8], console: u32, strip: u32, cell: u32) -> u32
     if refusal != 0 {
         return refusal;
     }
-    console_state_refusal(store, Console(size(console)))
+    let c = size(console);
+    pair_state_refusal(store, Console(c), Console(c))
 }
 
 // The entry behind a level or heading of a console's board, or version 0 where none is met.

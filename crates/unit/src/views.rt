@@ -3,25 +3,25 @@ use crate::Reply;
 use crate::answers::counted;
 use crate::answers::reply_of;
 use crate::answers::size;
-use crate::questions::console_state_refusal;
 use buffer::part_of;
 use command::numbers::is_console;
 use graph::Console;
 use query::head_of;
+use query::is_present;
 use refusal::first_of;
 use refusal::when;
+use store::judge::holds;
 use store::places::BOARD;
 use store::places::board_at;
 ghost use mathlib.Core.Path.{_≡_};
 ghost use mathlib.Core.Bool.{true};
-ghost use Prim.Native.Nat.{_<_, _^_};
+ghost use Prim.Native.Nat.{_<_};
 ghost use denote.Ref.{ptr};
-ghost use Rattle.buffer.specs.Field.{addressOf};
 ghost use Rattle.refusal.specs.Refusal.{firstRefusal};
 ghost use Rattle.command.specs.Code.{consoleCount};
 ghost use Rattle.room.specs.Room.{head};
 ghost use Rattle.store.specs.Layout.{boardAt, roomIn, holdsStore};
-ghost use Rattle.unit.specs.Calls.{consoleStateTests, chosen, isChoice, viewInputTests, viewTests, viewPart, viewAtReply, viewRefusalReply};
+ghost use Rattle.unit.specs.Calls.{chosen, isChoice, viewInputTests, viewTests, viewPart, viewAtReply, viewAddress, viewRefusalReply};
 
 // The number of stores that a choice can name.
 const CHOICES: u32 = 2;
@@ -52,15 +52,14 @@ fn view_input_refusal(console: u32, choice: u32) -> u32
     first_of(console_out_of_range, choice_out_of_range)
 }
 
-// Why the store chosen can't be asked for one, or 0.
-fn view_state_refusal<'a>(live: &'a [u8], frozen: &'a [u8], c: Console, choice: u32) -> u32
-    requires { ⌜ c .0 < consoleCount ⌝ }
-    ensures { λ r. ⌜ r ≡ firstRefusal (consoleStateTests (chosen choice (now (live .entry)) (now (frozen .entry))) (c .0)) ⌝ }
+// Whether the store that the choice names holds a sound room.
+fn chosen_holds<'a>(live: &'a [u8], frozen: &'a [u8], choice: u32) -> bool
+    ensures { λ r. ⌜ r ≡ holdsStore (chosen choice (now (live .entry)) (now (frozen .entry))) ⌝ }
 {
-    console_state_refusal(chosen_store(live, frozen, choice), c)
+    holds(chosen_store(live, frozen, choice))
 }
 
-// Why there is no view, or 0: the numbers first, then the store.
+// Why there is no view, or 0.
 fn view_refusal<'a>(live: &'a [u8], frozen: &'a [u8], console: u32, choice: u32) -> u32
     ensures { λ r. ⌜ r ≡ firstRefusal (viewTests (now (live .entry)) (now (frozen .entry)) console choice) ⌝ }
 {
@@ -68,14 +67,18 @@ fn view_refusal<'a>(live: &'a [u8], frozen: &'a [u8], console: u32, choice: u32)
     if refusal != 0 {
         return refusal;
     }
-    view_state_refusal(live, frozen, Console(size(console)), choice)
+    if !chosen_holds(live, frozen, choice) {
+        return 11;
+    }
+    let present = is_present(chosen_store(live, frozen, choice), Console(size(console)));
+    when(12, !present)
 }
 
 // Where in a store the board that a console shows begins.
 fn shown_at(store: &[u8], c: Console) -> usize
     requires { ⌜ holdsStore (now store) ≡ true ⌝ }
     requires { ⌜ c .0 < consoleCount ⌝ }
-    ensures { λ r. ⌜ (r ≡ boardAt (head (roomIn (now (store .entry))) (c .0))) × (r < 2 ^ 32) ⌝ }
+    ensures { λ r. ⌜ r ≡ boardAt (head (roomIn (now (store .entry))) (c .0)) ⌝ }
 {
     let v = head_of(store, c);
     board_at(v)
@@ -114,7 +117,7 @@ pub extern "C" fn room_view_refusal<'a>(
 
 // The view: a console's board, as a part of the store chosen; none of it where it is refused.
 pub fn room_view<'a>(live: &'a [u8], frozen: &'a [u8], console: u32, choice: u32) -> &'a [u8]
-    ensures { λ r. ⌜ (now r ≡ viewPart (now (live .entry)) (now (frozen .entry)) console choice) × (ptr r ≡ addressOf (chosen choice (ptr (live .entry)) (ptr (frozen .entry))) ((viewAtReply (now (live .entry)) (now (frozen .entry)) console choice) .count)) ⌝ }
+    ensures { λ r. ⌜ (now r ≡ viewPart (now (live .entry)) (now (frozen .entry)) console choice) × (ptr r ≡ viewAddress (ptr (live .entry)) (ptr (frozen .entry)) (now (live .entry)) (now (frozen .entry)) console choice) ⌝ }
 {
     let store = chosen_store(live, frozen, choice);
     let at = room_view_at(live, frozen, console, choice);

@@ -7,11 +7,7 @@ use Rattle.unit.proofs.views.shown_at.Statement.{statement}
 use Rattle.unit.proofs.views.shown_at.Tie as tie
 
 returns : tie.Need-returns
-returns c =
-    let headed = c .before in
-    let start = headed .before .before in
-    let low = headed .head-of .ensures .1 in
-    (rw (headed .head-of .ensures .0) at (c .board-at .ensures), omega (arith, whole-small (start .args .store .now) (start .pre .0), low, c .board-at .ensures))
+returns c = omega arith
 
 board-at-requires : tie.Need-board-at-requires
 board-at-requires c κs =
