@@ -84,5 +84,5 @@ unfolding everyBelow someBelow highestBelow ancestor isMeet meet firstRefusal sh
 gathers-hold = refl
 
 pub views-hold : map (λ (c : Case). c .got) viewCases ≡ map (λ (c : Case). c .due) viewCases
-unfolding mergeFlag mergeStrip mergeStrips enter everyBelow someBelow highestBelow ancestor isMeet meet firstRefusal shapeOf lengthOf numberAt operandsOf isOperand kindOf commandRefusal decode common stateTests stepRefusal step boardMade boardOf holdsStore viewPart viewAtReply viewRefusalReply answerIn roomAfter made viewCases
+unfolding enter everyBelow someBelow highestBelow ancestor isMeet meet firstRefusal shapeOf lengthOf numberAt operandsOf isOperand kindOf commandRefusal decode common stateTests stepRefusal step boardMade boardOf holdsStore viewPart viewAtReply viewRefusalReply answerIn roomAfter made viewCases
 views-hold = refl

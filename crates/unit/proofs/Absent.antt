@@ -18,7 +18,8 @@ use Rattle.room.proofs.Sound.{present-console}
 use Rattle.room.proofs.Accepted.{fork-accepts}
 use Rattle.store.specs.Layout.{roomIn, holdsStore}
 use Rattle.store.proofs.Whole.{whole-sound}
-use Rattle.unit.specs.Calls.{Outcome, replied, commandOutcome, boardOutcome, heardReply, commonReply, originReply}
+use Rattle.unit.specs.Calls.{Outcome, replied, commandOutcome, boardOutcome, heardReply, commonReply, originReply, viewPart, viewAtReply, viewRefusalReply}
+use Rattle.unit.specs.View.{viewOf, refusedView}
 use Rattle.unit.specs.Absent.{Absent}
 use Rattle.unit.proofs.Commanded.{carried-out}
 
@@ -43,6 +44,10 @@ module _ (store : List ℕ) (held : holdsStore store ≡ true) (c : ℕ) (cl : c
   unfolding originReply firstRefusal
   no-origin k cell kl l = rw (lt-ltb c consoleCount cl, lt-ltb k stripCount kl, lt-ltb cell cellCount l, held, away)
 
+  no-view : (other : List ℕ) → (viewOf store other c 0 ≡ refusedView 12) × (viewOf other store c 1 ≡ refusedView 12)
+  unfolding viewPart viewAtReply viewRefusalReply firstRefusal
+  no-view other = rw (lt-ltb c consoleCount cl, held, away) (refl, refl)
+
   forkable : (old : ℕ) → present (roomIn store) old ≡ true → besideHub (roomIn store) old ≡ false
       → commandOutcome store (forkCommand ∷ c ∷ old ∷ []) .reply ≡ replied 0 0
   unfolding commandBytes clashCount
@@ -52,4 +57,4 @@ module _ (store : List ℕ) (held : holdsStore store ≡ true) (c : ℕ) (cl : c
       (carried-out store (Fork (record { 0 = c }) (record { 0 = old })) range held (fork-accepts (roomIn store) (record { 0 = c }) (record { 0 = old }) away here hub))
 
   pub absent-console : Absent store c
-  absent-console = record { noCommon = no-common; noBoard = no-board; noHeard = no-heard; noOrigin = no-origin; forkable = forkable }
+  absent-console = record { noCommon = no-common; noBoard = no-board; noHeard = no-heard; noOrigin = no-origin; noView = no-view; forkable = forkable }

@@ -31,7 +31,7 @@ use Rattle.room.proofs.Lengths.{boardOf-length}
 use Rattle.store.specs.Layout.{roomIn, holdsStore}
 use Rattle.store.proofs.RoundTrip.{holds-sound}
 use Rattle.store.proofs.Whole.{whole-sound}
-use Rattle.unit.specs.Calls.{replied, written, boardOutcome, heardReply}
+use Rattle.unit.specs.Calls.{replied, written, boardShown, boardOutcome, heardReply}
 use Rattle.unit.specs.Journal.{Journal, Made, entered, merged, madeBy, isPresent, headNumber, leads, madeAs, wasEntered, holds, hasHeard, entriesHeard, callOf, callsHeard}
 use Rattle.unit.specs.Convergence.{Common, Origin, Converged, Demand3}
 use Rattle.unit.proofs.Reading.{leads-ancestor, made-node, entered-entry, call-entry}
@@ -121,7 +121,7 @@ module _ (store : List ℕ) (h : holdsStore store ≡ true) where
 
   module _ (c : ℕ) (p : isPresent (journalIn store) c ≡ true) where
     pub board-shown : (output : List ℕ) → boardSize ≤ length output
-        → boardOutcome store c output ≡ written 0 boardSize (boardOf (roomIn store .versions) (head (roomIn store) c)) output
+        → boardOutcome store c output ≡ written 0 boardSize (boardShown (roomIn store) c) output
     unfolding boardOutcome firstRefusal
     board-shown output fits = cc (h, console c p, le-ltb (length output) boardSize fits)
 

@@ -10,14 +10,13 @@ use Rattle.buffer.proofs.Fields.{wordAt-left}
 use Rattle.board.specs.Board.{boardSize, cellOf, cellAt}
 use Rattle.board.proofs.Cells.{cell-inside}
 use Rattle.room.specs.Room.{head}
-use Rattle.room.specs.Boards.{boardOf}
 use Rattle.room.specs.Origin.{origin, valueShown}
 use Rattle.room.proofs.Lengths.{boardOf-length}
 use Rattle.room.proofs.Origins.{origin-none, origin-heard, origin-wrote}
 use Rattle.store.specs.Layout.{roomIn}
 use Rattle.store.proofs.RoundTrip.{holds-sound}
 use Rattle.unit.specs.declared.Reply.{Reply}
-use Rattle.unit.specs.Calls.{replied, originReply}
+use Rattle.unit.specs.Calls.{replied, boardShown, originReply}
 use Rattle.unit.specs.Traced.{shownBy, OriginsTraced}
 use Rattle.unit.proofs.Answered.{Askable, origin-allowed}
 use Rattle.unit.proofs.Convergence.{board-shown}
@@ -34,7 +33,7 @@ shown-is : (store : List ℕ) (c k cell : ℕ) → Askable store c k cell → (o
     → shownBy store c k cell output ≡ valueShown (roomIn store) c k (cellOf cell)
 shown-is store c k cell asked output fits =
     let r = roomIn store in
-    let board = boardOf (r .versions) (head r c) in
+    let board = boardShown r c in
     rw (board-shown store (asked .held) c (asked .here) output fits)
     (wordAt-left board _ (cellAt (cellOf cell) k) (omega (arith, cell-inside (cellOf cell) k (asked .is-strip), boardOf-length (r .versions) (head r c))))
 

@@ -1,5 +1,6 @@
 pub mod Calls
 pub mod Traced
+pub mod View
 pub mod Absent
 pub mod Journal
 pub mod Leaving
@@ -7,4 +8,3 @@ pub mod Clashes
 pub mod Mergeable
 pub mod Convergence
 pub mod Hub
-pub mod View

@@ -5,10 +5,9 @@ use native.Mathlib.Omega.{arith}
 use lib.Seq.{length-take-le}
 use Rattle.board.specs.Board.{boardSize}
 use Rattle.room.specs.Room.{head}
-use Rattle.room.specs.Boards.{boardOf}
 use Rattle.room.proofs.Lengths.{boardOf-length}
 use Rattle.store.specs.Layout.{roomIn}
-use Rattle.unit.specs.Calls.{boardOutcome}
+use Rattle.unit.specs.Calls.{boardShown, boardOutcome}
 use Rattle.unit.proofs.Answered.{written-refused, written-done, board-allowed}
 use Rattle.unit.proofs.questions.room_board.Statement.{statement}
 use Rattle.unit.proofs.questions.room_board.Tie as tie
@@ -19,7 +18,7 @@ returns c =
     let a = c .before .before .before .before .before .before .args in
     let r = roomIn (a .store .now) in
     rw (c .reply-of .ensures)
-    (written-refused boardSize (boardOf (r .versions) (head r (a .console))) (a .board .now) (c .before .before .board-refusal .ensures) (omega arith))
+    (written-refused boardSize (boardShown r (a .console)) (a .board .now) (c .before .before .board-refusal .ensures) (omega arith))
 
 head-of-requires : tie.Need-head-of-requires
 head-of-requires c κs =
@@ -58,7 +57,7 @@ returns-2 c =
     let judged = named .before .before .before in
     let a = judged .before .before .before .before .args in
     let r = roomIn (a .store .now) in
-    let new = boardOf (r .versions) (head r (a .console)) in
+    let new = boardShown r (a .console) in
     let shown = copied .copy .ensures ∙ copied .before .board-of .ensures .0 in
     rw (c .counted .ensures)
     (written-done boardSize new (a .board .now) (judged .board-refusal .ensures) (omega arith) refl
