@@ -7,6 +7,7 @@
  * - A buffer that a call writes overlaps no other buffer of that call. The two stores of a view are only read, so they may overlap or be one.
  * - No other thread touches a lent buffer before the call has returned. The unit keeps no pointer and no state of its own.
  * - room_resume needs ROOM_RESUME_STACK bytes of stack, room_origin ROOM_ORIGIN_STACK bytes, any other call ROOM_STACK bytes.
+ * - A store stays where it is, and nobody writes it, as long as a pointer that room_view made into it is in use.
  * Nothing else: any bytes may stand in a lent buffer, and any number may be passed.
  *
  * A call answers 0, or the number of the refusal that applies. A refused call counts 0 and changes no lent byte.
@@ -97,7 +98,7 @@ enum room_refusal {
     ROOM_TAPE_OUT_OF_RANGE = 9,   /* a number on the tape is out of range */
     ROOM_TAPE_NOT_SOUND = 10,     /* the tape's versions and heads give no sound store; with 25 on it, also where hub gives 23 */
     ROOM_NO_STORE = 11,           /* the lent bytes hold no sound store; of a view, those of the store chosen */
-    ROOM_CONSOLE_ABSENT = 12,     /* a named console is absent (fork: the old one) */
+    ROOM_CONSOLE_ABSENT = 12,     /* a named console is absent (fork: the old one; a view: from the store chosen) */
     ROOM_CONSOLE_PRESENT = 13,    /* fork's new console is present */
     ROOM_GIVER_BEHIND = 14,       /* the giver's head is an ancestor of the receiver's */
     ROOM_RECEIVER_BEHIND = 15,    /* merge: the receiver's head is an ancestor of the giver's */
@@ -151,7 +152,7 @@ struct room_reply room_mergeable(const uint8_t *store, size_t store_length);
 
 /* A view: a console's board as a part of one of two stores, the live one or a frozen one (resumed from the tape of a pause), with no copy.
    Only the store chosen, ROOM_LIVE or ROOM_FROZEN, is judged and read: anything may stand in the other. Three functions take the same
-   operands: room_view, below, gives the board itself, and these two what it is made of. */
+   operands: room_view, below, gives the board itself, room_view_at where it begins, and room_view_refusal why there is none. */
 
 /* Answers why room_view gives no board, or 0 where it gives one; always counts 0. Refusals 3, 5, 11, 12. */
 struct room_reply room_view_refusal(const uint8_t *live, size_t live_length, const uint8_t *frozen, size_t frozen_length, uint32_t console,

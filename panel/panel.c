@@ -385,7 +385,8 @@ static int is_word_with(const struct line *line, const char *word, int numbers, 
     return is_word(line, word, numbers) && strcmp(line->last_word, last_word) == 0;
 }
 
-static int is_command(const struct line *line)
+/* Carries out a line that is a command of the unit; whether it was one. */
+static int follow_command(const struct line *line)
 {
     for (size_t i = 0; i < sizeof COMMANDS / sizeof COMMANDS[0]; i++) {
         if (is_word(line, COMMANDS[i].name, COMMANDS[i].numbers)) {
@@ -396,7 +397,8 @@ static int is_command(const struct line *line)
     return 0;
 }
 
-static int is_file_line(const struct line *line)
+/* The same for a line that names a file. */
+static int follow_file_line(const struct line *line)
 {
     if (is_file_word(line, "pause"))
         pause_to(line->file);
@@ -411,7 +413,7 @@ static int is_file_line(const struct line *line)
 
 static void follow(const struct line *line)
 {
-    if (is_command(line) || is_file_line(line))
+    if (follow_command(line) || follow_file_line(line))
         return;
     if (is_word(line, "open", 1))
         say_done(room_open(line->number[0], store, sizeof store));

@@ -66,7 +66,7 @@ impl Lent {
         call.make(calls, store, self.input.lent(), self.output.lent_mut())
     }
 
-    fn asked(&self, view: View) -> Asked<'_> {
+    fn asked(&self, view: ViewNumbers) -> Asked<'_> {
         view.asked(self.store.lent(), self.input.lent())
     }
 }
@@ -155,15 +155,15 @@ impl Pair {
 
 // ---------------------------------------------------------------- one compared call
 
-/// What a view is asked for. The live store is the lent store, and the frozen one the lent input, or the lent store once more.
+/// The numbers of a view, and its stores: the live one is the lent store, and the frozen one the lent input, or the lent store once more.
 #[derive(Clone, Copy, Debug)]
-pub struct View {
+pub struct ViewNumbers {
     pub console: u32,
     pub choice: u32,
     pub is_of_one_store: bool,
 }
 
-impl View {
+impl ViewNumbers {
     fn asked<'a>(self, store: &'a [u8], input: &'a [u8]) -> Asked<'a> {
         Asked {
             live: store,
@@ -189,8 +189,8 @@ pub enum Call {
     Common { first: u32, second: u32 },
     Origin { console: u32, strip: u32, cell: u32 },
     Mergeable,
-    ViewRefusal(View),
-    ViewAt(View),
+    ViewRefusal(ViewNumbers),
+    ViewAt(ViewNumbers),
 }
 
 /// The calls, each with the answers that include/room.h lists for it, in the order of the tests.
@@ -493,7 +493,7 @@ impl Tally {
     }
 
     /// Counts a view that both sides accepted.
-    fn note_view(&mut self, view: View) {
+    fn note_view(&mut self, view: ViewNumbers) {
         let figure = if view.choice == choice::LIVE {
             Figure::ViewOfLive
         } else {
@@ -784,7 +784,7 @@ impl Comparison {
     }
 
     /// A view on both sides: its refusal, its place and its part, and that these fit the store chosen and the board copied out of it.
-    fn view(&mut self, view: View, pair: &mut Pair) -> Outcome<Seen> {
+    fn view(&mut self, view: ViewNumbers, pair: &mut Pair) -> Outcome<Seen> {
         self.call(Call::ViewRefusal(view), pair)?;
         self.call(Call::ViewAt(view), pair)?;
         let seen = self
@@ -797,7 +797,7 @@ impl Comparison {
     }
 
     /// What a view shows, where the tested side's calls fit, the model shows the same bytes, and no lent byte has changed.
-    fn seen(&self, view: View, pair: &Pair) -> Outcome<Seen> {
+    fn seen(&self, view: ViewNumbers, pair: &Pair) -> Outcome<Seen> {
         let tested = views::check(&self.tested, pair.tested.asked(view))?;
         let model = pair.model.asked(view).part(&MODEL);
         if tested.unwrap_or_default() != model {
@@ -809,7 +809,7 @@ impl Comparison {
 
     /// Views of one console, with either choice, in two lent stores.
     fn look(&mut self, pair: &mut Pair, console: u32) -> Outcome<()> {
-        let view = |choice: u32| View {
+        let view = |choice: u32| ViewNumbers {
             console,
             choice,
             is_of_one_store: false,
@@ -894,9 +894,9 @@ fn some_origin(rng: &mut Rng) -> Call {
 }
 
 /// A view, mostly with its numbers in range; now and then one store is lent as both.
-fn some_view(rng: &mut Rng) -> View {
+fn some_view(rng: &mut Rng) -> ViewNumbers {
     let choice = rng.below(CHOICES.len());
-    View {
+    ViewNumbers {
         console: some_console(rng),
         choice: or_too_high(rng, choice, CHOICES.len()),
         is_of_one_store: rng.chance(20),
@@ -1561,7 +1561,7 @@ fn compare_views(comparison: &mut Comparison, pair: &mut Pair) -> Outcome<()> {
     let numbers = pairs(&EDGE_NUMBERS, &EDGE_NUMBERS);
     let mut operands = pairs(&numbers, &[false, true]).into_iter();
     operands.try_for_each(|((console, choice), is_of_one_store)| {
-        let view = View {
+        let view = ViewNumbers {
             console,
             choice,
             is_of_one_store,

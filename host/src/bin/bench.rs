@@ -3,7 +3,7 @@
 // is cleared between runs. A line `limit WHAT AGAINST VALUE` behind a ratio says what it may be at most, with EXCEEDED where it is more.
 // Where a ratio is more than one and a half times its limit, the last line names it and the program ends with 1; less may be noise.
 
-use room_host::compare::{Call, View};
+use room_host::compare::{Call, ViewNumbers};
 use room_host::gen::{self, STUCK_APART_VERSIONS, STUCK_VERSIONS};
 use room_host::implementations::{Calls, FAST, UNIT};
 use room_host::layout::{self, BOARD_BYTES};
@@ -400,11 +400,11 @@ fn bench_calls(report: &mut Report) {
     bench_making_hub(report);
 }
 
-/// A view of each of two such stores, the second resumed from the first. It costs the soundness test of the one that is chosen: were both
+/// A view of each of two equal stores. It costs the soundness test of the one that is chosen: were both
 /// tested it would be twice that. The call measured says the place, which is all that the wrapper's view asks for.
 fn bench_views(report: &mut Report, room: &Room) {
     for (what, choice) in [("view_live", choice::LIVE), ("view_frozen", choice::FROZEN)] {
-        let view = View {
+        let view = ViewNumbers {
             console: 0,
             choice,
             is_of_one_store: false,

@@ -522,19 +522,6 @@ fn a_resume_is_seen_through_the_next_view() {
     assert_eq!(part, seen(&live, &frozen, 0, LIVE, 1));
 }
 
-#[test]
-fn a_view_writes_nothing() {
-    let (live, frozen) = (stuck_store(), store_of_three_consoles(6));
-    let before = (live.clone(), frozen.clone());
-    for (console, choice) in [(0, 0), (3, 0), (2, 1), (3, 1), (16, 0), (0, 2)] {
-        let (live, frozen) = (&live.bytes, &frozen.bytes);
-        tested::view_refusal(live, frozen, console, choice);
-        tested::view_at(live, frozen, console, choice);
-        tested::view(live, frozen, console, choice);
-    }
-    assert!(live.bytes == before.0.bytes && frozen.bytes == before.1.bytes);
-}
-
 // ---------------------------------------------------------------- the part is the board
 
 /// Heads 6, 6, 3, 5 beside heads 1, 2, 5.
