@@ -1,4 +1,4 @@
--- A view and the store that it lies in: what holds where it is not refused, what it shows, and where.
+-- A view and the store that it lies in: what holds where it is not refused, what it shows and where, and the claim about it.
 -- Assumes nothing.
 use Prim.Native.Nat.{ℕ, _+_, _^_, _≤_, _<_}
 use mathlib.Core.Path.{_≡_, refl, sym, _∙_, ap, subst}
@@ -33,6 +33,7 @@ address-front pointer =
     let front : pointer .1 ≡ 0 + pointer .1 = omega arith in
     λ i. (pointer .0, front i)
 
+-- what holds where a view is not refused
 pub view-allowed : (live frozen : List ℕ) (console choice : ℕ) → firstRefusal (viewTests live frozen console choice) ≡ 0
     → Allowed (chosen choice live frozen) console console
 view-allowed live frozen console choice z =
