@@ -180,18 +180,19 @@ unfoldable pub viewPart : List ℕ → List ℕ → ℕ → ℕ → List ℕ
 viewPart live frozen console choice =
     cond (eqb (firstRefusal (viewTests live frozen console choice)) 0) (boardShown (roomIn (chosen choice live frozen)) console) []
 
--- An exported call can't return a reference, so that the part itself is Rattle's alone, and C is told where it begins in the store chosen;
+-- where the part begins in the store chosen: at the board of the console's head. An exported call can't return a reference, so that C is told
+-- this, and the part itself is returned to Rattle alone.
 unfoldable pub viewAtReply : List ℕ → List ℕ → ℕ → ℕ → Reply
 viewAtReply live frozen console choice =
     let room : Room = roomIn (chosen choice live frozen) in
     questionReply (viewTests live frozen console choice) (boardAt (head room console))
 
--- where it lies in memory, by the pointers to the two stores: in the store chosen, at that place,
+-- where the part lies in memory, by the pointers to the two stores: in the store chosen, at that place
 abbrev pub viewAddress : ℕ × ℕ → ℕ × ℕ → List ℕ → List ℕ → ℕ → ℕ → ℕ × ℕ
 viewAddress toLive toFrozen live frozen console choice =
     addressOf (chosen choice toLive toFrozen) ((viewAtReply live frozen console choice) .count)
 
--- and "a second question with the same operands gives its number, or 0, and counts 0".
+-- "a second question with the same operands gives its number, or 0, and counts 0"
 unfoldable pub viewRefusalReply : List ℕ → List ℕ → ℕ → ℕ → Reply
 viewRefusalReply live frozen console choice = questionReply (viewTests live frozen console choice) 0
 
