@@ -125,9 +125,9 @@ pub record Askable (s : List ℕ) (c k cell : ℕ) : Type 0 where
   pub held : holdsStore s ≡ true
   pub here : present (roomIn s) c ≡ true
 
-pub origin-allowed : (s : List ℕ) (c k cell : ℕ) → firstRefusal (originTests s c k cell) ≡ 0 → Askable s c k cell
-origin-allowed s c k cell z =
-    let n = none-applies (originTests s c k cell) refl z in
+pub origin-allowed : (s : List ℕ) (c k cell : ℕ) {n : ℕ} → n ≡ firstRefusal (originTests s c k cell) → n ≡ 0 → Askable s c k cell
+origin-allowed s c k cell e z =
+    let n = none-applies (originTests s c k cell) refl (sym e ∙ z) in
     record {
       is-console = ltb-true c consoleCount (not-false (isConsole c) (n .0));
       is-strip = ltb-true k stripCount (not-false (isStrip k) (n .1 .0));

@@ -2,7 +2,7 @@
 -- the console has heard and that wrote the value shown.
 -- Assumes nothing.
 use Prim.Native.Nat.{ℕ, _≤_}
-use mathlib.Core.Path.{_≡_, sym, ap}
+use mathlib.Core.Path.{_≡_, refl, sym, ap}
 use mathlib.Core.List.{List}
 use native.Mathlib.Omega.{arith}
 use lib.ListN.{length}
@@ -26,7 +26,7 @@ accepted : (store : List ℕ) (c k cell v : ℕ) → originReply store c k cell 
 unfolding originReply
 accepted store c k cell v told =
     let none = ap (λ (r : Reply). r .answer) told in
-    (origin-allowed store c k cell none, sym (rw none at (ap (λ (r : Reply). r .count) told)))
+    (origin-allowed store c k cell refl none, sym (rw none at (ap (λ (r : Reply). r .count) told)))
 
 -- the copied board shows the value of the head's board
 shown-is : (store : List ℕ) (c k cell : ℕ) → Askable store c k cell → (output : List ℕ) → boardSize ≤ length output

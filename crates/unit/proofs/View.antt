@@ -34,11 +34,11 @@ address-front pointer =
     λ i. (pointer .0, front i)
 
 -- what holds where a view is not refused
-pub view-allowed : (live frozen : List ℕ) (console choice : ℕ) → firstRefusal (viewTests live frozen console choice) ≡ 0
+pub view-allowed : (live frozen : List ℕ) (console choice : ℕ) {n : ℕ} → n ≡ firstRefusal (viewTests live frozen console choice) → n ≡ 0
     → Allowed (chosen choice live frozen) console console
-view-allowed live frozen console choice z =
+view-allowed live frozen console choice e z =
     let store = chosen choice live frozen in
-    let n = none-applies (viewTests live frozen console choice) refl z in
+    let n = none-applies (viewTests live frozen console choice) refl (sym e ∙ z) in
     let named = ltb-true console consoleCount (not-false (isConsole console) (n .0)) in
     let here = not-false (present (roomIn store) console) (n .1 .1 .1 .0) in
     record { first = named; second = named; held = not-false (holdsStore store) (n .1 .1 .0); here = here; there = here }
@@ -75,7 +75,7 @@ module _ (live frozen : List ℕ) (console choice : ℕ) where
   unfolding viewAtReply viewPart
   view-done none =
       let store = chosen choice live frozen in
-      let a = view-allowed live frozen console choice none in
+      let a = view-allowed live frozen console choice refl none in
       rw none (board-inside store console a, sym (board-stands store console a))
 
   -- as the code meets them: a part of the store chosen, none of it or its board
@@ -104,7 +104,7 @@ module _ (store other : List ℕ) (console : ℕ) where
   shown-told : number ≡ 0 → Told store console (shownView (roomIn store) console)
   unfolding boardOutcome
   shown-told none =
-      let a = view-allowed store other console 0 none in
+      let a = view-allowed store other console 0 refl none in
       let r = roomIn store in
       let l = boardOf-length (r .versions) (head r console) in
       record {

@@ -1,6 +1,5 @@
 -- `unit::questions::room_origin` meets its contract.
 -- Assumes nothing.
-use mathlib.Core.Path.{sym, _∙_}
 use native.Mathlib.Omega.{arith}
 use Rattle.board.specs.Board.{cellOf}
 use Rattle.room.specs.Origin.{origin}
@@ -23,7 +22,7 @@ head-of-requires : tie.Need-head-of-requires
 head-of-requires c κs =
     let judged = c .before .before in
     let a = judged .before .before .args in
-    let p = origin-allowed (a .store .now) (a .console) (a .strip) (a .cell) (sym (judged .origin-refusal .ensures) ∙ c .before .if1 .left) in
+    let p = origin-allowed (a .store .now) (a .console) (a .strip) (a .cell) (judged .origin-refusal .ensures) (c .before .if1 .left) in
     rw (c .size .ensures) (p .held, p .is-console)
 
 cell-of-requires : tie.Need-cell-of-requires
@@ -31,7 +30,7 @@ cell-of-requires c κs =
     let passed = c .before .before .before .before in
     let judged = passed .before in
     let a = judged .before .before .args in
-    let p = origin-allowed (a .store .now) (a .console) (a .strip) (a .cell) (sym (judged .origin-refusal .ensures) ∙ passed .if1 .left) in
+    let p = origin-allowed (a .store .now) (a .console) (a .strip) (a .cell) (judged .origin-refusal .ensures) (passed .if1 .left) in
     rw (c .size3 .ensures) (p .is-cell)
 
 origin-of-requires : tie.Need-origin-of-requires
@@ -40,7 +39,7 @@ origin-of-requires c κs =
     let passed = named .before .before .before in
     let judged = passed .before in
     let a = judged .before .before .args in
-    let p = origin-allowed (a .store .now) (a .console) (a .strip) (a .cell) (sym (judged .origin-refusal .ensures) ∙ passed .if1 .left) in
+    let p = origin-allowed (a .store .now) (a .console) (a .strip) (a .cell) (judged .origin-refusal .ensures) (passed .if1 .left) in
     (p .held, (named .before .head-of .ensures .1, rw (named .size2 .ensures) (p .is-strip)))
 
 counted-requires : tie.Need-counted-requires
@@ -50,7 +49,7 @@ counted-requires c κs =
     let passed = named .before .before .before in
     let judged = passed .before in
     let a = judged .before .before .args in
-    let p = origin-allowed (a .store .now) (a .console) (a .strip) (a .cell) (sym (judged .origin-refusal .ensures) ∙ passed .if1 .left) in
+    let p = origin-allowed (a .store .now) (a .console) (a .strip) (a .cell) (judged .origin-refusal .ensures) (passed .if1 .left) in
     omega (arith, whole-small (a .store .now) (p .held), found .ensures, origin-below (c .before .cell-of .result) (named .size2 .result) (roomIn (a .store .now) .versions) (named .before .head-of .result .0))
 
 returns-2 : tie.Need-returns-2

@@ -1,6 +1,5 @@
 -- `unit::views::room_view_at` meets its contract.
 -- Assumes nothing.
-use mathlib.Core.Path.{sym, _∙_}
 use native.Mathlib.Omega.{arith}
 use Rattle.room.specs.Room.{head}
 use Rattle.store.specs.Layout.{boardAt, roomIn}
@@ -32,7 +31,7 @@ shown-at-requires c κs =
     let found = c .before in
     let judged = found .before .before in
     let a = judged .before .before .before .args in
-    let p = view-allowed (a .live .now) (a .frozen .now) (a .console) (a .choice) (sym (judged .view-refusal .ensures) ∙ omega arith) in
+    let p = view-allowed (a .live .now) (a .frozen .now) (a .console) (a .choice) (judged .view-refusal .ensures) (omega arith) in
     rw (found .chosen-store .ensures .0, c .size .ensures) (p .held, p .first)
 
 counted-requires : tie.Need-counted-requires
@@ -40,7 +39,7 @@ counted-requires c κs =
     let found = c .before .before in
     let judged = found .before .before in
     let a = judged .before .before .before .args in
-    let p = view-allowed (a .live .now) (a .frozen .now) (a .console) (a .choice) (sym (judged .view-refusal .ensures) ∙ omega arith) in
+    let p = view-allowed (a .live .now) (a .frozen .now) (a .console) (a .choice) (judged .view-refusal .ensures) (omega arith) in
     rw (rw (found .chosen-store .ensures .0, c .before .size .ensures) at (c .shown-at .ensures)) (place-low _ _ p)
 
 pub room-view-at-spec : {M : Type 1} → statement M
