@@ -21,17 +21,10 @@ ghost use Rattle.refusal.specs.Refusal.{firstRefusal};
 ghost use Rattle.command.specs.Code.{consoleCount};
 ghost use Rattle.room.specs.Room.{head};
 ghost use Rattle.store.specs.Layout.{boardAt, roomIn, holdsStore};
-ghost use Rattle.unit.specs.Calls.{chosen, isChoice, viewInputTests, viewTests, viewPart, viewAtReply, viewAddress, viewRefusalReply};
+ghost use Rattle.unit.specs.Calls.{chosen, viewInputTests, viewTests, viewPart, viewAtReply, viewAddress, viewRefusalReply};
 
 // The number of stores that a choice can name.
 const CHOICES: u32 = 2;
-
-// Whether a number names one of two stores.
-fn is_choice(choice: u32) -> bool
-    ensures { λ r. ⌜ r ≡ isChoice choice ⌝ }
-{
-    choice < CHOICES
-}
 
 // The store that the choice names.
 fn chosen_store<'a>(live: &'a [u8], frozen: &'a [u8], choice: u32) -> &'a [u8]
@@ -48,7 +41,7 @@ fn view_input_refusal(console: u32, choice: u32) -> u32
     ensures { λ r. ⌜ r ≡ firstRefusal (viewInputTests console choice) ⌝ }
 {
     let console_out_of_range = when(3, !is_console(size(console)));
-    let choice_out_of_range = when(5, !is_choice(choice));
+    let choice_out_of_range = when(5, !(choice < CHOICES));
     first_of(console_out_of_range, choice_out_of_range)
 }
 

@@ -10,11 +10,10 @@ use Rattle.unit.proofs.views.view_input_refusal.Tie as tie
 returns : tie.Need-returns
 returns c =
     let five = c .before in
-    let three = five .before .before in
+    let three = five .before in
     rw (
       c .first-of .ensures,
       five .when2 .ensures,
-      five .before .is-choice .ensures,
       three .when .ensures,
       three .before .is-console .ensures,
       three .before .before .size .ensures,
@@ -24,4 +23,4 @@ returns c =
 pub view-input-refusal-spec : {M : Type 1} → statement M
 view-input-refusal-spec =
     tie.close
-    (tie.spec (λ c κs. tt) (λ c κs. tt) (λ c κs. tt) (λ c κs. tt) (λ c κs. tt) (λ c κs. tt) returns)
+    (tie.spec (λ c κs. tt) (λ c κs. tt) (λ c κs. tt) (λ c κs. tt) (λ c κs. tt) returns)
