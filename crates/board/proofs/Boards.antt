@@ -1,8 +1,8 @@
--- A board that is merged strip by strip: strip k of a merge is the merge of the three strips k, a board whose first k strips are merged
--- has one more after the next, and the clashes of these strips are counted.
+-- A board that is made strip by strip, by a merge or as a student sees it: strip k of a merge is the merge of the three strips k, a board whose first
+-- k strips are made has one more after the next, and the clashes of merged strips are counted.
 -- Assumes nothing.
 use Prim.Native.Nat.{ℕ, _+_, _-_, _*_, _<_, _≤_}
-use mathlib.Core.Path.{_≡_, refl, ap, ap₂, _∙_}
+use mathlib.Core.Path.{_≡_, refl, sym, ap, ap₂, _∙_}
 use mathlib.Core.List.{List, _++_}
 use native.Mathlib.Numerals.{add-one}
 use native.Mathlib.Omega.{arith}
@@ -13,7 +13,8 @@ use Rattle.laws.proofs.Lists.{part-at, take-put}
 use Rattle.buffer.specs.Field.{wordAt, part, withPart}
 use Rattle.buffer.proofs.Patches.{put-lent, with-length}
 use Rattle.board.specs.Board.{Merged, stripSize, stripCount, boardSize, levelAt, headingAt, marksAt, callsAt, alertsAt, flagOn, mergeStrip, mergeStrips, mergeBoard}
-use Rattle.board.proofs.Length.{mergeStrip-length}
+use Rattle.board.specs.Pane.{strips, studentStrip}
+use Rattle.board.proofs.Length.{mergeStrip-length, merged-strips}
 use Rattle.board.proofs.Clashes.{strip-clashes, strips-clashes}
 
 -- strip k of a board
@@ -61,35 +62,51 @@ strip-put board l a b k {x} {y} {z} {new} ex ey ez e =
       e .1 ∙ ap (λ (m : Merged). m .clashes) whole,
     )
 
--- the first k strips of a board are merged
-pub record Merging (l a b board : List ℕ) (k : ℕ) : Type 0 where
+-- strip k as a student sees it, worked out from strip k and written where it was lent
+pub strip-seen-put : (pane board : List ℕ) (k : ℕ) {x new : List ℕ} → x ≡ strip board k → new ≡ studentStrip x 0
+    → take (stripSize * k) pane ++ (new ++ drop (stripSize * k + stripSize - stripSize * k) (drop (stripSize * k) pane))
+    ≡ withPart pane (stripSize * k) (studentStrip board k)
+unfolding studentStrip
+strip-seen-put pane board k {x} {new} ex e =
+    let words = strip-words board k in
+    let seen : studentStrip x 0 ≡ studentStrip board k = rw (ex, words .0, words .1, words .2) in
+    put-lent pane new (studentStrip board k) (stripSize * k) (stripSize * k) stripSize refl (e ∙ seen) refl
+
+-- the first k strips of a board are those that are given by their numbers
+pub record Made (each : ℕ → List ℕ) (board : List ℕ) (k : ℕ) : Type 0 where
   pub within : k ≤ stripCount
   pub long : length board ≡ boardSize
-  pub done : take (stripSize * k) board ≡ mergeStrips l a b k .bytes
+  pub done : take (stripSize * k) board ≡ strips each k
 
-pub merging-start : (l a b board : List ℕ) → length board ≡ boardSize → Merging l a b board 0
-unfolding mergeStrips
-merging-start l a b board h = record { within = omega arith; long = h; done = refl }
+pub made-start : (each : ℕ → List ℕ) (board : List ℕ) → length board ≡ boardSize → Made each board 0
+unfolding strips
+made-start each board h = record { within = omega arith; long = h; done = refl }
 
 -- strip k is written
-pub merging-step : {l a b board new : List ℕ} {k : ℕ} → Merging l a b board k → k < stripCount
-    → new ≡ withPart board (stripSize * k) (mergeStrip l a b k .bytes) → Merging l a b new (k + 1)
-unfolding mergeStrips withPart
-merging-step {l} {a} {b} {board} {new} {k} m h e =
-    let size = mergeStrip-length l a b k in
+pub made-step : {each : ℕ → List ℕ} {board new : List ℕ} {k : ℕ} → length (each k) ≡ stripSize → Made each board k → k < stripCount
+    → new ≡ withPart board (stripSize * k) (each k) → Made each new (k + 1)
+unfolding strips withPart
+made-step {each} {board} {new} {k} size m h e =
     record {
       within = omega arith;
-      long = ap length e ∙ with-length board (mergeStrip l a b k .bytes) (stripSize * k) (omega (arith, m .long)) ∙ m .long;
+      long = ap length e ∙ with-length board (each k) (stripSize * k) (omega (arith, m .long)) ∙ m .long;
       done =
           ap (take (stripSize * (k + 1))) e
-          ∙ take-put board (mergeStrip l a b k .bytes) _ (stripSize * k) (stripSize * (k + 1)) (omega (arith, m .long)) (omega arith)
+          ∙ take-put board (each k) _ (stripSize * k) (stripSize * (k + 1)) (omega (arith, m .long)) (omega arith)
           ∙ rw (m .done, add-one);
     }
 
-pub merging-finish : {l a b board : List ℕ} {k : ℕ} → Merging l a b board k → stripCount ≤ k → board ≡ mergeBoard l a b .bytes
-merging-finish {l} {a} {b} {board} {k} m h =
+pub made-finish : {each : ℕ → List ℕ} {board : List ℕ} {k : ℕ} → Made each board k → stripCount ≤ k → board ≡ strips each stripCount
+made-finish {each} {board} {k} m h =
     let e : k ≡ stripCount = omega (arith, m .within) in
     rw (e, take-all boardSize board (omega (arith, m .long))) at (m .done)
+
+-- they are merged
+abbrev pub Merging : List ℕ → List ℕ → List ℕ → List ℕ → ℕ → Type 0
+Merging l a b board k = Made (λ j. mergeStrip l a b j .bytes) board k
+
+pub merging-finish : (l a b : List ℕ) {board : List ℕ} {k : ℕ} → Merging l a b board k → stripCount ≤ k → board ≡ mergeBoard l a b .bytes
+merging-finish l a b m h = made-finish m h ∙ sym (merged-strips l a b stripCount)
 
 -- the first k strips of a board are merged, and their clashes counted
 pub record Counting (l a b board : List ℕ) (clashes k : ℕ) : Type 0 where
@@ -98,7 +115,7 @@ pub record Counting (l a b board : List ℕ) (clashes k : ℕ) : Type 0 where
 
 pub counting-start : (l a b board : List ℕ) → length board ≡ boardSize → Counting l a b board 0 0
 unfolding mergeStrips
-counting-start l a b board h = record { merging = merging-start l a b board h; counted = refl }
+counting-start l a b board h = record { merging = made-start _ board h; counted = refl }
 
 -- so far there are no more than 64, and a strip adds no more than 2
 pub counting-few : {l a b board : List ℕ} {clashes more k : ℕ} (j : ℕ) → Counting l a b board clashes k → more ≡ mergeStrip l a b j .clashes
@@ -110,10 +127,10 @@ pub counting-step : {l a b board new : List ℕ} {clashes more k : ℕ} → Coun
     → (new ≡ withPart board (stripSize * k) (mergeStrip l a b k .bytes)) × (more ≡ mergeStrip l a b k .clashes)
     → Counting l a b new (clashes + more) (k + 1)
 unfolding mergeStrips
-counting-step m h e = record { merging = merging-step (m .merging) h (e .0); counted = rw (m .counted, e .1, add-one) }
+counting-step {l} {a} {b} {k = k} m h e = record { merging = made-step (mergeStrip-length l a b k) (m .merging) h (e .0); counted = rw (m .counted, e .1, add-one) }
 
 pub counting-finish : {l a b board : List ℕ} {clashes k : ℕ} → Counting l a b board clashes k → stripCount ≤ k
     → (board ≡ mergeBoard l a b .bytes) × (clashes ≡ mergeBoard l a b .clashes)
-counting-finish {k = k} m h =
+counting-finish {l} {a} {b} {k = k} m h =
     let e : k ≡ stripCount = omega (arith, m .merging .within) in
-    (merging-finish (m .merging) h, rw e at (m .counted))
+    (merging-finish l a b (m .merging) h, rw e at (m .counted))

@@ -3,20 +3,21 @@
 use Prim.Native.Nat.{ℕ, zero, suc, _+_, _-_, _*_, _<_}
 use mathlib.Core.Path.{_≡_, refl, sym, _∙_, ap}
 use mathlib.Core.List.{List, _++_}
-use mathlib.Core.Bool.{Bool, true, false, cond, not, _&&_}
+use mathlib.Core.Bool.{Bool, true, false, cond, not, _&&_, _||_}
 use native.Mathlib.Omega.{arith}
 use native.Mathlib.Decide.{decLt}
 use borrow.Author.Tests.{eqb-true, eqb-false}
+use lib.Bits.{bitOr}
 use lib.Dec.{eqb}
 use lib.ListN.{length, getD, set, getD-replicate, List·getD-append}
 use lib.Seq.{getD-append-add, getD-set-other}
-use Rattle.laws.proofs.Logic.{either, and-rest}
+use Rattle.laws.proofs.Logic.{either, and-rest, or-l, or-r}
 use Rattle.buffer.specs.Field.{wordAt, putWord}
-use Rattle.buffer.proofs.Fields.{bytes-word}
-use Rattle.buffer.proofs.Writes.{put-same, put-apart}
+use Rattle.buffer.proofs.Fields.{cut, bytes-word}
+use Rattle.buffer.proofs.Writes.{put-cut, put-same, put-apart}
 use Rattle.board.specs.declared.Cell.{Cell}
 use Rattle.board.specs.declared.Cell.the-variants.{Level, Heading}
-use Rattle.board.specs.Board.{stripSize, stripCount, boardSize, emptyBoard, mergeStrip, mergeStrips, mergeBoard, levelAt, headingAt, marksAt, callsAt, alertsAt, flagAt, levelEntry, headingEntry, markPutEntry, markTakenEntry, callEntry, alertOnEntry, alertOffEntry, enter, mergeValue, cellAt, valueIn, writingCode, followsGiver}
+use Rattle.board.specs.Board.{stripSize, stripCount, boardSize, emptyBoard, mergeStrip, mergeStrips, mergeBoard, levelAt, headingAt, marksAt, callsAt, alertsAt, flagAt, levelEntry, headingEntry, markPutEntry, markTakenEntry, callEntry, alertOnEntry, alertOffEntry, enter, mergeValue, mergeMarks, mergeCell, markBit, without, cellAt, valueIn, writingCode, followsGiver}
 use Rattle.board.proofs.Length.{mergeStrips-length}
 
 -- an empty board shows 0 everywhere
@@ -71,12 +72,19 @@ module _ (l a b : List ℕ) (k : ℕ) (h : k < stripCount) where
   unfolding mergeStrip
   alerts-merged small = board-word 8 (omega arith) ∙ bytes-word _ small
 
-  -- "level and heading, each alone: b if a = l, else a.", where that fits 16 bits
-  pub value-merged : (cell : Cell) → mergeValue (valueIn cell k l) (valueIn cell k a) (valueIn cell k b) .value < 65536
-      → valueIn cell k (mergeBoard l a b .bytes) ≡ mergeValue (valueIn cell k l) (valueIn cell k a) (valueIn cell k b) .value
+  -- "level and heading, each alone: b if a = l, else a.", cut to 16 bits, and where it fits them
+  pub value-cut : (cell : Cell) → valueIn cell k (mergeBoard l a b .bytes) ≡ cut (mergeCell cell k l a b .value)
   unfolding mergeStrip
-  value-merged Level small = ap (wordAt (mergeBoard l a b .bytes)) (omega arith) ∙ board-word 0 (omega arith) ∙ bytes-word _ small
-  value-merged Heading small = board-word 2 (omega arith) ∙ bytes-word _ small
+  value-cut Level = ap (wordAt (mergeBoard l a b .bytes)) (omega arith) ∙ board-word 0 (omega arith)
+  value-cut Heading = board-word 2 (omega arith)
+
+  pub value-merged : (cell : Cell) → mergeCell cell k l a b .value < 65536 → valueIn cell k (mergeBoard l a b .bytes) ≡ mergeCell cell k l a b .value
+  value-merged cell small = value-cut cell ∙ bytes-word _ small
+
+  -- "marks: (a and b) or (a without l) or (b without l)."
+  pub marks-cut : wordAt (mergeBoard l a b .bytes) (marksAt k) ≡ cut (mergeMarks (wordAt l (marksAt k)) (wordAt a (marksAt k)) (wordAt b (marksAt k)))
+  unfolding mergeStrip
+  marks-cut = board-word 4 (omega arith)
 
 -- the value of a merge is that of the side taken
 pub side-taken : (value : ℕ → ℕ) (l p q : ℕ) → mergeValue l (value p) (value q) .value ≡ value (cond (followsGiver l (value p) (value q)) q p)
@@ -104,7 +112,8 @@ flag-kept s k x i a =
 
 module _ (code k x : ℕ) (s : List ℕ) where
   -- a 16-bit cell that an entry does not write stays as it was
-  cell-kept : (i : ℕ) → (eqb code levelEntry ≡ true → Apart i (levelAt k)) → (eqb code headingEntry ≡ true → Apart i (headingAt k)) → Apart i (marksAt k)
+  cell-kept : (i : ℕ) → (eqb code levelEntry ≡ true → Apart i (levelAt k)) → (eqb code headingEntry ≡ true → Apart i (headingAt k))
+      → (eqb code markPutEntry || eqb code markTakenEntry ≡ true → Apart i (marksAt k))
       → (eqb code callEntry ≡ true → Apart i (callsAt k)) → (eqb code alertOnEntry ≡ true → Apart i (alertsAt k)) → Apart i (flagAt k)
       → wordAt (enter code k x s) i ≡ wordAt s i
   unfolding enter
@@ -112,8 +121,8 @@ module _ (code k x : ℕ) (s : List ℕ) where
       let P : List ℕ → Type 0 = λ t. wordAt t i ≡ wordAt s i in
       either P (eqb code levelEntry) (λ two. put-kept s (levelAt k) x i (level two))
       (either P (eqb code headingEntry) (λ three. put-kept s (headingAt k) x i (heading three))
-      (either P (eqb code markPutEntry) (λ _. put-kept s (marksAt k) _ i marks)
-      (either P (eqb code markTakenEntry) (λ _. put-kept s (marksAt k) _ i marks)
+      (either P (eqb code markPutEntry) (λ four. put-kept s (marksAt k) _ i (marks (or-l (eqb code markPutEntry) _ four)))
+      (either P (eqb code markTakenEntry) (λ five. put-kept s (marksAt k) _ i (marks (or-r (eqb code markPutEntry) _ five)))
       (either P (eqb code callEntry) (λ six. put-kept s (callsAt k) _ i (calls six))
       (either P (eqb code alertOnEntry)
       (λ seven. flag-kept (putWord s (alertsAt k) (wordAt s (alertsAt k) + 1)) k 1 i flag ∙ put-kept s (alertsAt k) _ i (alerts seven))
@@ -134,6 +143,11 @@ module _ (code k x : ℕ) (s : List ℕ) where
   value-kept Heading j other =
       cell-kept (headingAt j) (omega arith) (λ three. omega (arith, eqb-false j k (and-rest _ _ three other))) (omega arith) (omega arith) (omega arith) (omega arith)
 
+  -- and no entry but a mark's the marks
+  pub marks-kept : (j : ℕ) → (eqb code markPutEntry || eqb code markTakenEntry) && eqb j k ≡ false → wordAt (enter code k x s) (marksAt j) ≡ wordAt s (marksAt j)
+  marks-kept j other =
+      cell-kept (marksAt j) (omega arith) (omega arith) (λ marks. omega (arith, eqb-false j k (and-rest _ _ marks other))) (omega arith) (omega arith) (omega arith)
+
 module _ (k x : ℕ) (s : List ℕ) (inside : alertsAt k + 1 < length s) where
   -- "06 adds 1 to calls; 07 adds 1 to the alert count"
   pub call-counted : wordAt s (callsAt k) + 1 < 65536 → wordAt (enter callEntry k x s) (callsAt k) ≡ wordAt s (callsAt k) + 1
@@ -146,8 +160,20 @@ module _ (k x : ℕ) (s : List ℕ) (inside : alertsAt k + 1 < length s) where
       flag-kept (putWord s (alertsAt k) (wordAt s (alertsAt k) + 1)) k 1 (alertsAt k) (omega arith)
       ∙ put-same s (alertsAt k) (wordAt s (alertsAt k) + 1) inside small
 
-  -- "02 level", "03 heading": the operand, where it fits 16 bits
-  pub value-entered : (cell : Cell) → x < 65536 → valueIn cell k (enter (writingCode cell) k x s) ≡ x
+  -- "02 level", "03 heading": the operand, cut to 16 bits, and where it fits them
+  pub value-written : (cell : Cell) → valueIn cell k (enter (writingCode cell) k x s) ≡ cut x
   unfolding enter
-  value-entered Level small = put-same s (levelAt k) x (omega arith) small
-  value-entered Heading small = put-same s (headingAt k) x (omega arith) small
+  value-written Level = put-cut s (levelAt k) x (omega arith)
+  value-written Heading = put-cut s (headingAt k) x (omega arith)
+
+  pub value-entered : (cell : Cell) → x < 65536 → valueIn cell k (enter (writingCode cell) k x s) ≡ x
+  value-entered cell small = value-written cell ∙ bytes-word x small
+
+  -- "04 mark put, 05 mark taken"
+  pub mark-put : wordAt (enter markPutEntry k x s) (marksAt k) ≡ cut (bitOr (wordAt s (marksAt k)) (markBit x))
+  unfolding enter
+  mark-put = put-cut s (marksAt k) _ (omega arith)
+
+  pub mark-taken : wordAt (enter markTakenEntry k x s) (marksAt k) ≡ cut (without (wordAt s (marksAt k)) (markBit x))
+  unfolding enter
+  mark-taken = put-cut s (marksAt k) _ (omega arith)

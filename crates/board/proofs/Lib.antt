@@ -7,3 +7,4 @@ pub mod Strips
 pub mod Boards
 pub mod Entries
 pub mod Halves
+pub mod Seen

@@ -1,17 +1,20 @@
--- Cells that are written with what was read: a strip that was written cell by cell is the merged strip, with its clashes.
+-- Cells that are written with what was read: a strip that was written cell by cell is the merged strip, with its clashes, or the strip that a student
+-- sees.
 -- Assumes nothing.
 use Prim.Native.Nat.{ℕ, _+_}
-use mathlib.Core.Path.{_≡_, refl, ap, _∙_}
+use mathlib.Core.Path.{_≡_, refl, ap, ap₂, _∙_}
 use mathlib.Core.Bool.{Bool, true, false, _&&_, _||_, or-false}
 use mathlib.Core.List.{List, [], _∷_, _++_}
 use native.Mathlib.Omega.{arith}
+use lib.Bits.{bitAnd, and-zero-r, and-mask}
 use lib.Dec.{ltb}
 use lib.ListN.{length, set, drop-of-length-le}
 use lib.Seq.{sets-eq}
 use mir.Val.{boolByte}
-use Rattle.buffer.specs.Field.{word, wordAt, putWord}
+use Rattle.buffer.specs.Field.{word, wordAt, putWord, zeros}
 use Rattle.buffer.specs.Row.{bit}
 use Rattle.board.specs.Board.{stripSize, levelAt, headingAt, marksAt, callsAt, alertsAt, flagAt, flagOn, mergeValue, mergeMarks, mergeCount, mergeFlag, mergeStrip}
+use Rattle.board.specs.Pane.{seenMarks, studentStrip}
 
 -- the flag of a merge in one line
 pub flag-rule : (m n : Bool) (l a b : ℕ) → (m && (n || ltb l a)) || (n && ltb l b) ≡ mergeFlag m n l a b
@@ -54,3 +57,29 @@ module _ (l a b : List ℕ) where
     rw (e₅, e₄, e₃, e₂ .0, e₁ .0) (cells-written s _ _ _ _ _ _ h),
     rw (bool-bit x, bool-bit y, e₁ .1, e₂ .1),
   )
+
+-- all 16 bits of a field, those of marks 0 to 7, and none
+all-seen : (w : ℕ) → word (bitAnd w 0xFFFF) ≡ word w
+all-seen w = rw (and-mask w 16) (ap₂ (λ (x y : ℕ). x ∷ y ∷ []) (omega arith) (omega arith))
+
+module _ (t : List ℕ) where
+  -- the bits of a field that are seen were written
+  abbrev Shown : ℕ → ℕ → List ℕ → List ℕ → Type 0
+  Shown at seen s s₁ = s₁ ≡ putWord s at (bitAnd (wordAt t at) seen)
+
+  pub strip-shown : (s : List ℕ) {s₁ s₂ s₃ s₄ s₅ s₆ : List ℕ} → length s ≡ stripSize
+      → Shown (levelAt 0) 0xFFFF s s₁
+      → Shown (headingAt 0) 0xFFFF s₁ s₂
+      → Shown (marksAt 0) 0x00FF s₂ s₃
+      → Shown (callsAt 0) 0 s₃ s₄
+      → Shown (alertsAt 0) 0 s₄ s₅
+      → Shown (flagAt 0) 0 s₅ s₆
+      → s₆ ≡ studentStrip t 0
+  unfolding studentStrip
+  strip-shown s h e₁ e₂ e₃ e₄ e₅ e₆ =
+      let level : ℕ = bitAnd (wordAt t (levelAt 0)) 0xFFFF in
+      let heading : ℕ = bitAnd (wordAt t (headingAt 0)) 0xFFFF in
+      let marks : ℕ = seenMarks (wordAt t (marksAt 0)) in
+      rw (e₆, e₅, e₄, e₃, e₂, e₁, and-zero-r (wordAt t (callsAt 0)), and-zero-r (wordAt t (alertsAt 0)), and-zero-r (wordAt t (flagAt 0)), and-mask (wordAt t (marksAt 0)) 8)
+      (cells-written s level heading marks 0 0 0 h
+      ∙ ap₂ (λ (x y : List ℕ). x ++ y ++ word marks ++ zeros 6) (all-seen (wordAt t (levelAt 0))) (all-seen (wordAt t (headingAt 0))))

@@ -1,4 +1,5 @@
 // A board: 32 strips of 12 bytes, and the rules that make the board of a new version.
+pub mod panes;
 pub mod values;
 
 use buffer::copy;
@@ -56,6 +57,12 @@ pub const MARK_COUNT: usize = 16;
 pub enum Cell {
     Level,
     Heading,
+}
+
+// Whoever looks at a board.
+pub enum Viewer {
+    Instructor,
+    Student,
 }
 
 // The codes of entries.

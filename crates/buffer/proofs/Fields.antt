@@ -12,8 +12,11 @@ use borrow.Author.Tests.{eqb-true, eq-eqb}
 use Rattle.laws.proofs.Logic.{and-l, and-r, and-i, clash}
 use Rattle.buffer.specs.Field.{byte, wordAt, zeros, part, same}
 
--- the two bytes of a number of 16 bits give it back
-pub bytes-word : (x : ℕ) → x < 65536 → byte (x / 256) * 256 + byte x ≡ x
+-- what a number's two bytes read as; where it has 16 bits they give it back
+abbrev pub cut : ℕ → ℕ
+cut x = byte (x / 256) * 256 + byte x
+
+pub bytes-word : (x : ℕ) → x < 65536 → cut x ≡ x
 bytes-word x h = omega arith
 
 -- a field before the seam, and one after it

@@ -7,17 +7,21 @@ use native.Mathlib.Omega.{arith}
 use lib.ListN.{length, getD, set, length-set}
 use lib.Seq.{getD-set-same, getD-set-other}
 use Rattle.buffer.specs.Field.{byte, wordAt, putWord}
-use Rattle.buffer.proofs.Fields.{bytes-word}
+use Rattle.buffer.proofs.Fields.{cut, bytes-word}
 
 pub put-length : (s : List ℕ) (at x : ℕ) → length (putWord s at x) ≡ length s
 put-length s at x = simp length-set
 
-pub put-same : (s : List ℕ) (at x : ℕ) → at + 1 < length s → x < 65536 → wordAt (putWord s at x) at ≡ x
-put-same s at x inside small =
+-- as many bits of it as a field has
+pub put-cut : (s : List ℕ) (at x : ℕ) → at + 1 < length s → wordAt (putWord s at x) at ≡ cut x
+put-cut s at x inside =
     let hi = getD-set-other (set s at (byte (x / 256))) (at + 1) at (byte x) 0 (omega arith) in
     let hi′ = getD-set-same s at (byte (x / 256)) 0 (omega arith) in
     let lo = getD-set-same (set s at (byte (x / 256))) (at + 1) (byte x) 0 (omega (arith, length-set s at (byte (x / 256)))) in
-    cc (bytes-word x small)
+    cc
+
+pub put-same : (s : List ℕ) (at x : ℕ) → at + 1 < length s → x < 65536 → wordAt (putWord s at x) at ≡ x
+put-same s at x inside small = put-cut s at x inside ∙ bytes-word x small
 
 pub put-other : (s : List ℕ) (at x i : ℕ) → (i ≡ at → ⊥) → (i ≡ at + 1 → ⊥) → getD (putWord s at x) i 0 ≡ getD s i 0
 put-other s at x i p q = getD-set-other (set s at (byte (x / 256))) (at + 1) i (byte x) 0 q ∙ getD-set-other s at i (byte (x / 256)) 0 p

@@ -10,6 +10,9 @@ use lib.Dec.{eqb, ltb}
 use lib.ListN.{length}
 use Rattle.buffer.specs.Field.{overwrite, addressOf}
 use Rattle.board.specs.Board.{boardSize, cellOf}
+use Rattle.board.specs.declared.Viewer.{Viewer}
+use Rattle.board.specs.declared.Viewer.the-variants.{Instructor}
+use Rattle.board.specs.Pane.{paneOf}
 use Rattle.command.specs.declared.Command.{Command}
 use Rattle.command.specs.declared.Decoded.{Decoded}
 use Rattle.command.specs.declared.Decoded.the-variants.{Whole, Refused}
@@ -47,7 +50,7 @@ tooShort buffer size = ltb (length buffer) size
 abbrev pub holdsNoStore : List ℕ → Bool
 holdsNoStore store = not (holdsStore store)
 
--- The last test of opening, resume, pause and the copied board, which write so many bytes at the front of a lent buffer, is 19.
+-- The last test of opening, resume, pause, the copied board and the panes, which write so many bytes at the front of a lent buffer, is 19.
 abbrev pub bufferTests : List (ℕ × Bool) → List ℕ → ℕ → List (ℕ × Bool)
 bufferTests tests buffer size = tests ++ (19 when tooShort buffer size ∷ [])
 
@@ -151,9 +154,14 @@ originReply store console strip cell =
 abbrev pub boardShown : Room → ℕ → List ℕ
 boardShown room console = boardOf (room .versions) (head room console)
 
--- "a console's board copied out"
-unfoldable pub boardOutcome : List ℕ → ℕ → List ℕ → Outcome
-boardOutcome store console output = outputOutcome (consoleTests store console) boardSize (boardShown (roomIn store) console) output
+-- "Each is copied out as a board is.": the instructor's or the student's pane of a console
+unfoldable pub paneOutcome : Viewer → List ℕ → ℕ → List ℕ → Outcome
+paneOutcome viewer store console output =
+    outputOutcome (consoleTests store console) boardSize (paneOf viewer (boardShown (roomIn store) console)) output
+
+-- "a console's board copied out": "The instructor's pane is the board."
+abbrev pub boardOutcome : List ℕ → ℕ → List ℕ → Outcome
+boardOutcome store console output = paneOutcome Instructor store console output
 
 -- "Given the live store and a resumed one, a console and a choice byte (0 live, 1 frozen), return the 384 bytes of that console's board as a
 -- part of the store chosen, with no copy." Of two stores, or of the pointers to them, the one that the choice names; where it names none the
@@ -224,7 +232,7 @@ replyBeside reply store (asLive frozen) = reply store frozen
 replyBeside reply store (asFrozen live) = reply live store
 
 -- What a store is asked, with the output lent for it: "the three questions (board, heard count, common version)", where a cell comes from,
--- about the view of a console in this store or in another beside it, which two can merge or fast-forward, and its tape.
+-- about the view of a console in this store or in another beside it, which two can merge or fast-forward, the panes of a console, and its tape.
 pub data Question : Type 0 where
   heard : ℕ → Question
   commonVersion : ℕ → ℕ → Question
@@ -233,6 +241,7 @@ pub data Question : Type 0 where
   viewRefusal : Beside → ℕ → ℕ → Question
   mergeablePair : Question
   board : ℕ → List ℕ → Question
+  pane : Viewer → ℕ → List ℕ → Question
   pause : List ℕ → Question
 
 -- its reply and the output lent to it afterwards, [] where none is
@@ -246,6 +255,7 @@ answerTo store (viewRefusal beside console choice) =
     record { reply = replyBeside (λ live frozen. viewRefusalReply live frozen console choice) store beside; buffer = [] }
 answerTo store mergeablePair = record { reply = mergeableReply store; buffer = [] }
 answerTo store (board console output) = boardOutcome store console output
+answerTo store (pane viewer console output) = paneOutcome viewer store console output
 answerTo store (pause output) = pauseOutcome store output
 
 -- A call on a store: one that changes it, or one that asks it.
@@ -268,3 +278,13 @@ storeAfter store (opening capacity) = (openOutcome capacity store) .buffer
 storeAfter store (command c) = (commandOutcome store c) .buffer
 storeAfter store (resume tape) = (resumeOutcome tape store) .buffer
 storeAfter store (question q) = store
+
+-- what a list of calls, given one after the other, is answered: 0 or a refusal for each
+unfoldable pub answersTo : List ℕ → List Call → List ℕ
+answersTo store [] = []
+answersTo store (c ∷ calls) = replyTo store c .answer ∷ answersTo (storeAfter store c) calls
+
+-- the store's buffer after the list: `afterCalls` of demand 3 without its journal
+unfoldable pub storeAfterAll : List ℕ → List Call → List ℕ
+storeAfterAll store [] = store
+storeAfterAll store (c ∷ calls) = storeAfterAll (storeAfter store c) calls

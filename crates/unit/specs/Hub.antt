@@ -15,7 +15,7 @@ use Rattle.command.specs.Decode.{commandBytes}
 use Rattle.room.specs.Mergeable.{stuck, allAgree, numberOf}
 use Rattle.room.specs.Gathering.{consolesIn, versionsFree, gathering}
 use Rattle.store.specs.Layout.{storeSize, hubAt, roomIn, holdsStore}
-use Rattle.unit.specs.Calls.{Outcome, Call, command, replied, replyTo, storeAfter, commandOutcome, commonReply, mergeableReply, pauseOutcome, resumeOutcome}
+use Rattle.unit.specs.Calls.{Outcome, Call, command, replied, replyTo, storeAfter, storeAfterAll, commandOutcome, commonReply, mergeableReply, pauseOutcome, resumeOutcome}
 use Rattle.unit.specs.Journal.{Journal, feed}
 use Rattle.unit.specs.Mergeable.{answerFor, headReply, OneHead}
 use Rattle.unit.specs.Convergence.{begins}
@@ -34,11 +34,6 @@ hasHub store = holdsStore store && roomIn store .settings .hub
 unfoldable pub allAnswered : List ℕ → List Call → Bool
 allAnswered store [] = true
 allAnswered store (c ∷ calls) = eqb (replyTo store c .answer) 0 && allAnswered (storeAfter store c) calls
-
--- the store afterwards: `afterCalls` of demand 3 without its journal
-unfoldable pub storeAfterAll : List ℕ → List Call → List ℕ
-storeAfterAll store [] = store
-storeAfterAll store (c ∷ calls) = storeAfterAll (storeAfter store c) calls
 
 -- no call of a list opens or resumes a room in the buffer
 unfoldable pub noneBegins : List Call → Bool

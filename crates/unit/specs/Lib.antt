@@ -8,3 +8,4 @@ pub mod Clashes
 pub mod Mergeable
 pub mod Convergence
 pub mod Hub
+pub mod Secrecy
