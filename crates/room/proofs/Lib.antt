@@ -12,3 +12,4 @@ pub mod Clashes
 pub mod Mergeable
 pub mod Hub
 pub mod Gathering
+pub mod Unseen

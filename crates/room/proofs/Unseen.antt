@@ -1,0 +1,123 @@
+-- Graphs that agree but for what a student does not see have the same ancestors and bases, and show a student the same.
+-- Assumes nothing.
+use Prim.Native.Nat.{ℕ, suc, _≤_, _<_}
+use mathlib.Core.Path.{_≡_, refl, sym, _∙_, ap}
+use mathlib.Core.Bool.{Bool, true, false, cond, not, _&&_, _||_}
+use mathlib.Core.List.{List, [], _∷_}
+use mathlib.Core.Logic.{inl, inr}
+use mathlib.Core.Option.{Option·getD}
+use native.Mathlib.Omega.{arith}
+use borrow.Author.Tests.{eqb-true, ne-eqb, leb-true, ltb-true}
+use lib.Dec.{eqb, leb, ltb}
+use lib.ListN.{length}
+use Rattle.laws.proofs.Logic.{clash, and-l, and-r, or-split}
+use Rattle.board.specs.declared.Cell.{Cell}
+use Rattle.board.specs.declared.Cell.the-variants.{Level, Heading}
+use Rattle.board.specs.Board.{boardSize, markCount, markBit, enter, writingCode, markPutEntry, markTakenEntry, callEntry, alertOffEntry}
+use Rattle.board.specs.Pane.{firstUnseenMark, seenMarks, studentPane}
+use Rattle.board.proofs.Marks.{unseen-bit}
+use Rattle.board.proofs.Seen.{Alike, alike-same, alike-back, alike-through, pane-alike, alike-merged, alike-entered, alike-unseen}
+use Rattle.graph.specs.Below.{everyBelow, highestBelow}
+use Rattle.graph.specs.declared.Node.{Node}
+use Rattle.graph.specs.declared.Node.the-variants.{Entry, Merge}
+use Rattle.graph.specs.Graph.{Graph, versionCount, someParent, ancestor, isMeet, meet, baseOf}
+use Rattle.command.specs.Code.{within}
+use Rattle.command.proofs.Limits.{within-true}
+use Rattle.room.specs.Boards.{boardMade, boardOf}
+use Rattle.room.specs.Unseen.{isUnseen, isUnseenOn, Agree, none, same, unseen}
+use Rattle.room.proofs.Lengths.{boardOf-length}
+
+pub agree-same : (g : Graph) → Agree g g
+agree-same [] = none
+agree-same (n ∷ g) = same n (agree-same g)
+
+pub same-length : {g h : Graph} → Agree g h → length g ≡ length h
+same-length none = refl
+same-length (same n a) = ap suc (same-length a)
+same-length (unseen parent m n p q a) = ap suc (same-length a)
+
+-- what holds of the parent of such an entry
+unseen-parent : (f : ℕ → Bool) (parent : ℕ) (n : Node) → isUnseenOn parent n ≡ true → someParent f n ≡ f parent
+unseen-parent f parent (Entry p code strip operand) u = ap f (eqb-true (p .0) parent (and-l _ _ u))
+unseen-parent f parent (Merge p q) u = clash u refl
+
+-- "Ancestors, bases and heads do not depend on what an entry says."
+same-ancestors : {g h : Graph} → Agree g h → (u v : ℕ) → ancestor g u v ≡ ancestor h u v
+unfolding ancestor
+same-ancestors none u v = refl
+same-ancestors (same n a) u v =
+    λ i. cond (eqb v (suc (same-length a i))) (eqb u v || someParent (λ w. same-ancestors a u w i) n) (same-ancestors a u v i)
+same-ancestors (unseen {g} {h} parent m n p q a) u v =
+    let parents : someParent (ancestor g u) m ≡ someParent (ancestor h u) n =
+    unseen-parent (ancestor g u) parent m p ∙ same-ancestors a u parent ∙ sym (unseen-parent (ancestor h u) parent n q) in
+    λ i. cond (eqb v (suc (same-length a i))) (eqb u v || parents i) (same-ancestors a u v i)
+
+same-base : {g h : Graph} → Agree g h → (p q : ℕ) → baseOf g p q ≡ baseOf h p q
+unfolding meet isMeet
+same-base a p q = λ i.
+    let leads : ℕ → ℕ → Bool = λ u v. same-ancestors a u v i in
+    let common : ℕ → Bool = λ w. leads w p && leads w q in
+    let count : ℕ = suc (same-length a i) in
+    Option·getD (highestBelow count (λ m. common m && everyBelow count (λ w. not (common w) || leads w m))) 0
+
+-- such an entry leaves what a student sees as it was: it writes no level and no heading, and no mark from 0 to 7
+unseen-writes : (code x : ℕ) → isUnseen code x ≡ true
+    → ((cell : Cell) → eqb code (writingCode cell) ≡ false) × (eqb code markPutEntry || eqb code markTakenEntry ≡ true → seenMarks (markBit x) ≡ 0)
+unseen-writes code x u =
+    elim (or-split (within callEntry alertOffEntry code) _ u) [
+      | inl counts ↦
+          let range = within-true callEntry alertOffEntry code counts in
+          (no-value (omega (arith, range .0)), λ mark. absurd (no-mark range mark))
+      | inr marks ↦
+          let put-or-taken : Bool = within markPutEntry markTakenEntry code in
+          let high = and-l (put-or-taken && leb firstUnseenMark x) _ marks in
+          let low : firstUnseenMark ≤ x = leb-true firstUnseenMark x (and-r put-or-taken _ high) in
+          let mark : x < markCount = ltb-true x markCount (and-r (put-or-taken && leb firstUnseenMark x) _ marks) in
+          (no-value (within-true markPutEntry markTakenEntry code (and-l put-or-taken _ high) .0), λ _. unseen-bit x low mark)
+    ]
+  where
+    no-value : markPutEntry ≤ code → (cell : Cell) → eqb code (writingCode cell) ≡ false
+    no-value l Level = ne-eqb code (writingCode Level) (omega arith)
+    no-value l Heading = ne-eqb code (writingCode Heading) (omega arith)
+    no-mark : (callEntry ≤ code) × (code ≤ alertOffEntry) → eqb code markPutEntry || eqb code markTakenEntry ≡ true → ⊥
+    no-mark range mark =
+        elim (or-split (eqb code markPutEntry) (eqb code markTakenEntry) mark) [
+          | inl four ↦ omega (arith, range .0, eqb-true code markPutEntry four)
+          | inr five ↦ omega (arith, range .0, eqb-true code markTakenEntry five)
+        ]
+
+unseen-made : (g : Graph) (parent : ℕ) (n : Node) → isUnseenOn parent n ≡ true → Alike (boardMade (boardOf g) (baseOf g) n) (boardOf g parent)
+unfolding boardMade
+unseen-made g parent (Entry p code strip x) u =
+    let on : p .0 ≡ parent = eqb-true (p .0) parent (and-l _ _ u) in
+    let writes = unseen-writes code x (and-r (eqb (p .0) parent) _ u) in
+    rw on (alike-unseen code (strip .0) x (boardOf g parent) (boardOf-length g parent) (writes .0) (writes .1))
+unseen-made g parent (Merge p q) u = clash u refl
+
+-- boards made of boards that are alike
+made-alike : {g h : Graph} → Agree g h → ((v : ℕ) → Alike (boardOf g v) (boardOf h v)) → (n : Node)
+    → Alike (boardMade (boardOf g) (baseOf g) n) (boardMade (boardOf h) (baseOf h) n)
+unfolding boardMade
+made-alike {g} {h} a older (Entry p code strip x) =
+    alike-entered code (strip .0) x (boardOf-length g (p .0)) (boardOf-length h (p .0)) (older (p .0))
+made-alike {g} {h} a older (Merge p q) =
+    let base : Alike (boardOf g (baseOf g (p .0) (q .0))) (boardOf h (baseOf h (p .0) (q .0))) = rw (same-base a (p .0) (q .0)) (older (baseOf h (p .0) (q .0))) in
+    alike-merged base (older (p .0)) (older (q .0))
+
+choice-alike : (b : Bool) {s t u v : List ℕ} → Alike s u → Alike t v → Alike (cond b s t) (cond b u v)
+choice-alike true a b = a
+choice-alike false a b = b
+
+-- the board of each version, in two graphs that agree
+boards-alike : {g h : Graph} → Agree g h → (v : ℕ) → Alike (boardOf g v) (boardOf h v)
+unfolding boardOf
+boards-alike none v = alike-same _
+boards-alike (same {g} {h} n a) v =
+    rw (same-length a) (choice-alike (eqb v (versionCount h)) (made-alike a (boards-alike a) n) (boards-alike a v))
+boards-alike (unseen {g} {h} parent m n p q a) v =
+    rw (same-length a)
+    (choice-alike (eqb v (versionCount h))
+    (alike-through (unseen-made g parent m p) (alike-through (boards-alike a parent) (alike-back (unseen-made h parent n q)))) (boards-alike a v))
+
+pub same-panes : {g h : Graph} → Agree g h → (v : ℕ) → studentPane (boardOf g v) ≡ studentPane (boardOf h v)
+same-panes a v = pane-alike (boards-alike a v)
