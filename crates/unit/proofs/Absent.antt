@@ -7,6 +7,7 @@ use mathlib.Core.List.{List, [], _∷_}
 use borrow.Author.Tests.{lt-ltb}
 use Rattle.laws.proofs.Logic.{clash, or-r}
 use Rattle.board.specs.Board.{stripCount, cellCount}
+use Rattle.board.specs.declared.Viewer.{Viewer}
 use Rattle.refusal.specs.Refusal.{firstRefusal}
 use Rattle.command.specs.declared.Command.the-variants.{Fork}
 use Rattle.command.specs.Code.{consoleCount, forkCommand}
@@ -18,7 +19,7 @@ use Rattle.room.proofs.Sound.{present-console}
 use Rattle.room.proofs.Accepted.{fork-accepts}
 use Rattle.store.specs.Layout.{roomIn, holdsStore}
 use Rattle.store.proofs.Whole.{whole-sound}
-use Rattle.unit.specs.Calls.{Outcome, replied, commandOutcome, boardOutcome, heardReply, commonReply, originReply, viewPart, viewAtReply, viewRefusalReply}
+use Rattle.unit.specs.Calls.{Outcome, replied, commandOutcome, paneOutcome, heardReply, commonReply, originReply, viewPart, viewAtReply, viewRefusalReply}
 use Rattle.unit.specs.View.{viewOf, refusedView}
 use Rattle.unit.specs.Absent.{Absent}
 use Rattle.unit.proofs.Commanded.{carried-out}
@@ -32,9 +33,9 @@ module _ (store : List ℕ) (held : holdsStore store ≡ true) (c : ℕ) (cl : c
         rw (lt-ltb c consoleCount cl, lt-ltb d consoleCount dl, held, away, late),
       )
 
-  no-board : (output : List ℕ) → boardOutcome store c output ≡ record { reply = replied 12 0; buffer = output }
-  unfolding boardOutcome firstRefusal
-  no-board output = rw (lt-ltb c consoleCount cl, held, away)
+  no-pane : (viewer : Viewer) (output : List ℕ) → paneOutcome viewer store c output ≡ record { reply = replied 12 0; buffer = output }
+  unfolding paneOutcome firstRefusal
+  no-pane viewer output = rw (lt-ltb c consoleCount cl, held, away)
 
   no-heard : heardReply store c ≡ replied 12 0
   unfolding heardReply firstRefusal
@@ -57,4 +58,4 @@ module _ (store : List ℕ) (held : holdsStore store ≡ true) (c : ℕ) (cl : c
       (carried-out store (Fork (record { 0 = c }) (record { 0 = old })) range held (fork-accepts (roomIn store) (record { 0 = c }) (record { 0 = old }) away here hub))
 
   pub absent-console : Absent store c
-  absent-console = record { noCommon = no-common; noBoard = no-board; noHeard = no-heard; noOrigin = no-origin; noView = no-view; forkable = forkable }
+  absent-console = record { noCommon = no-common; noPane = no-pane; noHeard = no-heard; noOrigin = no-origin; noView = no-view; forkable = forkable }

@@ -13,6 +13,7 @@ use Rattle.laws.proofs.Logic.{and-l, and-r, and-both}
 use Rattle.buffer.specs.Field.{wordAt}
 use Rattle.buffer.proofs.Fields.{wordAt-left}
 use Rattle.board.specs.Board.{stripCount, boardSize, callsAt, callEntry, cellCount, cellOf}
+use Rattle.board.specs.declared.Viewer.{Viewer}
 use Rattle.graph.specs.Below.{countBelow}
 use Rattle.graph.specs.Graph.{versionCount, ancestor, isEntry}
 use Rattle.graph.proofs.Below.{count-ext}
@@ -31,7 +32,7 @@ use Rattle.room.proofs.Lengths.{boardOf-length}
 use Rattle.store.specs.Layout.{roomIn, holdsStore}
 use Rattle.store.proofs.RoundTrip.{holds-sound}
 use Rattle.store.proofs.Whole.{whole-sound}
-use Rattle.unit.specs.Calls.{replied, written, boardShown, boardOutcome, heardReply}
+use Rattle.unit.specs.Calls.{replied, written, boardShown, paneOutcome, boardOutcome, heardReply}
 use Rattle.unit.specs.Journal.{Journal, Made, entered, merged, madeBy, isPresent, headNumber, leads, madeAs, wasEntered, holds, hasHeard, entriesHeard, callOf, callsHeard}
 use Rattle.unit.specs.Convergence.{Common, Origin, Converged, Demand3}
 use Rattle.unit.proofs.Reading.{leads-ancestor, made-node, entered-entry, call-entry}
@@ -91,10 +92,10 @@ module _ (store : List ℕ) (h : holdsStore store ≡ true) where
         same-entries well-formed (s .meets c d p q .1)
         (λ e i. cc (f e, holds-ancestor r (head r c) e, holds-ancestor r (head r d) e))
 
-    same-board : headNumber (journalIn store) c ≡ headNumber (journalIn store) d
-        → (output : List ℕ) → boardOutcome store c output ≡ boardOutcome store d output
-    unfolding boardOutcome
-    same-board e output = cc (console c p, console d q)
+    same-pane : headNumber (journalIn store) c ≡ headNumber (journalIn store) d
+        → (viewer : Viewer) (output : List ℕ) → paneOutcome viewer store c output ≡ paneOutcome viewer store d output
+    unfolding paneOutcome
+    same-pane e viewer output = cc (console c p, console d q)
 
     common-version : (m : ℕ) × Common store (journalIn store) c d m
     common-version =
@@ -122,7 +123,7 @@ module _ (store : List ℕ) (h : holdsStore store ≡ true) where
   module _ (c : ℕ) (p : isPresent (journalIn store) c ≡ true) where
     pub board-shown : (output : List ℕ) → boardSize ≤ length output
         → boardOutcome store c output ≡ written 0 boardSize (boardShown (roomIn store) c) output
-    unfolding boardOutcome firstRefusal
+    unfolding paneOutcome firstRefusal
     board-shown output fits = cc (h, console c p, le-ltb (length output) boardSize fits)
 
     heard-count : heardReply store c ≡ replied 0 (entriesHeard (journalIn store) c)
@@ -160,7 +161,7 @@ module _ (store : List ℕ) (h : holdsStore store ≡ true) where
   converged = record {
     sound = h;
     heads = refl;
-    alike = λ c d p q f. let e = same-head c d p q f in (e, same-board c d p q e);
+    alike = λ c d p q f. let e = same-head c d p q f in (e, same-pane c d p q e);
     commons = common-version;
     calls = λ c k p. calls-counted c p k;
     heard = heard-count;

@@ -13,6 +13,7 @@ use lib.ListN.{length, getD}
 use borrow.Author.Tests.{eqb-true, eqb-false, ne-eqb}
 use Rattle.laws.proofs.Logic.{clash, decide, refuted, and-i, not-i, or-split, or-none-l, or-none-r}
 use Rattle.buffer.specs.Field.{word, overwrite}
+use Rattle.board.specs.declared.Viewer.{Viewer}
 use Rattle.graph.specs.Below.{countBelow}
 use Rattle.graph.specs.Graph.{versionCount, ancestor, isEntry}
 use Rattle.graph.proofs.Below.{some-at, some-of}
@@ -43,7 +44,7 @@ use Rattle.update.specs.Commons.{putOthers, putHead}
 use Rattle.update.proofs.CommonsTable.{table-length, table-kept}
 use Rattle.update.proofs.MovedStore.{left-store}
 use Rattle.unit.specs.declared.Reply.{Reply}
-use Rattle.unit.specs.Calls.{Outcome, replied, written, stepOutcome, commandOutcome, boardOutcome, heardReply, commonReply, originReply, command}
+use Rattle.unit.specs.Calls.{Outcome, replied, written, stepOutcome, commandOutcome, paneOutcome, heardReply, commonReply, originReply, command}
 use Rattle.unit.specs.Journal.{Journal, moveTo, afterCommand, afterAccepted, feed}
 use Rattle.unit.specs.Leaving.{leaveBytes, leaveOutcome, MayLeave, inField, inRowOrColumn, Gone, ConsolesLeave}
 use Rattle.unit.proofs.Commanded.{held-refused, carried-out, carried}
@@ -176,9 +177,9 @@ module _ (store : List ℕ) (c : ℕ) (a : Accepted store c) where
       elim (decide (inRowOrColumn c i))
       [ inl t ↦ rw t (row-column-cleared i t) | inr f ↦ rw f (others-stay i f) ]
 
-  boards-stay : (d : ℕ) → (d ≡ c → ⊥) → (output : List ℕ) → boardOutcome after d output ≡ boardOutcome store d output
-  unfolding boardOutcome
-  boards-stay d ne output = rw (after-held, after-room, a .held, slot-other r c none d ne .slot)
+  panes-stay : (d : ℕ) → (d ≡ c → ⊥) → (viewer : Viewer) (output : List ℕ) → paneOutcome viewer after d output ≡ paneOutcome viewer store d output
+  unfolding paneOutcome
+  panes-stay d ne viewer output = rw (after-held, after-room, a .held, slot-other r c none d ne .slot)
 
   same-count : (d : ℕ) → (d ≡ c → ⊥) → heardCount next d ≡ heardCount r d
   unfolding heardCount
@@ -214,7 +215,7 @@ module _ (store : List ℕ) (c : ℕ) (a : Accepted store c) where
     sameLength = ap length (sym cleared) ∙ table-length store c (λ k. 0) 0;
     bytes = bytes-after;
     absent = absent-console after after-held c (a .range .0) (rw after-room (left-absent r s c (a .range .0)));
-    boards = boards-stay;
+    panes = panes-stay;
     heard = heard-stays;
     commons = commons-stay;
     origins = origins-stay;

@@ -102,7 +102,7 @@ module _ (store other : List ℕ) (console : ℕ) where
   board-number output fits = rw (le-ltb (length output) boardSize fits)
 
   shown-told : number ≡ 0 → Told store console (shownView (roomIn store) console)
-  unfolding boardOutcome
+  unfolding paneOutcome
   shown-told none =
       let a = view-allowed store other console 0 refl none in
       let r = roomIn store in
@@ -118,7 +118,7 @@ module _ (store other : List ℕ) (console : ℕ) where
       }
 
   refused-told : number ≢ 0 → Told store console (refusedView number)
-  unfolding boardOutcome
+  unfolding paneOutcome
   refused-told given =
       let e = ne-eqb number 0 given in
       record {

@@ -1,20 +1,22 @@
--- A console that is absent, before it is forked and after it left, in terms of the calls: "the store has no common for it", nor a board, a heard
--- count, an origin or a view, and its number can be forked.
+-- A console that is absent, before it is forked and after it left, in terms of the calls: "the store has no common for it", nor a board, a
+-- pane, a heard count, an origin or a view, and its number can be forked.
 use Prim.Native.Nat.{ℕ, _<_}
 use mathlib.Core.Path.{_≡_}
 use mathlib.Core.Bool.{true, false}
 use mathlib.Core.List.{List, [], _∷_}
 use Rattle.board.specs.Board.{stripCount, cellCount}
+use Rattle.board.specs.declared.Viewer.{Viewer}
 use Rattle.command.specs.Code.{consoleCount, forkCommand}
 use Rattle.room.specs.Room.{present}
 use Rattle.room.specs.Step.{besideHub}
 use Rattle.store.specs.Layout.{roomIn}
-use Rattle.unit.specs.Calls.{replied, commandOutcome, boardOutcome, heardReply, commonReply, originReply}
+use Rattle.unit.specs.Calls.{replied, commandOutcome, paneOutcome, heardReply, commonReply, originReply}
 use Rattle.unit.specs.View.{viewOf, refusedView}
 
 pub record Absent (store : List ℕ) (c : ℕ) : Type 0 where
   pub noCommon : (d : ℕ) → d < consoleCount → (commonReply store c d ≡ replied 12 0) × (commonReply store d c ≡ replied 12 0)
-  pub noBoard : (output : List ℕ) → boardOutcome store c output ≡ record { reply = replied 12 0; buffer = output }
+  -- the instructor's is the board
+  pub noPane : (viewer : Viewer) (output : List ℕ) → paneOutcome viewer store c output ≡ record { reply = replied 12 0; buffer = output }
   pub noHeard : heardReply store c ≡ replied 12 0
   pub noOrigin : (k cell : ℕ) → k < stripCount → cell < cellCount → originReply store c k cell ≡ replied 12 0
   -- as the live store or as the frozen one

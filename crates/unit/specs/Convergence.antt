@@ -9,9 +9,10 @@ use mathlib.Core.Option.{some}
 use lib.ListN.{length}
 use Rattle.buffer.specs.Field.{wordAt}
 use Rattle.board.specs.Board.{stripCount, boardSize, callsAt, cellCount, cellOf, writingCode}
+use Rattle.board.specs.declared.Viewer.{Viewer}
 use Rattle.command.specs.Code.{consoleCount}
 use Rattle.store.specs.Layout.{roomIn, holdsStore}
-use Rattle.unit.specs.Calls.{Call, opening, command, resume, question, replied, replyTo, storeAfter, boardOutcome, heardReply, commonReply, originReply}
+use Rattle.unit.specs.Calls.{Call, opening, command, resume, question, replied, replyTo, storeAfter, paneOutcome, boardOutcome, heardReply, commonReply, originReply}
 use Rattle.unit.specs.Journal.{Journal, entered, isPresent, headNumber, feed, leads, madeAs, holds, hasHeard, commonTo, entriesHeard, callsHeard}
 use Rattle.unit.specs.Absent.{Absent}
 
@@ -45,9 +46,9 @@ pub record Converged (store : List ℕ) (j : Journal) : Type 0 where
   pub sound : holdsStore store ≡ true
   -- "After the list the store's present consoles and their heads are the book's."
   pub heads : roomIn store .heads ≡ j .heads
-  -- consoles that heard the same entries are on the same version, with boards alike to the byte
+  -- consoles that heard the same entries are on the same version, with boards alike to the byte; so are the student's panes
   pub alike : (c d : ℕ) → isPresent j c ≡ true → isPresent j d ≡ true → ((e : ℕ) → hasHeard j c e ≡ hasHeard j d e)
-      → (headNumber j c ≡ headNumber j d) × ((output : List ℕ) → boardOutcome store c output ≡ boardOutcome store d output)
+      → (headNumber j c ≡ headNumber j d) × ((viewer : Viewer) (output : List ℕ) → paneOutcome viewer store c output ≡ paneOutcome viewer store d output)
   pub commons : (c d : ℕ) → isPresent j c ≡ true → isPresent j d ≡ true → (m : ℕ) × Common store j c d m
   -- "The call counter is the strip's 16 bits at offset 6": it is the number of call entries heard for that strip
   pub calls : (c k : ℕ) → isPresent j c ≡ true → k < stripCount → (output : List ℕ) → boardSize ≤ length output

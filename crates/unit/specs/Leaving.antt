@@ -8,10 +8,11 @@ use mathlib.Core.List.{List, [], _∷_}
 use mathlib.Core.Option.{none}
 use lib.Dec.{eqb}
 use lib.ListN.{length, getD}
+use Rattle.board.specs.declared.Viewer.{Viewer}
 use Rattle.graph.specs.Below.{someBelow}
 use Rattle.command.specs.Code.{consoleCount, mergeCommand, fastForwardCommand, leaveCommand}
 use Rattle.store.specs.Layout.{commonAt, holdsStore}
-use Rattle.unit.specs.Calls.{Outcome, replied, commandOutcome, boardOutcome, heardReply, commonReply, originReply, command}
+use Rattle.unit.specs.Calls.{Outcome, replied, commandOutcome, paneOutcome, heardReply, commonReply, originReply, command}
 use Rattle.unit.specs.Absent.{Absent}
 use Rattle.unit.specs.Journal.{Journal, moveTo, feed}
 
@@ -46,8 +47,8 @@ pub record Gone (store : List ℕ) (c : ℕ) (after : List ℕ) : Type 0 where
   pub sameLength : length after ≡ length store
   pub bytes : (i : ℕ) → getD after i 0 ≡ cond (inRowOrColumn c i) 0 (getD store i 0)
   pub absent : Absent after c
-  -- whoever remains is shown what it was shown
-  pub boards : (d : ℕ) → (d ≡ c → ⊥) → (output : List ℕ) → boardOutcome after d output ≡ boardOutcome store d output
+  -- whoever remains is shown what it was shown: its board, which is the instructor's pane, and the student's
+  pub panes : (d : ℕ) → (d ≡ c → ⊥) → (viewer : Viewer) (output : List ℕ) → paneOutcome viewer after d output ≡ paneOutcome viewer store d output
   pub heard : (d : ℕ) → (d ≡ c → ⊥) → heardReply after d ≡ heardReply store d
   pub commons : (d e : ℕ) → (d ≡ c → ⊥) → (e ≡ c → ⊥) → commonReply after d e ≡ commonReply store d e
   pub origins : (d k cell : ℕ) → (d ≡ c → ⊥) → originReply after d k cell ≡ originReply store d k cell

@@ -2,6 +2,7 @@
 mod answers;
 pub mod commands;
 pub mod opening;
+pub mod panes;
 pub mod pausing;
 pub mod questions;
 pub mod resuming;

@@ -1,17 +1,15 @@
-// The calls that ask a store: a console's board and heard count, the common version of two consoles, where a level or heading comes from, and which
+// The calls that ask a store for a number: a console's heard count, the common version of two consoles, where a level or heading comes from, and which
 // two consoles can merge or fast-forward.
 use crate::Reply;
 use crate::answers::counted;
 use crate::answers::reply_of;
 use crate::answers::size;
 use board::values::cell_of;
-use buffer::copy;
 use command::numbers::is_cell;
 use command::numbers::is_console;
 use command::numbers::is_strip;
 use graph::Console;
 use graph::Strip;
-use query::board_of;
 use query::common_of;
 use query::head_of;
 use query::heard_count;
@@ -21,13 +19,11 @@ use refusal::first_of;
 use refusal::when;
 use step::mergeable::mergeable_pair;
 use store::judge::holds;
-use store::places::BOARD;
 ghost use mathlib.Core.Path.{_≡_};
 ghost use Prim.Native.Nat.{_<_};
-ghost use Rattle.board.specs.Board.{boardSize};
 ghost use Rattle.refusal.specs.Refusal.{firstRefusal};
 ghost use Rattle.command.specs.Code.{consoleCount};
-ghost use Rattle.unit.specs.Calls.{bufferTests, consoleTests, pairStateTests, pairTests, originInputTests, originTests, heardReply, commonReply, originReply, mergeableReply, boardOutcome};
+ghost use Rattle.unit.specs.Calls.{pairStateTests, pairTests, originInputTests, originTests, heardReply, commonReply, originReply, mergeableReply};
 
 // Why these bytes can't be asked about two consoles, or 0.
 fn pair_state_refusal(store: &[u8], c: Console, d: Console) -> u32
@@ -41,7 +37,7 @@ fn pair_state_refusal(store: &[u8], c: Console, d: Console) -> u32
 }
 
 // Why two consoles of a store can't be asked about, or 0.
-fn pair_refusal(store: &[u8], first: u32, second: u32) -> u32
+pub fn pair_refusal(store: &[u8], first: u32, second: u32) -> u32
     ensures { λ r. ⌜ r ≡ firstRefusal (pairTests (now (store .entry)) first second) ⌝ }
 {
     let c = size(first);
@@ -50,29 +46,6 @@ fn pair_refusal(store: &[u8], first: u32, second: u32) -> u32
         return 3;
     }
     pair_state_refusal(store, Console(c), Console(d))
-}
-
-// Why a console's board can't be copied out into this buffer, or 0.
-fn board_refusal(store: &[u8], console: u32, board: &[u8]) -> u32
-    ensures { λ r. ⌜ r ≡ firstRefusal (bufferTests (consoleTests (now (store .entry)) console) (now (board .entry)) boardSize) ⌝ }
-{
-    let refusal = pair_refusal(store, console, console);
-    first_of(refusal, when(19, board.len() < BOARD))
-}
-
-// Copies a console's board out: the board of its head.
-#[no_mangle]
-pub extern "C" fn room_board(store: &[u8], console: u32, board: &mut [u8]) -> Reply
-    ensures { λ r. ⌜ (r ≡ (boardOutcome (now (store .entry)) console (now (board .entry))) .reply) × (now (board .exit) ≡ (boardOutcome (now (store .entry)) console (now (board .entry))) .buffer) ⌝ }
-{
-    let refusal = board_refusal(store, console, board);
-    if refusal != 0 {
-        return reply_of(refusal);
-    }
-    let v = head_of(store, Console(size(console)));
-    let end = BOARD;
-    copy(&mut board[..end], board_of(store, v));
-    counted(BOARD)
 }
 
 // How many entries a console has heard.
