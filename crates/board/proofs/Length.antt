@@ -7,8 +7,10 @@ use Prim.Native.Nat.{ℕ, zero, suc, _*_}
 use native.Mathlib.Omega.{arith}
 use lib.ListN.{length, length-set, length-append}
 use Rattle.buffer.proofs.Writes.{put-length}
+use Rattle.board.specs.declared.Viewer.{Viewer}
+use Rattle.board.specs.declared.Viewer.the-variants.{Instructor, Student}
 use Rattle.board.specs.Board.{boardSize, stripSize, stripCount, mergeStrip, mergeStrips, mergeBoard, enter}
-use Rattle.board.specs.Pane.{strips, studentStrip, studentPane}
+use Rattle.board.specs.Pane.{strips, studentStrip, paneOf}
 
 pub mergeStrip-length : (l a b : List ℕ) (k : ℕ) → length (mergeStrip l a b k .bytes) ≡ stripSize
 unfolding mergeStrip
@@ -35,8 +37,9 @@ pub studentStrip-length : (s : List ℕ) (k : ℕ) → length (studentStrip s k)
 unfolding studentStrip
 studentStrip-length s k = refl
 
-pub studentPane-length : (s : List ℕ) → length (studentPane s) ≡ boardSize
-studentPane-length s = strips-length (studentStrip s) (studentStrip-length s) stripCount
+pub pane-length : (viewer : Viewer) (s : List ℕ) → length s ≡ boardSize → length (paneOf viewer s) ≡ boardSize
+pane-length Instructor s long = long
+pane-length Student s long = strips-length (studentStrip s) (studentStrip-length s) stripCount
 
 -- a choice between two of one length
 keeps-cond : (b : Bool) (s t u : List ℕ) → length s ≡ length u → length t ≡ length u → length (cond b s t) ≡ length u

@@ -12,6 +12,7 @@ use lib.Seq.{drop-at}
 use borrow.Author.Tests.{eqb-true, lt-ltb, not-false}
 use Rattle.buffer.specs.Field.{overwrite}
 use Rattle.board.specs.Board.{stripCount, cellCount, cellOf}
+use Rattle.board.specs.declared.Viewer.{Viewer}
 use Rattle.laws.proofs.Logic.{either}
 use Rattle.graph.specs.Graph.{isSome}
 use Rattle.refusal.specs.Refusal.{firstRefusal}
@@ -34,7 +35,7 @@ use Rattle.store.specs.Layout.{storeSize, boardAt, encode}
 use Rattle.store.proofs.RoundTrip.{encode-length, room-encode, holds-encode}
 use Rattle.tape.specs.Tape.{tapeOf}
 use Rattle.unit.specs.declared.Reply.{Reply}
-use Rattle.unit.specs.Calls.{Outcome, replied, written, openOutcome, stepOutcome, commandOutcome, pauseOutcome, commonReply, originReply, boardShown, viewPart, viewAtReply, viewRefusalReply, mergeableReply, command, replyTo, storeAfter}
+use Rattle.unit.specs.Calls.{Outcome, replied, written, openOutcome, stepOutcome, commandOutcome, pauseOutcome, commonReply, originReply, boardShown, viewPart, viewAtReply, viewRefusalReply, mergeableReply, paneOutcome, command, replyTo, storeAfter}
 use Rattle.unit.specs.View.{View, viewOf, refusedView}
 use Rattle.unit.specs.Journal.{Journal, feed}
 use Rattle.unit.specs.Convergence.{afterCalls}
@@ -42,7 +43,7 @@ use Rattle.unit.proofs.Answered.{origin-answered}
 use Rattle.unit.proofs.Commanded.{held-refused}
 use Rattle.unit.proofs.RoundTrip.{pause-done}
 use Rattle.cases.specs.Run.{answerIn, countIn, roomAfter, made, replies}
-use Rattle.cases.specs.Requests.{viewIn}
+use Rattle.cases.specs.Requests.{viewIn, paneIn}
 use Rattle.cases.specs.Called.{repliesTo, headReply, Called}
 
 -- the bytes of a sound room, written over those of another of the same capacity
@@ -142,6 +143,11 @@ module _ (r : Room) (rest : List ℕ) (s : soundRoom r ≡ true) where
       go true bytes at = refl
       go false bytes at = refl
 
+  -- its panes
+  pane-called : (viewer : Viewer) (c : ℕ) → c < consoleCount → (lent : List ℕ) → paneOutcome viewer (encode r ++ rest) c lent ≡ paneIn viewer r c lent
+  unfolding paneOutcome firstRefusal
+  pane-called viewer c l lent = rw (holds-encode r rest s, room-encode r rest s, lt-ltb c consoleCount l)
+
 -- a list of commands, one call after the other: the buffer afterwards, the replies, and the room
 module _ (rest : List ℕ) where
   made-called : (r : Room) → soundRoom r ≡ true → (cs : List (List ℕ)) (j : Journal)
@@ -176,6 +182,7 @@ called r rest commands s =
       origins = origin-called (made r commands) rest after;
       pair = pair-called (made r commands) rest after;
       views = view-called (made r commands) rest after;
+      panes = pane-called (made r commands) rest after;
     }
 
 -- an opening gives such a buffer

@@ -3,6 +3,7 @@ use Prim.Native.Nat.{ℕ}
 use mathlib.Core.Path.{_≡_, refl, ap}
 use mathlib.Core.List.{[], _∷_, map}
 use Rattle.board.specs.Board.{mergeFlag, mergeStrip, mergeStrips, enter}
+use Rattle.board.specs.Pane.{studentStrip, strips}
 use Rattle.graph.specs.Below.{everyBelow, someBelow, highestBelow, firstNonzero}
 use Rattle.graph.specs.Graph.{ancestor, isMeet, meet, everyVersion}
 use Rattle.refusal.specs.Refusal.{firstRefusal}
@@ -13,14 +14,15 @@ use Rattle.room.specs.Boards.{boardMade, boardOf}
 use Rattle.room.specs.Origin.{originOf, origin}
 use Rattle.room.specs.Sound.{headsMeet, allBehindHeads, canMakeHub, soundRoom}
 use Rattle.room.specs.Step.{stateTests, stepRefusal, step, clashCount}
+use Rattle.room.specs.Unseen.{none, same, unseen, RoomsAgree}
 use Rattle.room.specs.Mergeable.{pairNumber, firstPair, headsAgree, mergeable}
 use Rattle.room.specs.Gathering.{hubTakes, hubGives, afterAll, forEach, gathering}
 use Rattle.store.specs.Layout.{holdsStore}
-use Rattle.unit.specs.Calls.{originReply, viewPart, viewAtReply, viewRefusalReply, mergeableReply, stepOutcome, commandOutcome, resumed, resumeOutcome}
+use Rattle.unit.specs.Calls.{originReply, viewPart, viewAtReply, viewRefusalReply, mergeableReply, paneOutcome, stepOutcome, commandOutcome, resumed, resumeOutcome}
 use Rattle.tape.specs.Record.{recordFrom, recordIn}
 use Rattle.tape.specs.Tape.{versionRecords, headRecords, tapeOf, afterRecord, readOn, contentOf, headSlots, consolesRise, headsNamed}
 use Rattle.cases.specs.Run.{Case, merge, forward, answerIn, countIn, roomAfter, made, replies, session}
-use Rattle.cases.specs.Requests.{originCases, leaveCases, everywhere, clashCases, stuckCases, agreeCases, pairCases, hubCases, hubTapeCases, stuckHubCases, spelled, gatherCases, viewCases}
+use Rattle.cases.specs.Requests.{originCases, leaveCases, everywhere, clashCases, stuckCases, agreeCases, pairCases, hubCases, hubTapeCases, stuckHubCases, spelled, gatherCases, viewCases, after, session₁, session₂, paneCases}
 use Rattle.cases.specs.Starred.{crossed, stuck, acceptedBy, accepted, starred}
 
 -- the stuck room takes no merge and no fast-forward: its own declarations, for the checker's bound on the steps of one
@@ -86,3 +88,13 @@ gathers-hold = refl
 pub views-hold : map (λ (c : Case). c .got) viewCases ≡ map (λ (c : Case). c .due) viewCases
 unfolding enter everyBelow someBelow highestBelow ancestor isMeet meet firstRefusal shapeOf lengthOf numberAt operandsOf isOperand kindOf commandRefusal decode common stateTests stepRefusal step boardMade boardOf holdsStore viewPart viewAtReply viewRefusalReply answerIn roomAfter made viewCases
 views-hold = refl
+
+pub panes-hold : map (λ (c : Case). c .got) paneCases ≡ map (λ (c : Case). c .due) paneCases
+unfolding mergeFlag mergeStrip mergeStrips enter studentStrip strips everyBelow someBelow highestBelow ancestor isMeet meet firstRefusal shapeOf lengthOf numberAt operandsOf isOperand kindOf commandRefusal decode common stateTests stepRefusal step boardMade boardOf holdsStore paneOutcome answerIn roomAfter made paneCases
+panes-hold = refl
+
+-- the two sessions of these rows agree but for what a student does not see: `KeptFromStudents` speaks of them
+pub sessions-agree : RoomsAgree (after session₁) (after session₂)
+unfolding everyBelow someBelow highestBelow ancestor isMeet meet firstRefusal shapeOf lengthOf numberAt operandsOf isOperand kindOf commandRefusal decode common stateTests stepRefusal step answerIn roomAfter made
+sessions-agree =
+    record { versions = same _ (unseen 3 _ _ refl refl (unseen 3 _ _ refl refl (unseen 2 _ _ refl refl (same _ (same _ none))))); heads = refl }

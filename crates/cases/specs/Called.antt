@@ -6,6 +6,7 @@ use mathlib.Core.List.{List, [], _∷_, _++_, map}
 use mathlib.Core.Option.{Option, none, some}
 use lib.ListN.{length}
 use Rattle.board.specs.Board.{stripCount, cellCount, cellOf}
+use Rattle.board.specs.declared.Viewer.{Viewer}
 use Rattle.command.specs.Code.{consoleCount}
 use Rattle.room.specs.Room.{Room, headOf, present}
 use Rattle.room.specs.Origin.{origin}
@@ -13,12 +14,12 @@ use Rattle.room.specs.Mergeable.{mergeable}
 use Rattle.store.specs.Layout.{encode}
 use Rattle.tape.specs.Tape.{tapeOf}
 use Rattle.unit.specs.declared.Reply.{Reply}
-use Rattle.unit.specs.Calls.{Call, command, replied, written, pauseOutcome, commonReply, originReply, mergeableReply, replyTo, storeAfter}
+use Rattle.unit.specs.Calls.{Call, command, replied, written, pauseOutcome, commonReply, originReply, mergeableReply, paneOutcome, replyTo, storeAfter}
 use Rattle.unit.specs.View.{viewOf}
 use Rattle.unit.specs.Journal.{Journal}
 use Rattle.unit.specs.Convergence.{afterCalls}
 use Rattle.cases.specs.Run.{made, replies}
-use Rattle.cases.specs.Requests.{viewIn}
+use Rattle.cases.specs.Requests.{viewIn, paneIn}
 
 -- the replies to these calls on a store, one after the other
 unfoldable pub repliesTo : List ℕ → List Call → List Reply
@@ -47,3 +48,6 @@ pub record Called (r : Room) (rest : List ℕ) (commands : List (List ℕ)) : Ty
   -- the view of a console, as the live store or as the frozen one, beside any bytes
   pub views : (other : List ℕ) (c : ℕ) → c < consoleCount → let store = encode (made r commands) ++ rest in
       (viewOf store other c 0 ≡ viewIn (made r commands) c) × (viewOf other store c 1 ≡ viewIn (made r commands) c)
+  -- the panes of a console, into whatever is lent
+  pub panes : (viewer : Viewer) (c : ℕ) → c < consoleCount → (lent : List ℕ)
+      → paneOutcome viewer (encode (made r commands) ++ rest) c lent ≡ paneIn viewer (made r commands) c lent

@@ -1,11 +1,15 @@
 -- The cases of the customer's requests (docs/CHANGES.md has their titles), worked out by hand: what the definitions give for each, and what the
 -- request says.
-use Prim.Native.Nat.{ℕ, zero, suc}
+use Prim.Native.Nat.{ℕ, zero, suc, _*_}
 use mathlib.Core.Bool.{cond}
 use mathlib.Core.List.{List, [], _∷_, _++_}
-use lib.ListN.{length, replicate, getD}
+use lib.ListN.{length, drop, replicate, getD}
 use Rattle.buffer.specs.Field.{part}
-use Rattle.board.specs.Board.{stripCount, cellOf}
+use Rattle.board.specs.Board.{stripCount, boardSize, cellOf}
+use Rattle.board.specs.declared.Viewer.{Viewer}
+use Rattle.board.specs.declared.Viewer.the-variants.{Instructor, Student}
+use Rattle.board.specs.Pane.{paneOf}
+use Rattle.refusal.specs.Refusal.{_when_, firstRefusal}
 use Rattle.command.specs.declared.Command.{Command}
 use Rattle.command.specs.Decode.{commandBytes}
 use Rattle.room.specs.Room.{Room, fresh}
@@ -15,9 +19,9 @@ use Rattle.room.specs.Mergeable.{mergeable}
 use Rattle.room.specs.Gathering.{afterAll, gathering}
 use Rattle.unit.specs.declared.Reply.{Reply}
 use Rattle.tape.specs.Tape.{tapeOf}
-use Rattle.unit.specs.Calls.{commandOutcome, resumeOutcome, originReply, mergeableReply}
+use Rattle.unit.specs.Calls.{Outcome, written, tooShort, boardShown, commandOutcome, resumeOutcome, originReply, mergeableReply, paneOutcome}
 use Rattle.unit.specs.View.{View, viewOf, refusedView, shownView}
-use Rattle.cases.specs.Run.{Case, _gives_, fork, level, heading, mark, call, alert, merge, forward, leave, hub, made, answers, counts, nowhere, on, headsShown, session}
+use Rattle.cases.specs.Run.{Case, _gives_, fork, level, heading, mark, unmark, call, alert, calm, merge, forward, leave, hub, made, answers, counts, nowhere, on, headsShown, session}
 use Rattle.cases.specs.Starred.{crossed, stuck}
 
 -- One: the origin of a cell, and the value shown there
@@ -259,4 +263,63 @@ viewCases =
     ∷ (viewShown (viewOf [] [] 0 2) ++ viewShown (viewOf [] [] 0 256) gives 5 ∷ 0 ∷ 0 ∷ 5 ∷ 0 ∷ 0 ∷ [])
     ∷ (viewShown (viewOf [] [] 16 0) ++ viewShown (viewOf [] [] 16 2) gives 3 ∷ 0 ∷ 0 ∷ 3 ∷ 0 ∷ 0 ∷ [])
     ∷ (viewShown (viewOf [] [] 15 0) ++ viewShown (viewOf [] [] 15 1) gives 11 ∷ 0 ∷ 0 ∷ 11 ∷ 0 ∷ 0 ∷ [])
+    ∷ []
+
+-- Eight: what the call replies about a store that holds this room, and what it leaves in the lent pane (`Called` has that the calls do so)
+abbrev pub paneIn : Viewer → Room → ℕ → List ℕ → Outcome
+paneIn viewer r c lent =
+    written (firstRefusal (12 when absent r c ∷ 19 when tooShort lent boardSize ∷ [])) boardSize (paneOf viewer (boardShown r c)) lent
+
+-- a pane of so many bytes, each 9 before it is written
+abbrev pub nines : ℕ → List ℕ
+nines n = replicate n 9
+
+-- strip k of console 0
+abbrev pub stripSeen : Viewer → Room → ℕ → List ℕ
+stripSeen viewer r k = part (paneIn viewer r 0 (nines 384) .buffer) (12 * k) 12
+
+-- the reply, and the last bytes of the lent pane
+abbrev pub paneEnd : Outcome → ℕ → List ℕ
+paneEnd o at = replyShown (o .reply) ++ drop at (o .buffer)
+
+-- every field of strip 5 set: level 600, heading 360, marks 0, 7, 8 and 15, two calls, an alert
+abbrev pub everyField : Room
+everyField =
+    after
+    (level 0 5 600 ∷ heading 0 5 360 ∷ mark 0 5 0 ∷ mark 0 5 7 ∷ mark 0 5 8 ∷ mark 0 5 15 ∷ call 0 5 ∷ call 0 5 ∷ alert 0 5 ∷ [])
+
+-- two sessions: versions 3, 4 and 5 are entries that a student does not see, others in the second
+abbrev pub session₁ : List (List ℕ)
+session₁ = level 0 5 100 ∷ mark 0 5 3 ∷ call 0 5 ∷ fork 1 0 ∷ alert 1 5 ∷ mark 0 6 8 ∷ merge 0 1 ∷ []
+
+abbrev pub session₂ : List (List ℕ)
+session₂ = level 0 5 100 ∷ mark 0 5 3 ∷ calm 0 9 ∷ fork 1 0 ∷ unmark 1 7 15 ∷ call 0 31 ∷ merge 0 1 ∷ []
+
+-- what a student is shown in both: level 100 and mark 3 of strip 5
+abbrev pub seenInBoth : List ℕ
+seenInBoth = replicate 60 0 ++ (0 ∷ 100 ∷ 0 ∷ 0 ∷ 0 ∷ 8 ∷ []) ++ replicate 318 0
+
+unfoldable pub paneCases : List Case
+paneCases =
+    (stripSeen Instructor everyField 5 gives 0x02 ∷ 0x58 ∷ 0x01 ∷ 0x68 ∷ 0x81 ∷ 0x81 ∷ 0x00 ∷ 0x02 ∷ 0x00 ∷ 0x01 ∷ 0x01 ∷ 0x00 ∷ [])
+    ∷ (stripSeen Student everyField 5 gives 0x02 ∷ 0x58 ∷ 0x01 ∷ 0x68 ∷ 0x00 ∷ 0x81 ∷ 0x00 ∷ 0x00 ∷ 0x00 ∷ 0x00 ∷ 0x00 ∷ 0x00 ∷ [])
+    -- mark 7 is seen, mark 8 is not
+    ∷ (stripSeen Student (after (mark 0 5 7 ∷ [])) 5 gives 0 ∷ 0 ∷ 0 ∷ 0 ∷ 0 ∷ 0x80 ∷ 0 ∷ 0 ∷ 0 ∷ 0 ∷ 0 ∷ 0 ∷ [])
+    ∷ (stripSeen Student (after (mark 0 5 8 ∷ [])) 5 gives replicate 12 0)
+    ∷ (stripSeen Instructor (after (mark 0 5 8 ∷ [])) 5 gives 0 ∷ 0 ∷ 0 ∷ 0 ∷ 0x01 ∷ 0 ∷ 0 ∷ 0 ∷ 0 ∷ 0 ∷ 0 ∷ 0 ∷ [])
+    -- a merge of two alerts
+    ∷ (stripSeen Instructor (after (fork 1 0 ∷ alert 0 5 ∷ alert 1 5 ∷ merge 0 1 ∷ [])) 5 gives replicate 9 0 ++ (2 ∷ 1 ∷ 0 ∷ []))
+    ∷ (stripSeen Student (after (fork 1 0 ∷ alert 0 5 ∷ alert 1 5 ∷ merge 0 1 ∷ [])) 5 gives replicate 12 0)
+    -- the two sessions: the same to the student, and not to the instructor
+    ∷ (paneIn Student (after session₁) 0 (nines 384) .buffer gives seenInBoth)
+    ∷ (paneIn Student (after session₂) 0 (nines 384) .buffer gives seenInBoth)
+    ∷ (stripSeen Instructor (after session₁) 5 gives 0 ∷ 100 ∷ 0 ∷ 0 ∷ 0 ∷ 8 ∷ 0 ∷ 1 ∷ 0 ∷ 1 ∷ 1 ∷ 0 ∷ [])
+    ∷ (stripSeen Instructor (after session₂) 5 gives 0 ∷ 100 ∷ 0 ∷ 0 ∷ 0 ∷ 8 ∷ 0 ∷ 0 ∷ 0 ∷ 0 ∷ 0 ∷ 0 ∷ [])
+    -- a longer pane, whose last byte stays; one that is too short; an absent console, which is said before it
+    ∷ (paneEnd (paneIn Student everyField 0 (nines 385)) 383 gives 0 ∷ 384 ∷ 0 ∷ 9 ∷ [])
+    ∷ (paneEnd (paneIn Student everyField 0 (nines 383)) 381 gives 19 ∷ 0 ∷ 9 ∷ 9 ∷ [])
+    ∷ (paneEnd (paneIn Student everyField 1 (nines 383)) 381 gives 12 ∷ 0 ∷ 9 ∷ 9 ∷ [])
+    -- by the calls themselves, on bytes that hold no store: console 16, and 15
+    ∷ (paneEnd (paneOutcome Student [] 16 (nines 1)) 0 ++ paneEnd (paneOutcome Instructor [] 16 (nines 1)) 0 gives 3 ∷ 0 ∷ 9 ∷ 3 ∷ 0 ∷ 9 ∷ [])
+    ∷ (paneEnd (paneOutcome Student [] 15 (nines 1)) 0 ++ paneEnd (paneOutcome Instructor [] 15 (nines 1)) 0 gives 11 ∷ 0 ∷ 9 ∷ 11 ∷ 0 ∷ 9 ∷ [])
     ∷ []

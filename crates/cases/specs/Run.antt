@@ -35,11 +35,17 @@ heading c k x = 0x03 ∷ c ∷ k ∷ x / 256 ∷ x % 256 ∷ []
 abbrev pub mark : ℕ → ℕ → ℕ → List ℕ
 mark c k x = 0x04 ∷ c ∷ k ∷ x ∷ []
 
+abbrev pub unmark : ℕ → ℕ → ℕ → List ℕ
+unmark c k x = 0x05 ∷ c ∷ k ∷ x ∷ []
+
 abbrev pub call : ℕ → ℕ → List ℕ
 call c k = 0x06 ∷ c ∷ k ∷ []
 
 abbrev pub alert : ℕ → ℕ → List ℕ
 alert c k = 0x07 ∷ c ∷ k ∷ []
+
+abbrev pub calm : ℕ → ℕ → List ℕ
+calm c k = 0x08 ∷ c ∷ k ∷ []
 
 abbrev pub merge : ℕ → ℕ → List ℕ
 merge receiver giver = 0x09 ∷ receiver ∷ giver ∷ []

@@ -7,8 +7,8 @@ use mathlib.Core.List.{List, [], _∷_}
 use mathlib.Core.Logic.{inl, inr}
 use mathlib.Core.Option.{Option, none, some, Option·getD}
 use native.Mathlib.Omega.{arith}
-use borrow.Author.Tests.{eqb-true, eq-eqb, ne-eqb, leb-true, ltb-true}
-use lib.Dec.{eqb, leb, ltb}
+use borrow.Author.Tests.{eqb-true, eq-eqb, ne-eqb}
+use lib.Dec.{eqb}
 use lib.ListN.{length, getD, set}
 use Rattle.laws.proofs.Logic.{clash, and-l, and-r, and-i, or-split}
 use Rattle.board.specs.declared.Cell.{Cell}
@@ -30,7 +30,7 @@ use Rattle.command.proofs.Limits.{within-true}
 use Rattle.room.specs.Room.{Room, head}
 use Rattle.room.specs.Boards.{boardMade, boardOf}
 use Rattle.room.specs.Step.{moved, grown, step}
-use Rattle.room.specs.Unseen.{isUnseen, isUnseenOn, Agree, same, unseen, RoomsAgree}
+use Rattle.room.specs.Unseen.{isCallOrAlert, isUnseenMark, isUnseen, isUnseenOn, Agree, same, unseen, RoomsAgree}
 use Rattle.room.specs.Unseen as agree
 use Rattle.room.proofs.Lengths.{boardOf-length}
 
@@ -71,26 +71,24 @@ same-base a p q = λ i.
 unseen-writes : (code x : ℕ) → isUnseen code x ≡ true
     → ((cell : Cell) → eqb code (writingCode cell) ≡ false) × (eqb code markPutEntry || eqb code markTakenEntry ≡ true → seenMarks (markBit x) ≡ 0)
 unseen-writes code x u =
-    elim (or-split (within callEntry alertOffEntry code) _ u) [
+    elim (or-split (isCallOrAlert code) (isUnseenMark code x) u) [
       | inl counts ↦
-          let range = within-true callEntry alertOffEntry code counts in
-          (no-value (omega (arith, range .0)), λ mark. absurd (no-mark range mark))
+          let range = within-true _ _ code counts in
+          (no-value (omega (arith, range .0)), λ mark. absurd (no-mark (omega (arith, range .0)) mark))
       | inr marks ↦
           let put-or-taken : Bool = within markPutEntry markTakenEntry code in
-          let high = and-l (put-or-taken && leb firstUnseenMark x) _ marks in
-          let low : firstUnseenMark ≤ x = leb-true firstUnseenMark x (and-r put-or-taken _ high) in
-          let mark : x < markCount = ltb-true x markCount (and-r (put-or-taken && leb firstUnseenMark x) _ marks) in
-          (no-value (within-true markPutEntry markTakenEntry code (and-l put-or-taken _ high) .0), λ _. unseen-bit x low mark)
+          let range = within-true _ _ x (and-r put-or-taken _ marks) in
+          (no-value (within-true markPutEntry markTakenEntry code (and-l put-or-taken _ marks) .0), λ _. unseen-bit x (omega (arith, range .0)) (omega (arith, range .1)))
     ]
   where
     no-value : markPutEntry ≤ code → (cell : Cell) → eqb code (writingCode cell) ≡ false
     no-value l Level = ne-eqb code (writingCode Level) (omega arith)
     no-value l Heading = ne-eqb code (writingCode Heading) (omega arith)
-    no-mark : (callEntry ≤ code) × (code ≤ alertOffEntry) → eqb code markPutEntry || eqb code markTakenEntry ≡ true → ⊥
-    no-mark range mark =
+    no-mark : callEntry ≤ code → eqb code markPutEntry || eqb code markTakenEntry ≡ true → ⊥
+    no-mark l mark =
         elim (or-split (eqb code markPutEntry) (eqb code markTakenEntry) mark) [
-          | inl four ↦ omega (arith, range .0, eqb-true code markPutEntry four)
-          | inr five ↦ omega (arith, range .0, eqb-true code markTakenEntry five)
+          | inl four ↦ omega (arith, eqb-true code markPutEntry four)
+          | inr five ↦ omega (arith, eqb-true code markTakenEntry five)
         ]
 
 unseen-made : (g : Graph) (parent : ℕ) (n : Node) → isUnseenOn parent n ≡ true → Alike (boardMade (boardOf g) (baseOf g) n) (boardOf g parent)

@@ -4,8 +4,8 @@ use Prim.Native.Nat.{ℕ}
 use mathlib.Core.Path.{_≡_}
 use mathlib.Core.Bool.{Bool, true, false, _&&_, _||_}
 use mathlib.Core.List.{[], _∷_}
-use lib.Dec.{eqb, leb, ltb}
-use Rattle.board.specs.Board.{markCount, markPutEntry, markTakenEntry, callEntry, alertOffEntry}
+use lib.Dec.{eqb}
+use Rattle.board.specs.Board.{markPutEntry, markTakenEntry, callEntry, alertOffEntry}
 use Rattle.board.specs.Pane.{firstUnseenMark}
 use Rattle.graph.specs.declared.Node.{Node}
 use Rattle.graph.specs.declared.Node.the-variants.{Entry, Merge}
@@ -13,11 +13,17 @@ use Rattle.graph.specs.Graph.{Graph}
 use Rattle.command.specs.Code.{within}
 use Rattle.room.specs.Room.{Room}
 
--- "entries 06 to 08, or 04 and 05 of marks 8 to 15": an entry of this code with this operand is one that a student does not see
+-- "entries 06 to 08"
+abbrev pub isCallOrAlert : ℕ → Bool
+isCallOrAlert code = within callEntry alertOffEntry code
+
+-- "04 and 05 of marks 8 to 15"
+abbrev pub isUnseenMark : ℕ → ℕ → Bool
+isUnseenMark code operand = within markPutEntry markTakenEntry code && within firstUnseenMark 15 operand
+
+-- an entry of this code with this operand is one that a student does not see
 abbrev pub isUnseen : ℕ → ℕ → Bool
-isUnseen code operand =
-    within callEntry alertOffEntry code
-    || (within markPutEntry markTakenEntry code && leb firstUnseenMark operand && ltb operand markCount)
+isUnseen code operand = isCallOrAlert code || isUnseenMark code operand
 
 -- a version is such an entry on this parent
 abbrev pub isUnseenOn : ℕ → Node → Bool

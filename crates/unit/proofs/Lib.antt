@@ -12,3 +12,4 @@ pub mod Traced
 pub mod RoundTrip
 pub mod Hub
 pub mod View
+pub mod Secrecy

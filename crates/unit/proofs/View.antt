@@ -22,7 +22,7 @@ use Rattle.store.specs.Layout.{boardAt, encode, roomIn, holdsStore}
 use Rattle.store.proofs.RoundTrip.{room-over, holds-over, holds-sound}
 use Rattle.store.proofs.Whole.{whole-sound, whole-small, whole-block}
 use Rattle.query.proofs.Answers.{head-answer, board-answer}
-use Rattle.unit.specs.Calls.{Outcome, bufferTests, consoleStateTests, consoleTests, boardShown, boardOutcome, chosen, isChoice, viewTests, viewPart, viewAtReply, viewAddress, viewRefusalReply}
+use Rattle.unit.specs.Calls.{Outcome, bufferTests, consoleStateTests, consoleTests, boardShown, paneOutcome, chosen, isChoice, viewTests, viewPart, viewAtReply, viewAddress, viewRefusalReply}
 use Rattle.unit.specs.View.{viewOf, refusedView, shownView, Told, AsPaused, Viewed}
 use Rattle.unit.proofs.Answered.{Allowed, pair-answered}
 use Rattle.unit.proofs.RoundTrip.{pause-allowed, store-over, paused-resumes}

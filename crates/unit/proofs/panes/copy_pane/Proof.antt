@@ -1,9 +1,11 @@
 -- `unit::panes::copy_pane` meets its contract.
 -- Assumes nothing.
-use mathlib.Core.Path.{refl, sym, _∙_}
+use mathlib.Core.Path.{refl, sym, ap, _∙_}
 use native.Mathlib.Omega.{arith}
 use lib.Seq.{length-take-le}
 use Rattle.board.specs.Board.{boardSize}
+use Rattle.board.specs.Pane.{paneOf}
+use Rattle.board.proofs.Length.{pane-length}
 use Rattle.room.specs.Room.{head}
 use Rattle.room.proofs.Lengths.{boardOf-length}
 use Rattle.store.specs.Layout.{roomIn}
@@ -18,7 +20,7 @@ returns c =
     let a = c .before .before .before .before .before .before .args in
     let r = roomIn (a .store .now) in
     rw (c .reply-of .ensures)
-    (written-refused boardSize (boardShown r (a .console)) (a .pane .now) (c .before .before .pane-refusal .ensures) (omega arith))
+    (written-refused boardSize (paneOf (a .viewer) (boardShown r (a .console))) (a .pane .now) (c .before .before .pane-refusal .ensures) (omega arith))
 
 head-of-requires : tie.Need-head-of-requires
 head-of-requires c κs =
@@ -47,7 +49,7 @@ show-board-requires : tie.Need-show-board-requires
 show-board-requires c κs =
     let a = c .before .before .before .before .before .before .before .before .before .args in
     let p = board-allowed (a .store .now) (a .console) (a .pane .now) (c .before .before .before .before .before .pane-refusal .ensures) (omega arith) in
-    length-take-le boardSize (a .pane .now) (p .1) ∙ sym (c .board-of .ensures .1)
+    (length-take-le boardSize (a .pane .now) (p .1), c .board-of .ensures .1)
 
 returns-2 : tie.Need-returns-2
 unfolding paneOutcome
@@ -57,11 +59,11 @@ returns-2 c =
     let judged = named .before .before .before in
     let a = judged .before .before .before .before .args in
     let r = roomIn (a .store .now) in
-    let new = boardShown r (a .console) in
-    let shown = copied .show-board .ensures ∙ copied .before .board-of .ensures .0 in
+    let board = boardShown r (a .console) in
+    let shown = copied .show-board .ensures ∙ ap (paneOf (a .viewer)) (copied .before .board-of .ensures .0) in
     rw (c .counted .ensures)
-    (written-done boardSize new (a .pane .now) (judged .pane-refusal .ensures) (omega arith) refl
-    (rw (shown, rw (named .before .size .ensures) at (named .head-of .ensures .0), boardOf-length (r .versions) (head r (a .console)))))
+    (written-done boardSize (paneOf (a .viewer) board) (a .pane .now) (judged .pane-refusal .ensures) (omega arith) refl
+    (rw (shown, rw (named .before .size .ensures) at (named .head-of .ensures .0), pane-length (a .viewer) board (boardOf-length (r .versions) (head r (a .console))))))
 
 pub copy-pane-spec : {M : Type 1} → statement M
 copy-pane-spec =
