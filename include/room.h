@@ -112,8 +112,8 @@ enum room_refusal {
     ROOM_HUB_LACKS_COMMON = 23    /* hub: the common version of two consoles is no ancestor of console 0's head */
 };
 
-/* 0 or a refusal; and a question's number, the clashes of a merge, for room_pause and room_board the bytes written, or for room_view_at where
-   the board begins, else 0. */
+/* 0 or a refusal; and a question's number, the clashes of a merge, for room_pause, room_board and the two panes the bytes written, or for
+   room_view_at where the board begins, else 0. */
 struct room_reply {
     uint32_t answer;
     uint32_t count;
@@ -135,6 +135,19 @@ struct room_reply room_resume(const uint8_t *tape, size_t tape_length, uint8_t *
 
 /* Copies a console's board out; counts its 384 bytes. Refusals 3, 11, 12, 19. */
 struct room_reply room_board(const uint8_t *store, size_t store_length, uint32_t console, uint8_t *board, size_t board_length);
+
+/* A pane: what of a console a student or the instructor sees, copied out as its board is and as long. Calls, alerts and marks 8 to 15 belong
+   to the instructor. The unit does not know who looks: every console has both panes, and the panel chooses.
+   Replace entries 06 to 08, or 04 and 05 of marks 8 to 15, by others of these at the same versions: every student's pane is the same to the
+   byte. Nothing else that the unit gives is part of a pane, and it may tell a student more: a refusal, a head or a heard count that an entry
+   was made; a board, a view, the tape or the store which one. */
+
+/* Copies a console's student's pane out: the board with zeros in byte 4 of each strip (marks 8 to 15) and in its bytes 6 to 10 (calls, alert
+   count, flag). What these hold is never written to the pane, not even for a moment. Counts the 384 bytes. Refusals 3, 11, 12, 19. */
+struct room_reply room_student_pane(const uint8_t *store, size_t store_length, uint32_t console, uint8_t *pane, size_t pane_length);
+
+/* Copies a console's instructor's pane out: the board. Counts the 384 bytes. Refusals 3, 11, 12, 19. */
+struct room_reply room_instructor_pane(const uint8_t *store, size_t store_length, uint32_t console, uint8_t *pane, size_t pane_length);
 
 /* Counts the entries that a console has heard. Refusals 3, 11, 12. */
 struct room_reply room_heard(const uint8_t *store, size_t store_length, uint32_t console);

@@ -27,6 +27,7 @@ static const char HELP[] =
     "hub                          for good: fork, merge and forward go through console 0\n"
     "gather                       all to one version: console 0 takes over from each, then each from it\n"
     "board CONSOLE                the console's strips\n"
+    "student CONSOLE              and instructor: the strips as that pane of the console shows them\n"
     "heads                        where every console stands\n"
     "heard CONSOLE                how many entries it has heard\n"
     "common FIRST SECOND          the last version that both have\n"
@@ -207,11 +208,15 @@ static void gather(void)
     show_mergeable();
 }
 
-static void show_console(uint32_t console)
+/* A call that copies a console's strips out: the board, or one of its two panes. */
+typedef struct room_reply copying_call(const uint8_t *from, size_t from_length, uint32_t console, uint8_t *to, size_t to_length);
+
+/* Goes by what that call copies out and by nothing else, so that a strip of which a student sees nothing is not even listed. */
+static void show_console(uint32_t console, copying_call *copy_out)
 {
-    uint8_t board[ROOM_BOARD_BYTES];
-    if (say(room_board(store, sizeof store, console, board, sizeof board)))
-        show_board(board, NULL);
+    uint8_t strips[ROOM_BOARD_BYTES];
+    if (say(copy_out(store, sizeof store, console, strips, sizeof strips)))
+        show_board(strips, NULL);
 }
 
 static void show_heads(void)
@@ -418,7 +423,11 @@ static void follow(const struct line *line)
     if (is_word(line, "open", 1))
         say_done(room_open(line->number[0], store, sizeof store));
     else if (is_word(line, "board", 1))
-        show_console(line->number[0]);
+        show_console(line->number[0], room_board);
+    else if (is_word(line, "student", 1))
+        show_console(line->number[0], room_student_pane);
+    else if (is_word(line, "instructor", 1))
+        show_console(line->number[0], room_instructor_pane);
     else if (is_word(line, "heads", 0))
         show_heads();
     else if (is_word(line, "heard", 1))

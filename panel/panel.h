@@ -15,7 +15,7 @@ void show_pair(uint32_t count, int is_full);
 /* Prints what to type instead of a fork, merge or fast-forward that was refused because it did not go through console 0, the hub. */
 void show_way_through_hub(const uint8_t *command);
 
-/* Prints the strips of a board that are not empty, as a table. Where another board is given and not NULL, a `*` stands behind each cell in
+/* Prints the strips of a board or a pane that are not empty, as a table. Where another board is given and not NULL, a `*` stands behind each cell in
    which the two differ, and the strips that are empty only here are printed too. */
 void show_board(const uint8_t *board, const uint8_t *other);
 

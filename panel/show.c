@@ -1,4 +1,5 @@
-/* What the panel shows: refusals, the pair that can merge and the way through the hub in words, and a board as a table, alone or compared. */
+/* What the panel shows: refusals, the pair that can merge and the way through the hub in words, and a board or a pane as a table, alone
+   or compared. */
 #include "panel.h"
 
 #include <string.h>

@@ -32,6 +32,9 @@ struct shared {
 
 static struct shared *shared;
 
+/* Where the board and the panes are copied to, so that no caller's buffer is on the painted stack. */
+static uint8_t strips[ROOM_BOARD_BYTES];
+
 static _Noreturn void fail(const char *what)
 {
     printf("%s\n", what);
@@ -110,8 +113,17 @@ static struct room_reply pause_room(void)
 
 static struct room_reply show_board_of_0(void)
 {
-    static uint8_t board[ROOM_BOARD_BYTES];
-    return room_board(shared->store, sizeof shared->store, 0, board, sizeof board);
+    return room_board(shared->store, sizeof shared->store, 0, strips, sizeof strips);
+}
+
+static struct room_reply show_student_pane_of_0(void)
+{
+    return room_student_pane(shared->store, sizeof shared->store, 0, strips, sizeof strips);
+}
+
+static struct room_reply show_instructor_pane_of_0(void)
+{
+    return room_instructor_pane(shared->store, sizeof shared->store, 0, strips, sizeof strips);
 }
 
 static struct room_reply ask_heard_by_0(void)
@@ -272,6 +284,8 @@ int main(void)
         {"a hub", make_0_the_hub, ROOM_STACK},
         {"pause", pause_room, ROOM_STACK},
         {"board", show_board_of_0, ROOM_STACK},
+        {"the student's pane", show_student_pane_of_0, ROOM_STACK},
+        {"the instructor's pane", show_instructor_pane_of_0, ROOM_STACK},
         {"heard", ask_heard_by_0, ROOM_STACK},
         {"common", ask_common_of_0_and_1, ROOM_STACK},
         {"origin", ask_origin_for_0, ROOM_ORIGIN_STACK},
