@@ -3,8 +3,9 @@
 use crate::layout;
 use crate::model::{
     capacity_is_in_range, cell_origin, choice, command_length, common_version, console_board,
-    decode, heard_count, refusal, refuse_if, reported, room_of_tape, sound_boards, step, tape_of,
-    verdict, Ancestry, Cell, Room, Verdict, CONSOLES, STRIPS,
+    decode, heard_count, refusal, refuse_if, reported, room_of_tape, shown_to_instructor,
+    shown_to_student, sound_boards, step, tape_of, verdict, Ancestry, Board, Cell, Room, Verdict,
+    CONSOLES, STRIPS,
 };
 
 /// The answer is 0 or the refusal; the count is the question's number, the bytes written, the place of a view or the clashes of a merge,
@@ -61,8 +62,15 @@ pub fn resume(tape: &[u8], store: &mut [u8]) -> Reply {
 }
 
 pub fn board(store: &[u8], console: u32, board: &mut [u8]) -> Reply {
-    let outcome = shown_board(store, console).and_then(|bytes| write_front(&bytes, board));
-    Reply::of(outcome)
+    Reply::of(copy_out(store, console, board, Board::clone))
+}
+
+pub fn student_pane(store: &[u8], console: u32, pane: &mut [u8]) -> Reply {
+    Reply::of(copy_out(store, console, pane, shown_to_student))
+}
+
+pub fn instructor_pane(store: &[u8], console: u32, pane: &mut [u8]) -> Reply {
+    Reply::of(copy_out(store, console, pane, shown_to_instructor))
 }
 
 pub fn heard(store: &[u8], console: u32) -> Reply {
@@ -156,11 +164,17 @@ fn asked_cell(cell: u32) -> Result<Cell, u32> {
     Cell::of_number(cell).ok_or(refusal::OPERAND_TOO_HIGH)
 }
 
-fn shown_board(store: &[u8], console: u32) -> Result<Vec<u8>, u32> {
+/// Writes what is shown of a console's board at the front of the lent output and says how many bytes.
+fn copy_out(
+    store: &[u8],
+    console: u32,
+    output: &mut [u8],
+    shown: fn(&Board) -> Board,
+) -> Result<usize, u32> {
     let console = asked_console(console)?;
     let room = room_in(store)?;
     let board = console_board(&room, console).ok_or(refusal::CONSOLE_ABSENT)?;
-    Ok(layout::board_bytes(&board))
+    write_front(&layout::board_bytes(&shown(&board)), output)
 }
 
 /// A board where it stands: the store chosen, and the place in it.

@@ -1,8 +1,8 @@
 // The comparison of an implementation of the calls with the model, call by call: every reply, and every byte of every
 // lent buffer and of guard bytes around it; in sessions in which consoles come and go, with the book of demand 3; of the answer which
-// two can meet with what the commands then do; of views of one of two stores with the store chosen and its board; and of rooms with a hub
-// with what is promised of them: no 17, nothing stuck, and all can be brought to one head. The cases come from one seed, so that a
-// difference can be met again.
+// two can meet with what the commands then do; of views of one of two stores with the store chosen and its board; of panes with the board;
+// and of rooms with a hub with what is promised of them: no 17, nothing stuck, and all can be brought to one head. The cases come from one
+// seed, so that a difference can be met again.
 
 use crate::book::Book;
 use crate::calls::Reply;
@@ -13,6 +13,7 @@ use crate::model::{
     choice, code, decode, record, refusal, room_of_tape, step, tape_of, Room, Verdict, CONSOLES,
     STRIPS,
 };
+use crate::panes::{self, Hidden};
 use crate::rng::Rng;
 use crate::verdicts;
 use crate::views::{self, Asked};
@@ -52,7 +53,7 @@ impl Buffer {
     }
 }
 
-/// The buffers of a call: the store, a command, a tape or the frozen store of a view to be read, and a tape or board to be written.
+/// The buffers of a call: the store, a command, a tape or the frozen store of a view to be read, and a tape, board or pane to be written.
 #[derive(Clone)]
 struct Lent {
     store: Buffer,
@@ -185,6 +186,8 @@ pub enum Call {
     Pause,
     Resume,
     Board { console: u32 },
+    StudentPane { console: u32 },
+    InstructorPane { console: u32 },
     Heard { console: u32 },
     Common { first: u32, second: u32 },
     Origin { console: u32, strip: u32, cell: u32 },
@@ -194,7 +197,7 @@ pub enum Call {
 }
 
 /// The calls, each with the answers that include/room.h lists for it, in the order of the tests.
-const LISTED: [(&str, &[usize]); 11] = [
+const LISTED: [(&str, &[usize]); 13] = [
     ("open", &[0, 8, 19]),
     (
         "command",
@@ -211,6 +214,8 @@ const LISTED: [(&str, &[usize]); 11] = [
     ("mergeable", &[0, 11]),
     ("view_refusal", &[0, 3, 5, 11, 12]),
     ("view_at", &[0, 3, 5, 11, 12]),
+    ("student_pane", &[0, 3, 11, 12, 19]),
+    ("instructor_pane", &[0, 3, 11, 12, 19]),
 ];
 
 impl Call {
@@ -227,10 +232,21 @@ impl Call {
             Call::Mergeable => 8,
             Call::ViewRefusal(_) => 9,
             Call::ViewAt(_) => 10,
+            Call::StudentPane { .. } => 11,
+            Call::InstructorPane { .. } => 12,
         }
     }
 
-    /// Makes the call with the store, a command, a tape or a frozen store to be read, and a tape or board to be written.
+    /// The calls that copy out what a console shows.
+    fn copying(console: u32) -> [Call; 3] {
+        [
+            Call::Board { console },
+            Call::StudentPane { console },
+            Call::InstructorPane { console },
+        ]
+    }
+
+    /// Makes the call with the store, a command, a tape or a frozen store to be read, and a tape, board or pane to be written.
     pub fn make(self, calls: &Calls, store: &mut [u8], input: &[u8], output: &mut [u8]) -> Reply {
         match self {
             Call::Open { capacity } => (calls.open)(capacity, store),
@@ -238,6 +254,8 @@ impl Call {
             Call::Pause => (calls.pause)(store, output),
             Call::Resume => (calls.resume)(input, store),
             Call::Board { console } => (calls.board)(store, console, output),
+            Call::StudentPane { console } => (calls.student_pane)(store, console, output),
+            Call::InstructorPane { console } => (calls.instructor_pane)(store, console, output),
             Call::Heard { console } => (calls.heard)(store, console),
             Call::Common { first, second } => (calls.common)(store, first, second),
             Call::Origin {
@@ -300,10 +318,16 @@ enum Figure {
     LiveAlone,
     FrozenAlone,
     BoardsDiffer,
+    MarksHidden,
+    CallsHidden,
+    AlertCountHidden,
+    AlertFlagHidden,
+    NothingHidden,
+    PanesRefused,
 }
 
 /// The figures, each with its name and the least that a run must have of it for each of its rounds.
-const FIGURES: [(Figure, &str, u64); 34] = [
+const FIGURES: [(Figure, &str, u64); 40] = [
     (Figure::OriginOfNoEntry, "origins of no entry", 1),
     (Figure::OriginOfAnEntry, "origins of an entry", 1),
     (Figure::Leave, "leaves accepted", 100),
@@ -406,6 +430,36 @@ const FIGURES: [(Figure, &str, u64); 34] = [
         "boards that differ, live and frozen",
         40,
     ),
+    (Figure::MarksHidden, "student's panes that hide marks", 60),
+    (Figure::CallsHidden, "student's panes that hide calls", 100),
+    (
+        Figure::AlertCountHidden,
+        "student's panes that hide alert counts",
+        90,
+    ),
+    (
+        Figure::AlertFlagHidden,
+        "student's panes that hide alert flags",
+        90,
+    ),
+    (
+        Figure::NothingHidden,
+        "student's panes equal to the board",
+        25,
+    ),
+    (
+        Figure::PanesRefused,
+        "consoles whose panes are refused",
+        300,
+    ),
+];
+
+/// What a student's pane hides, in the order of `Hidden`.
+const HIDING: [Figure; 4] = [
+    Figure::MarksHidden,
+    Figure::CallsHidden,
+    Figure::AlertCountHidden,
+    Figure::AlertFlagHidden,
 ];
 
 /// From this console on a receiver is high: many pairs come before it.
@@ -514,6 +568,18 @@ impl Tally {
             _ => return,
         };
         self.count(figure, 1);
+    }
+
+    /// Counts what a student's pane hid, or that a console's panes were refused.
+    fn note_panes(&mut self, panes: Result<Hidden, u32>) {
+        let Ok(hidden) = panes else {
+            return self.count(Figure::PanesRefused, 1);
+        };
+        for (figure, is_hidden) in HIDING.into_iter().zip(hidden) {
+            self.count(figure, is_hidden.into());
+        }
+        let hides_nothing = !hidden.contains(&true);
+        self.count(Figure::NothingHidden, hides_nothing.into());
     }
 
     /// Counts an accepted merge with so many clashes.
@@ -719,26 +785,26 @@ impl Comparison {
 
     /// One call of any kind but opening and resume.
     fn any_call(&mut self, rng: &mut Rng, pair: &mut Pair) -> Outcome<Reply> {
-        match rng.below(10) {
+        match rng.below(12) {
             0 => {
                 let needed = 3 + 7 * rng.below(20);
                 let length = output_length(rng, needed);
                 self.output_call(rng, Call::Pause, pair, length)
             }
-            1 => {
+            copy @ 1..=3 => {
                 let (console, length) = (some_console(rng), output_length(rng, BOARD_BYTES));
-                self.output_call(rng, Call::Board { console }, pair, length)
+                self.output_call(rng, Call::copying(console)[copy - 1], pair, length)
             }
-            2 => {
+            4 => {
                 let console = some_console(rng);
                 self.call(Call::Heard { console }, pair)
             }
-            3 => {
+            5 => {
                 let (first, second) = (some_console(rng), some_console(rng));
                 self.call(Call::Common { first, second }, pair)
             }
-            4 => self.call(some_origin(rng), pair),
-            5 => self.call(Call::Mergeable, pair),
+            6 => self.call(some_origin(rng), pair),
+            7 => self.call(Call::Mergeable, pair),
             _ => self.command(pair, &gen::any_command(rng)),
         }
     }
@@ -752,6 +818,18 @@ impl Comparison {
     ) -> Outcome<Reply> {
         pair.lend_output(&bytes_of_length(rng, length));
         self.call(call, pair)
+    }
+
+    /// What a console shows, its board and both panes, in outputs of one length, and that the panes fit the board.
+    fn show(&mut self, rng: &mut Rng, pair: &mut Pair, console: u32, length: usize) -> Outcome<()> {
+        for call in Call::copying(console) {
+            self.output_call(rng, call, pair, length)?;
+        }
+        let store = pair.tested.store.lent();
+        let panes = panes::check(&self.tested, store, console, length)
+            .map_err(|difference| self.story(Call::StudentPane { console }, pair, &difference))?;
+        self.tally.note_panes(panes);
+        Ok(())
     }
 
     /// The origins with each of these consoles, strips and cells.
@@ -825,7 +903,7 @@ impl Comparison {
         let console = rng.below(3) as u32;
         self.command(pair, &gen::entry_command(rng, console as usize))?;
         self.output_call(rng, Call::Pause, pair, 9000)?;
-        self.output_call(rng, Call::Board { console }, pair, BOARD_BYTES)?;
+        self.show(rng, pair, console, BOARD_BYTES)?;
         self.call(Call::Heard { console }, pair)?;
         let (first, second) = (0, console);
         self.call(Call::Common { first, second }, pair)?;
@@ -1113,15 +1191,22 @@ impl<'a> Session<'a> {
     fn ask(&mut self) -> Outcome<()> {
         let (first, second) = (some_console(&mut self.rng), some_console(&mut self.rng));
         let length = output_length(&mut self.rng, BOARD_BYTES);
+        let shown = self.likely_console().unwrap_or(first);
         let pair = &mut self.pair;
-        pair.lend_output(&bytes_of_length(&mut self.rng, length));
-        self.comparison.call(Call::Board { console: first }, pair)?;
+        self.comparison.show(&mut self.rng, pair, shown, length)?;
         self.comparison.call(Call::Heard { console: first }, pair)?;
         self.comparison.call(Call::Common { first, second }, pair)?;
         self.comparison.call(some_origin(&mut self.rng), pair)?;
         self.comparison.verdict(pair)?;
         self.ask_origins()?;
         self.look()
+    }
+
+    /// A present console, half the time.
+    fn likely_console(&mut self) -> Option<u32> {
+        let present = self.rng.pick(&self.room.present());
+        let likely = present.filter(|_| self.rng.chance(50));
+        likely.map(|console| console as u32)
     }
 
     /// The origins of a strip's cells with a present console.
@@ -1134,13 +1219,12 @@ impl<'a> Session<'a> {
 
     /// Views of the running room and of the frozen one, or of what else may be lent with it.
     fn look(&mut self) -> Outcome<()> {
+        let likely = self.likely_console();
         let rng = &mut self.rng;
         let beside = gen::store_beside(rng, &self.frozen);
         let both = &mut Pair::in_any_order(rng, self.pair.store(), &beside);
-        let any = rng.below(CONSOLES);
-        let present = rng.pick(&self.room.present());
-        let console = present.filter(|_| rng.chance(50)).unwrap_or(any);
-        self.comparison.look(both, console as u32)?;
+        let any = rng.below(CONSOLES) as u32;
+        self.comparison.look(both, likely.unwrap_or(any))?;
         self.comparison.view(some_view(rng), both).map(|_| ())
     }
 
@@ -1586,8 +1670,8 @@ fn compare_consoles(comparison: &mut Comparison, rng: &mut Rng, store: &[u8]) ->
     let pair = &mut Pair::of_store(store);
     for first in EDGE_NUMBERS {
         comparison.call(Call::Heard { console: first }, pair)?;
-        comparison.output_call(rng, Call::Board { console: first }, pair, 384)?;
-        comparison.output_call(rng, Call::Board { console: first }, pair, 383)?;
+        comparison.show(rng, pair, first, BOARD_BYTES)?;
+        comparison.show(rng, pair, first, BOARD_BYTES - 1)?;
         EDGE_NUMBERS.into_iter().try_for_each(|second| {
             let asked = comparison.call(Call::Common { first, second }, pair);
             asked.map(|_| ())
@@ -1624,6 +1708,15 @@ fn compare_full_views(comparison: &mut Comparison) -> Outcome<()> {
     let frozen = layout::encode(&gen::chain_of_merges(1024));
     let both = &mut Pair::of_stores(&live, &frozen);
     (0..3).try_for_each(|console| comparison.look(both, console))
+}
+
+/// What the consoles of the longest chains show: there are calls in both bytes of their count.
+fn compare_full_panes(comparison: &mut Comparison, rng: &mut Rng) -> Outcome<()> {
+    for room in [gen::chain_of_entries(1024), gen::chain_of_merges(1024)] {
+        let pair = &mut Pair::of_store(&layout::encode(&room));
+        (0..3).try_for_each(|console| comparison.show(rng, pair, console, BOARD_BYTES))?;
+    }
+    Ok(())
 }
 
 // ---------------------------------------------------------------- the paper's rooms
@@ -1860,6 +1953,7 @@ fn fixed_cases(comparison: &mut Comparison, rng: &mut Rng) -> Outcome<()> {
     compare_long_walks(comparison)?;
     compare_full_verdicts(comparison)?;
     compare_full_views(comparison)?;
+    compare_full_panes(comparison, rng)?;
     for clashes in 0..=gen::VALUES {
         compare_clashes(comparison, rng, clashes)?;
     }

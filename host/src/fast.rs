@@ -57,6 +57,15 @@ pub fn board(store: &[u8], console: u32, board: &mut [u8]) -> Reply {
     Reply::of(copy_board(store, console as usize, board))
 }
 
+pub fn student_pane(store: &[u8], console: u32, pane: &mut [u8]) -> Reply {
+    Reply::of(copy_student_pane(store, console as usize, pane))
+}
+
+/// The instructor's pane is the board.
+pub fn instructor_pane(store: &[u8], console: u32, pane: &mut [u8]) -> Reply {
+    board(store, console, pane)
+}
+
 pub fn heard(store: &[u8], console: u32) -> Reply {
     Reply::of(count_heard(store, console as usize))
 }
@@ -574,6 +583,19 @@ fn copy_board(store: &[u8], console: usize, board: &mut [u8]) -> Result<usize, u
         .ok_or(refusal::BUFFER_TOO_SHORT)?
         .copy_from_slice(shown);
     Ok(shown.len())
+}
+
+/// The bits of a strip that a student sees: level, heading and, in the low byte of the marks, marks 0 to 7.
+const SEEN_BY_STUDENT: [u8; STRIP_BYTES] = [0xFF, 0xFF, 0xFF, 0xFF, 0, 0xFF, 0, 0, 0, 0, 0, 0];
+
+/// Copies the board and clears there what a student does not see: a refused copy has written nothing.
+fn copy_student_pane(store: &[u8], console: usize, pane: &mut [u8]) -> Result<usize, u32> {
+    let length = copy_board(store, console, pane)?;
+    let (strips, _) = pane[..length].as_chunks_mut::<STRIP_BYTES>();
+    for strip in strips {
+        *strip = array::from_fn(|place| strip[place] & SEEN_BY_STUDENT[place]);
+    }
+    Ok(length)
 }
 
 /// The place of a console's board in a sound store, and the board there, or refusal 11 or 12.

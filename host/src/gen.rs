@@ -18,10 +18,13 @@ pub fn some_strip(rng: &mut Rng) -> u8 {
     rng.below(strips) as u8
 }
 
-/// A mark, often one of the first few.
+/// Marks that are put and taken often, so that consoles meet on them: the first and the last that students see, and that they do not.
+const COMMON_MARKS: [u16; 4] = [0, 7, 8, 15];
+
 fn some_mark(rng: &mut Rng) -> u16 {
-    let marks = if rng.chance(70) { 3 } else { MARKS };
-    rng.below(marks) as u16
+    let any = rng.below(MARKS) as u16;
+    let common = rng.pick(&COMMON_MARKS).filter(|_| rng.chance(70));
+    common.unwrap_or(any)
 }
 
 /// A number up to the highest, often at an end of the range or small.
@@ -35,7 +38,7 @@ fn some_value(rng: &mut Rng, highest: u16) -> u16 {
 }
 
 /// An entry's code, strip and operand.
-type Change = (u8, u8, u16);
+pub type Change = (u8, u8, u16);
 
 /// A level or heading with one of few values on one of two strips, so that both sides of a merge write the same cell, with the
 /// same value or another, and a value that was there before comes back.
@@ -70,7 +73,8 @@ pub fn entry_command(rng: &mut Rng, console: usize) -> Vec<u8> {
     entry_bytes(console, change)
 }
 
-fn entry_bytes(console: usize, (entry_code, strip, operand): Change) -> Vec<u8> {
+/// The command of a strip change.
+pub fn entry_bytes(console: usize, (entry_code, strip, operand): Change) -> Vec<u8> {
     let mut bytes = vec![entry_code, console as u8, strip];
     match entry_code {
         code::LEVEL | code::HEADING => bytes.extend(operand.to_be_bytes()),

@@ -3,6 +3,9 @@
 use crate::calls::{self, Reply};
 use crate::{fast, unit};
 
+/// A call that copies a console's board or pane out of a store.
+pub type CopyOut = fn(&[u8], u32, &mut [u8]) -> Reply;
+
 /// One implementation of the calls.
 #[derive(Clone, Copy)]
 pub struct Calls {
@@ -11,7 +14,9 @@ pub struct Calls {
     pub command: fn(&mut [u8], &[u8]) -> Reply,
     pub pause: fn(&[u8], &mut [u8]) -> Reply,
     pub resume: fn(&[u8], &mut [u8]) -> Reply,
-    pub board: fn(&[u8], u32, &mut [u8]) -> Reply,
+    pub board: CopyOut,
+    pub student_pane: CopyOut,
+    pub instructor_pane: CopyOut,
     pub heard: fn(&[u8], u32) -> Reply,
     pub common: fn(&[u8], u32, u32) -> Reply,
     pub origin: fn(&[u8], u32, u32, u32) -> Reply,
@@ -28,6 +33,8 @@ pub const MODEL: Calls = Calls {
     pause: calls::pause,
     resume: calls::resume,
     board: calls::board,
+    student_pane: calls::student_pane,
+    instructor_pane: calls::instructor_pane,
     heard: calls::heard,
     common: calls::common,
     origin: calls::origin,
@@ -44,6 +51,8 @@ pub const FAST: Calls = Calls {
     pause: fast::pause,
     resume: fast::resume,
     board: fast::board,
+    student_pane: fast::student_pane,
+    instructor_pane: fast::instructor_pane,
     heard: fast::heard,
     common: fast::common,
     origin: fast::origin,
@@ -60,6 +69,8 @@ pub const UNIT: Calls = Calls {
     pause: unit::pause,
     resume: unit::resume,
     board: unit::board,
+    student_pane: unit::student_pane,
+    instructor_pane: unit::instructor_pane,
     heard: unit::heard,
     common: unit::common,
     origin: unit::origin,

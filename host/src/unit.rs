@@ -35,6 +35,20 @@ extern "C" {
         board: *mut u8,
         board_length: usize,
     ) -> Reply;
+    pub fn room_student_pane(
+        store: *const u8,
+        store_length: usize,
+        console: u32,
+        pane: *mut u8,
+        pane_length: usize,
+    ) -> Reply;
+    pub fn room_instructor_pane(
+        store: *const u8,
+        store_length: usize,
+        console: u32,
+        pane: *mut u8,
+        pane_length: usize,
+    ) -> Reply;
     pub fn room_heard(store: *const u8, store_length: usize, console: u32) -> Reply;
     pub fn room_common(store: *const u8, store_length: usize, first: u32, second: u32) -> Reply;
     pub fn room_origin(
@@ -89,13 +103,30 @@ pub fn resume(tape: &[u8], store: &mut [u8]) -> Reply {
 }
 
 pub fn board(store: &[u8], console: u32, board: &mut [u8]) -> Reply {
+    copy_out(room_board, store, console, board)
+}
+
+/// The board without what belongs to the instructor: alerts, calls and marks 8 to 15 are zero.
+pub fn student_pane(store: &[u8], console: u32, pane: &mut [u8]) -> Reply {
+    copy_out(room_student_pane, store, console, pane)
+}
+
+/// The board.
+pub fn instructor_pane(store: &[u8], console: u32, pane: &mut [u8]) -> Reply {
+    copy_out(room_instructor_pane, store, console, pane)
+}
+
+/// One of the three calls that copy a board or a pane out.
+pub type ExternCopyOut = unsafe extern "C" fn(*const u8, usize, u32, *mut u8, usize) -> Reply;
+
+fn copy_out(call: ExternCopyOut, store: &[u8], console: u32, output: &mut [u8]) -> Reply {
     unsafe {
-        room_board(
+        call(
             store.as_ptr(),
             store.len(),
             console,
-            board.as_mut_ptr(),
-            board.len(),
+            output.as_mut_ptr(),
+            output.len(),
         )
     }
 }

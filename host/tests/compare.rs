@@ -1,10 +1,11 @@
 // The unit and the fast implementation against the model, on fewer cases than the program `compare` runs; and some that count wrongly,
-// name a wrong pair, mistake a hub or show a wrong part, which must be found.
+// name a wrong pair, mistake a hub, show a wrong part or a wrong pane, which must be found.
 
 use room_host::calls::Reply;
 use room_host::compare::{compare, seed, Effort};
 use room_host::fast;
-use room_host::implementations::{Calls, FAST, UNIT};
+use room_host::implementations::{Calls, CopyOut, FAST, UNIT};
+use room_host::panes;
 use room_host::rng::Rng;
 use room_host::views::{self, Asked};
 use room_host::{gen, layout, verdicts};
@@ -19,7 +20,12 @@ fn assert_differs(wrong: Calls) {
     let found = compare(wrong, seed(), EFFORT).err();
     let difference = found.unwrap_or_default();
     let name = wrong.name;
-    let differs = ["replies differ", "store differs", "view differs"];
+    let differs = [
+        "replies differ",
+        "store differs",
+        "output differs",
+        "view differs",
+    ];
     assert!(
         differs.iter().any(|differs| difference.contains(differs)),
         "{name}: {difference}"
@@ -623,6 +629,210 @@ fn a_wrong_view_does_not_fit() {
         all_asked.any(|asked| views::check(calls, asked).is_err())
     };
     for calls in misviewing() {
+        assert!(is_disproved(&calls), "{}", calls.name);
+    }
+    assert!(!is_disproved(&FAST));
+}
+
+// ---------------------------------------------------------------- panes
+
+/// The store, the console and the lent output.
+type PaneOf<'a> = (&'a [u8], u32, &'a mut [u8]);
+
+/// The student's pane of the fast implementation, with each strip made anew from the number of the strip, the board's and the pane's.
+fn repainted(
+    (store, console, pane): PaneOf,
+    paint: fn(usize, [u8; 12], [u8; 12]) -> [u8; 12],
+) -> Reply {
+    let mut board = pane.to_vec();
+    fast::board(store, console, &mut board);
+    let reply = fast::student_pane(store, console, pane);
+    let painted = &mut pane[..reply.count as usize];
+    let (strips, _) = painted.as_chunks_mut();
+    for (number, (strip, whole)) in strips.iter_mut().zip(board.as_chunks().0).enumerate() {
+        *strip = paint(number, *whole, *strip);
+    }
+    reply
+}
+
+/// The strip of the pane, with one byte as this says.
+fn with_byte(mut strip: [u8; 12], place: usize, byte: u8) -> [u8; 12] {
+    strip[place] = byte;
+    strip
+}
+
+/// Wrong panes of a student.
+const MISPAINTED: [(&str, CopyOut); 16] = [
+    ("the board", fast::board),
+    ("mark 7 is hidden", |store, console, pane| {
+        repainted((store, console, pane), |_, _, seen| {
+            with_byte(seen, 5, seen[5] & 0x7F)
+        })
+    }),
+    ("mark 8 is shown", |store, console, pane| {
+        repainted((store, console, pane), |_, whole, seen| {
+            with_byte(seen, 4, whole[4] & 0x01)
+        })
+    }),
+    ("mark 15 is shown", |store, console, pane| {
+        repainted((store, console, pane), |_, whole, seen| {
+            with_byte(seen, 4, whole[4] & 0x80)
+        })
+    }),
+    ("the low byte is hidden", |store, console, pane| {
+        repainted((store, console, pane), |_, whole, seen| {
+            with_byte(with_byte(seen, 4, whole[4]), 5, 0)
+        })
+    }),
+    ("all marks are hidden", |store, console, pane| {
+        repainted((store, console, pane), |_, _, seen| with_byte(seen, 5, 0))
+    }),
+    ("calls are shown", |store, console, pane| {
+        repainted((store, console, pane), |_, whole, seen| {
+            with_byte(seen, 7, whole[7])
+        })
+    }),
+    ("calls from 256 on are shown", |store, console, pane| {
+        repainted((store, console, pane), |_, whole, seen| {
+            with_byte(seen, 6, whole[6])
+        })
+    }),
+    ("alert counts are shown", |store, console, pane| {
+        repainted((store, console, pane), |_, whole, seen| {
+            with_byte(seen, 9, whole[9])
+        })
+    }),
+    ("alert flags are shown", |store, console, pane| {
+        repainted((store, console, pane), |_, whole, seen| {
+            with_byte(seen, 10, whole[10])
+        })
+    }),
+    ("strip 0 is forgotten", |store, console, pane| {
+        repainted((store, console, pane), |number, whole, seen| match number {
+            0 => whole,
+            _ => seen,
+        })
+    }),
+    ("strip 31 is forgotten", |store, console, pane| {
+        repainted((store, console, pane), |number, whole, seen| match number {
+            31 => whole,
+            _ => seen,
+        })
+    }),
+    ("headings are hidden", |store, console, pane| {
+        repainted((store, console, pane), |_, _, seen| {
+            with_byte(with_byte(seen, 2, 0), 3, 0)
+        })
+    }),
+    ("what is hidden is not written", |store, console, pane| {
+        let before = pane.to_vec();
+        let reply = fast::student_pane(store, console, pane);
+        if reply.answer == 0 {
+            pane[6..11].copy_from_slice(&before[6..11]);
+        }
+        reply
+    }),
+    ("zeros behind the pane", |store, console, pane| {
+        let reply = fast::student_pane(store, console, pane);
+        if reply.answer == 0 {
+            pane[384..].fill(0);
+        }
+        reply
+    }),
+    ("hides though it is refused", |store, console, pane| {
+        let reply = fast::student_pane(store, console, pane);
+        if reply.answer == 19 && pane.len() > 4 {
+            pane[4] = 0;
+        }
+        reply
+    }),
+];
+
+/// Wrong panes of an instructor.
+const MISCOPIED: [(&str, CopyOut); 7] = [
+    ("the student's", fast::student_pane),
+    ("console 0 alone", |store, console, pane| {
+        fast::board(store, console.min(16) / 16 * 16, pane)
+    }),
+    ("a console of 8 bits", |store, console, pane| {
+        fast::board(store, console & 0xFF, pane)
+    }),
+    ("19 before 12", |store, console, pane| {
+        let right = fast::board(store, console, pane);
+        let is_short = right == refused(12) && pane.len() < 384;
+        if is_short {
+            refused(19)
+        } else {
+            right
+        }
+    }),
+    ("12 before 11", |store, console, pane| {
+        let right = fast::board(store, console, pane);
+        let is_met = right == refused(11) && console > 0;
+        if is_met {
+            refused(12)
+        } else {
+            right
+        }
+    }),
+    ("nothing is counted", |store, console, pane| Reply {
+        count: 0,
+        ..fast::board(store, console, pane)
+    }),
+    ("the whole output is counted", |store, console, pane| {
+        let right = fast::board(store, console, pane);
+        match right.answer {
+            0 => Reply {
+                answer: 0,
+                count: pane.len() as u32,
+            },
+            _ => right,
+        }
+    }),
+];
+
+/// The fast implementation with one of the wrong panes.
+fn mispainting() -> Vec<Calls> {
+    let to_student = MISPAINTED.map(|(name, student_pane)| Calls {
+        name,
+        student_pane,
+        ..FAST
+    });
+    let to_instructor = MISCOPIED.map(|(name, instructor_pane)| Calls {
+        name,
+        instructor_pane,
+        ..FAST
+    });
+    [&to_student[..], &to_instructor].concat()
+}
+
+#[test]
+fn a_wrong_pane_is_found() {
+    mispainting().into_iter().for_each(assert_differs);
+}
+
+/// The board alone disproves each wrong pane, whatever the model says.
+#[test]
+fn a_wrong_pane_does_not_fit() {
+    let rng = &mut Rng::new(36);
+    let mut rooms = gen::random_rooms(37, 60);
+    rooms.push(gen::chain_of_entries(300));
+    let stores: Vec<Vec<u8>> = rooms.iter().map(layout::encode).collect();
+    let damaged: Vec<Vec<u8>> = stores
+        .iter()
+        .map(|store| gen::store_beside(rng, store))
+        .collect();
+    let is_disproved = |calls: &Calls| {
+        stores.iter().chain(&damaged).any(|store| {
+            let consoles = (0..17).chain([256]);
+            let asked =
+                consoles.flat_map(|console| [383, 384, 390].map(|length| (console, length)));
+            asked
+                .into_iter()
+                .any(|(console, length)| panes::check(calls, store, console, length).is_err())
+        })
+    };
+    for calls in mispainting() {
         assert!(is_disproved(&calls), "{}", calls.name);
     }
     assert!(!is_disproved(&FAST));

@@ -3,11 +3,12 @@
 use room_host::gen;
 use room_host::layout::{self, encode};
 use room_host::model::{
-    cell_origin, decode, parents, reported, room_of_tape, sound, sound_boards, step, tape_of,
-    verdict, Ancestry, Board, Cell, Command, Entry, Room, Verdict, Version, Worked, CONSOLES, HUB,
-    STRIPS,
+    cell_origin, console_board, decode, empty_board, parents, reported, room_of_tape,
+    shown_to_instructor, shown_to_student, sound, sound_boards, step, tape_of, verdict, Ancestry,
+    Board, Cell, Command, Entry, Room, Verdict, Version, Worked, CONSOLES, HUB, STRIPS,
 };
 use room_host::rng::Rng;
+use room_host::secrets;
 use std::collections::BTreeSet;
 
 // ---------------------------------------------------------------- sound rooms
@@ -447,6 +448,94 @@ fn clashing_rooms_have_so_many_clashes() {
             assert_eq!(reported(&merge, &boards), clashes);
         }
     }
+}
+
+// ---------------------------------------------------------------- panes
+
+/// Of each present console of some rooms its board, and its board in another room that is made of the room.
+fn boards_beside(rooms: &[Room], mut other_of: impl FnMut(&Room) -> Room) -> Vec<(Board, Board)> {
+    let mut boards = vec![];
+    for room in rooms {
+        let other = other_of(room);
+        assert!(sound(&other));
+        for console in room.present() {
+            let [one, other] = [room, &other].map(|room| console_board(room, console));
+            boards.extend(one.zip(other));
+        }
+    }
+    boards
+}
+
+/// A student's pane is the whole board of the room in which all that belongs to the instructor was never said: told by what entries
+/// and merges make of other entries, and not by what is taken off a board.
+#[test]
+fn a_student_sees_the_board_of_a_room_without_secrets() {
+    let rooms = gen::random_rooms(44, 200);
+    let (mut hiding, mut showing, mut all) = (0, 0, 0);
+    for (board, silent) in boards_beside(&rooms, secrets::silent_room) {
+        assert_eq!(shown_to_student(&board), silent);
+        assert_eq!(shown_to_student(&silent), silent);
+        assert_eq!(shown_to_instructor(&board), board);
+        hiding += usize::from(board != silent);
+        showing += usize::from(silent != empty_board());
+        all += usize::from(board == silent && board != empty_board());
+    }
+    let seen = [hiding, showing, all];
+    assert!(seen.iter().all(|&met| met > 50), "{seen:?}");
+}
+
+/// Other secrets leave what a student sees, and mostly change what an instructor sees.
+#[test]
+fn rooms_with_other_secrets() {
+    let (rng, rooms) = (&mut Rng::new(45), gen::random_rooms(46, 200));
+    let boards = boards_beside(&rooms, |room| secrets::other_room(rng, room));
+    let mut told_apart = 0;
+    for (board, other) in &boards {
+        assert_eq!(shown_to_student(board), shown_to_student(other));
+        told_apart += usize::from(shown_to_instructor(board) != shown_to_instructor(other));
+    }
+    assert!(2 * told_apart > boards.len(), "{told_apart}");
+}
+
+/// Of an entry that no student sees the console stays and the strip, the code and the mark are any; all other commands are left.
+#[test]
+fn other_commands_are_secrets_too() {
+    let rng = &mut Rng::new(47);
+    let kept: [&[u8]; 9] = [
+        &[],
+        &[0x02, 3, 5, 0, 8],
+        &[0x03, 3, 5, 0, 8],
+        &[0x04, 3, 5, 7],
+        &[0x05, 3, 5, 0],
+        &[0x04, 3, 5, 16],
+        &[0x06, 16, 5],
+        &[0x07, 3],
+        &[0x09, 8, 9],
+    ];
+    for command in kept {
+        assert_eq!(secrets::other_command(rng, command), command);
+    }
+    let secret: [&[u8]; 5] = [
+        &[0x04, 3, 5, 8],
+        &[0x05, 3, 5, 15],
+        &[0x06, 3, 5],
+        &[0x07, 3, 5],
+        &[0x08, 3, 5],
+    ];
+    let (mut kinds, mut strips) = (BTreeSet::new(), BTreeSet::new());
+    for command in secret.into_iter().cycle().take(2000) {
+        let other = secrets::other_command(rng, command);
+        let &[code, console, strip, ref mark @ ..] = &other[..] else {
+            panic!("{other:02X?}");
+        };
+        assert!(console == 3 && decode(&other).is_ok(), "{other:02X?}");
+        kinds.insert((code, mark.to_vec()));
+        strips.insert(strip);
+    }
+    let marks = |code: u8| (8..16).map(move |mark| (code, vec![mark]));
+    let due = [(0x06, vec![]), (0x07, vec![]), (0x08, vec![])];
+    assert_eq!(kinds, marks(4).chain(marks(5)).chain(due).collect());
+    assert_eq!(strips.len(), STRIPS);
 }
 
 // ---------------------------------------------------------------- which two can meet

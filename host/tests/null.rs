@@ -4,8 +4,9 @@
 
 use room_host::calls::Reply;
 use room_host::unit::{
-    self, room_board, room_command, room_common, room_heard, room_mergeable, room_open,
-    room_origin, room_pause, room_resume, room_view_at, room_view_refusal,
+    self, room_board, room_command, room_common, room_heard, room_instructor_pane, room_mergeable,
+    room_open, room_origin, room_pause, room_resume, room_student_pane, room_view_at,
+    room_view_refusal, ExternCopyOut,
 };
 use std::ptr::{null, null_mut};
 
@@ -112,26 +113,48 @@ fn resume_into_null() {
     }
 }
 
-#[test]
-fn board_of_a_null_store() {
+/// Copies a board or a pane out of a NULL store, into an output and into NULL.
+fn copy_from_null(copy_out: ExternCopyOut) {
     for (console, due) in [(0, 11), (15, 11), (16, 3)] {
-        let mut board = [FILLER; 384];
-        let reply = unsafe { room_board(null(), 0, console, board.as_mut_ptr(), board.len()) };
+        let mut output = [FILLER; 384];
+        let reply = unsafe { copy_out(null(), 0, console, output.as_mut_ptr(), output.len()) };
         assert_eq!(reply, refused(due));
-        assert_eq!(board, [FILLER; 384]);
-        let reply = unsafe { room_board(null(), 0, console, null_mut(), 0) };
+        assert_eq!(output, [FILLER; 384]);
+        let reply = unsafe { copy_out(null(), 0, console, null_mut(), 0) };
         assert_eq!(reply, refused(due));
     }
 }
 
-#[test]
-fn board_into_null() {
+/// Copies a board or a pane of a sound store into NULL.
+fn copy_into_null(copy_out: ExternCopyOut) {
     let store = opened();
     for (console, due) in [(0, 19), (15, 12), (16, 3)] {
-        let reply = unsafe { room_board(store.as_ptr(), store.len(), console, null_mut(), 0) };
+        let reply = unsafe { copy_out(store.as_ptr(), store.len(), console, null_mut(), 0) };
         assert_eq!(reply, refused(due));
     }
     assert_eq!(store, opened());
+}
+
+#[test]
+fn board_of_a_null_store() {
+    copy_from_null(room_board);
+}
+
+#[test]
+fn board_into_null() {
+    copy_into_null(room_board);
+}
+
+#[test]
+fn panes_of_a_null_store() {
+    copy_from_null(room_student_pane);
+    copy_from_null(room_instructor_pane);
+}
+
+#[test]
+fn panes_into_null() {
+    copy_into_null(room_student_pane);
+    copy_into_null(room_instructor_pane);
 }
 
 #[test]

@@ -17,7 +17,9 @@ mod model {
     mod leaving;
     mod mergeable;
     mod origins;
+    mod panes;
     mod refusals;
+    mod secrecy;
     mod store;
     mod view;
 }
@@ -34,7 +36,9 @@ mod unit {
     mod leaving;
     mod mergeable;
     mod origins;
+    mod panes;
     mod refusals;
+    mod secrecy;
     mod store;
     mod view;
 }
@@ -51,7 +55,9 @@ mod fast {
     mod leaving;
     mod mergeable;
     mod origins;
+    mod panes;
     mod refusals;
+    mod secrecy;
     mod store;
     mod view;
 }

@@ -34,7 +34,7 @@ const SOUNDNESS: &str = "soundness";
 const WITHOUT_HUB: &str = "without_the_hub";
 
 /// What each of these may be at most, against what: the limits of docs/PERFORMANCE.md.
-const LIMITS: [(&str, &str, f64); 22] = [
+const LIMITS: [(&str, &str, f64); 24] = [
     ("soundness_entries_1024", MEMCMP, 4.5),
     ("soundness_merges_1024", MEMCMP, 13.0),
     ("soundness_hub_1024", WITHOUT_HUB, 1.05),
@@ -57,6 +57,8 @@ const LIMITS: [(&str, &str, f64); 22] = [
     ("mergeable_stuck_apart_1024", SOUNDNESS, 1.2),
     ("view_live", SOUNDNESS, 1.2),
     ("view_frozen", SOUNDNESS, 1.2),
+    ("student_pane", SOUNDNESS, 1.2),
+    ("instructor_pane", SOUNDNESS, 1.2),
 ];
 
 /// These have no limit, but docs/PERFORMANCE.md tells their ratio to the soundness test.
@@ -382,8 +384,12 @@ fn bench_calls(report: &mut Report) {
         bench(report, &work);
     };
     bench_call("open", Call::Open { capacity: 1024 }, Vec::new());
-    bench_call("board", Call::Board { console: 0 }, Vec::new());
-    bench_call("heard", Call::Heard { console: 0 }, Vec::new());
+    let console = 0;
+    bench_call("board", Call::Board { console }, Vec::new());
+    bench_call("student_pane", Call::StudentPane { console }, Vec::new());
+    let instructor_pane = Call::InstructorPane { console };
+    bench_call("instructor_pane", instructor_pane, Vec::new());
+    bench_call("heard", Call::Heard { console }, Vec::new());
     let (first, second) = (0, 1);
     bench_call("common", Call::Common { first, second }, Vec::new());
     let origin = Call::Origin {

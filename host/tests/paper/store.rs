@@ -2,6 +2,7 @@
 
 use super::tested;
 use room_host::calls::Reply;
+use room_host::implementations::CopyOut;
 use room_host::layout::{encode, store_bytes};
 use room_host::model::Room;
 
@@ -99,10 +100,22 @@ impl Store {
     }
 
     pub fn board(&self, console: u32) -> Vec<u8> {
-        let mut board = vec![FILLER; 384];
-        let reply = tested::board(&self.bytes, console, &mut board);
+        self.copied_out(tested::board, console)
+    }
+
+    pub fn student_pane(&self, console: u32) -> Vec<u8> {
+        self.copied_out(tested::student_pane, console)
+    }
+
+    pub fn instructor_pane(&self, console: u32) -> Vec<u8> {
+        self.copied_out(tested::instructor_pane, console)
+    }
+
+    fn copied_out(&self, call: CopyOut, console: u32) -> Vec<u8> {
+        let mut output = vec![FILLER; 384];
+        let reply = call(&self.bytes, console, &mut output);
         assert_eq!(reply, accepted(384));
-        board
+        output
     }
 
     pub fn strip(&self, console: u32, strip: usize) -> StripBytes {
