@@ -84,6 +84,7 @@ unseen-writes code x u =
     no-value : markPutEntry ≤ code → (cell : Cell) → eqb code (writingCode cell) ≡ false
     no-value l Level = ne-eqb code (writingCode Level) (omega arith)
     no-value l Heading = ne-eqb code (writingCode Heading) (omega arith)
+
     no-mark : callEntry ≤ code → eqb code markPutEntry || eqb code markTakenEntry ≡ true → ⊥
     no-mark l mark =
         elim (or-split (eqb code markPutEntry) (eqb code markTakenEntry) mark) [
