@@ -143,7 +143,7 @@ struct room_reply room_board(const uint8_t *store, size_t store_length, uint32_t
    was made; a board, a view, the tape or the store which one. */
 
 /* Copies a console's student's pane out: the board with zeros in byte 4 of each strip (marks 8 to 15) and in its bytes 6 to 10 (calls, alert
-   count, flag). What these hold is never written to the pane, not even for a moment. Counts the 384 bytes. Refusals 3, 11, 12, 19. */
+   count, flag). Counts the 384 bytes. Refusals 3, 11, 12, 19. */
 struct room_reply room_student_pane(const uint8_t *store, size_t store_length, uint32_t console, uint8_t *pane, size_t pane_length);
 
 /* Copies a console's instructor's pane out: the board. Counts the 384 bytes. Refusals 3, 11, 12, 19. */
