@@ -27,7 +27,7 @@ static const char HELP[] =
     "hub                          for good: fork, merge and forward go through console 0\n"
     "gather                       all to one version: console 0 takes over from each, then each from it\n"
     "board CONSOLE                the console's strips\n"
-    "student CONSOLE              and instructor: the strips as that pane of the console shows them\n"
+    "student CONSOLE              and instructor: what a student, or the instructor, sees of it\n"
     "heads                        where every console stands\n"
     "heard CONSOLE                how many entries it has heard\n"
     "common FIRST SECOND          the last version that both have\n"

@@ -73,18 +73,18 @@ strip-seen-put pane board k {x} {new} ex e =
     put-lent pane new (studentStrip board k) (stripSize * k) (stripSize * k) stripSize refl (e ∙ seen) refl
 
 -- the first k strips of a board are those that are given by their numbers
-pub record Made (each : ℕ → List ℕ) (board : List ℕ) (k : ℕ) : Type 0 where
+pub record StripsMade (each : ℕ → List ℕ) (board : List ℕ) (k : ℕ) : Type 0 where
   pub within : k ≤ stripCount
   pub long : length board ≡ boardSize
   pub done : take (stripSize * k) board ≡ strips each k
 
-pub made-start : (each : ℕ → List ℕ) (board : List ℕ) → length board ≡ boardSize → Made each board 0
+pub made-start : (each : ℕ → List ℕ) (board : List ℕ) → length board ≡ boardSize → StripsMade each board 0
 unfolding strips
 made-start each board h = record { within = omega arith; long = h; done = refl }
 
 -- strip k is written
-pub made-step : {each : ℕ → List ℕ} {board new : List ℕ} {k : ℕ} → length (each k) ≡ stripSize → Made each board k → k < stripCount
-    → new ≡ withPart board (stripSize * k) (each k) → Made each new (k + 1)
+pub made-step : {each : ℕ → List ℕ} {board new : List ℕ} {k : ℕ} → length (each k) ≡ stripSize → StripsMade each board k → k < stripCount
+    → new ≡ withPart board (stripSize * k) (each k) → StripsMade each new (k + 1)
 unfolding strips withPart
 made-step {each} {board} {new} {k} size m h e =
     record {
@@ -96,14 +96,14 @@ made-step {each} {board} {new} {k} size m h e =
           ∙ rw (m .done, add-one);
     }
 
-pub made-finish : {each : ℕ → List ℕ} {board : List ℕ} {k : ℕ} → Made each board k → stripCount ≤ k → board ≡ strips each stripCount
+pub made-finish : {each : ℕ → List ℕ} {board : List ℕ} {k : ℕ} → StripsMade each board k → stripCount ≤ k → board ≡ strips each stripCount
 made-finish {each} {board} {k} m h =
     let e : k ≡ stripCount = omega (arith, m .within) in
     rw (e, take-all boardSize board (omega (arith, m .long))) at (m .done)
 
 -- they are merged
 abbrev pub Merging : List ℕ → List ℕ → List ℕ → List ℕ → ℕ → Type 0
-Merging l a b board k = Made (λ j. mergeStrip l a b j .bytes) board k
+Merging l a b board k = StripsMade (λ j. mergeStrip l a b j .bytes) board k
 
 pub merging-finish : (l a b : List ℕ) {board : List ℕ} {k : ℕ} → Merging l a b board k → stripCount ≤ k → board ≡ mergeBoard l a b .bytes
 merging-finish l a b m h = made-finish m h ∙ sym (merged-strips l a b stripCount)

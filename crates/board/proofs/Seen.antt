@@ -15,7 +15,7 @@ use Rattle.buffer.specs.Field.{wordAt}
 use Rattle.buffer.proofs.Fields.{cut}
 use Rattle.board.specs.declared.Cell.{Cell}
 use Rattle.board.specs.declared.Cell.the-variants.{Level, Heading}
-use Rattle.board.specs.Board.{Merged, stripCount, boardSize, marksAt, alertsAt, valueIn, markBit, without, mergeValue, mergeMarks, mergeBoard, enter, writingCode, markPutEntry, markTakenEntry}
+use Rattle.board.specs.Board.{stripCount, boardSize, marksAt, alertsAt, valueIn, markBit, without, mergeValue, mergeMarks, mergeBoard, enter, writingCode, markPutEntry, markTakenEntry}
 use Rattle.board.specs.Pane.{seenMarks, studentStrip, strips, studentPane}
 use Rattle.board.proofs.Marks.{seen-merged, seen-put, seen-taken, seen-cut}
 use Rattle.board.proofs.Cells.{value-cut, marks-cut, value-kept, marks-kept, value-written, mark-put, mark-taken}

@@ -35,7 +35,7 @@ use Rattle.store.specs.Layout.{storeSize, boardAt, encode}
 use Rattle.store.proofs.RoundTrip.{encode-length, room-encode, holds-encode}
 use Rattle.tape.specs.Tape.{tapeOf}
 use Rattle.unit.specs.declared.Reply.{Reply}
-use Rattle.unit.specs.Calls.{Outcome, replied, written, openOutcome, stepOutcome, commandOutcome, pauseOutcome, commonReply, originReply, boardShown, viewPart, viewAtReply, viewRefusalReply, mergeableReply, paneOutcome, command, replyTo, storeAfter}
+use Rattle.unit.specs.Calls.{Outcome, replied, written, openOutcome, stepOutcome, commandOutcome, pauseOutcome, commonReply, originReply, boardShown, viewPart, viewAtReply, viewRefusalReply, mergeableReply, paneOutcome, command, replyTo, storeAfter, repliesTo}
 use Rattle.unit.specs.View.{View, viewOf, refusedView}
 use Rattle.unit.specs.Journal.{Journal, feed}
 use Rattle.unit.specs.Convergence.{afterCalls}
@@ -44,7 +44,7 @@ use Rattle.unit.proofs.Commanded.{held-refused}
 use Rattle.unit.proofs.RoundTrip.{pause-done}
 use Rattle.cases.specs.Run.{answerIn, countIn, roomAfter, made, replies}
 use Rattle.cases.specs.Requests.{viewIn, paneIn}
-use Rattle.cases.specs.Called.{repliesTo, headReply, Called}
+use Rattle.cases.specs.Called.{headReply, Called}
 
 -- the bytes of a sound room, written over those of another of the same capacity
 replaced : (r n : Room) (rest : List ℕ) → soundRoom r ≡ true → soundRoom n ≡ true → n .settings .capacity ≡ r .settings .capacity

@@ -1,12 +1,15 @@
 -- The theorems of the tables: what the definitions give is what the paper and the requests say, by computation.
 use Prim.Native.Nat.{ℕ}
 use mathlib.Core.Path.{_≡_, refl, ap}
-use mathlib.Core.List.{[], _∷_, map}
+use mathlib.Core.List.{List, [], _∷_, map}
 use Rattle.board.specs.Board.{mergeFlag, mergeStrip, mergeStrips, enter}
 use Rattle.board.specs.Pane.{studentStrip, strips}
 use Rattle.graph.specs.Below.{everyBelow, someBelow, highestBelow, firstNonzero}
 use Rattle.graph.specs.Graph.{ancestor, isMeet, meet, everyVersion}
 use Rattle.refusal.specs.Refusal.{firstRefusal}
+use Rattle.graph.specs.declared.Console.{Console}
+use Rattle.command.specs.declared.Command.the-variants.{Entry}
+use Rattle.command.specs.declared.Decoded.the-variants.{Whole}
 use Rattle.command.specs.Code.{consoleCount, shapeOf, lengthOf, numberAt, operandsOf, isOperand, kindOf}
 use Rattle.command.specs.Decode.{commandRefusal, decode, commandBytes}
 use Rattle.room.specs.Room.{common}
@@ -14,11 +17,13 @@ use Rattle.room.specs.Boards.{boardMade, boardOf}
 use Rattle.room.specs.Origin.{originOf, origin}
 use Rattle.room.specs.Sound.{headsMeet, allBehindHeads, canMakeHub, soundRoom}
 use Rattle.room.specs.Step.{stateTests, stepRefusal, step, clashCount}
-use Rattle.room.specs.Unseen.{none, same, unseen, RoomsAgree}
+use Rattle.room.specs.Unseen.{isUnseen, none, same, unseen, RoomsAgree}
 use Rattle.room.specs.Mergeable.{pairNumber, firstPair, headsAgree, mergeable}
 use Rattle.room.specs.Gathering.{hubTakes, hubGives, afterAll, forEach, gathering}
 use Rattle.store.specs.Layout.{holdsStore}
-use Rattle.unit.specs.Calls.{originReply, viewPart, viewAtReply, viewRefusalReply, mergeableReply, paneOutcome, stepOutcome, commandOutcome, resumed, resumeOutcome}
+use Rattle.unit.specs.Calls.{command, originReply, viewPart, viewAtReply, viewRefusalReply, mergeableReply, paneOutcome, stepOutcome, commandOutcome, resumed, resumeOutcome}
+use Rattle.unit.specs.Secrecy.{EntersUnseen, entries, ListsAgree, next}
+use Rattle.unit.specs.Secrecy as calls
 use Rattle.tape.specs.Record.{recordFrom, recordIn}
 use Rattle.tape.specs.Tape.{versionRecords, headRecords, tapeOf, afterRecord, readOn, contentOf, headSlots, consolesRise, headsNamed}
 use Rattle.cases.specs.Run.{Case, merge, forward, answerIn, countIn, roomAfter, made, replies, session}
@@ -98,3 +103,18 @@ pub sessions-agree : RoomsAgree (after session₁) (after session₂)
 unfolding everyBelow someBelow highestBelow ancestor isMeet meet firstRefusal shapeOf lengthOf numberAt operandsOf isOperand kindOf commandRefusal decode common stateTests stepRefusal step answerIn roomAfter made
 sessions-agree =
     record { versions = same _ (unseen 3 _ _ refl refl (unseen 3 _ _ refl refl (unseen 2 _ _ refl refl (same _ (same _ none))))); heads = refl }
+
+-- and so do their commands, call by call
+enters : {console : Console} {bytes : List ℕ} (code k x : ℕ) → decode bytes ≡ Whole (Entry console code (record { 0 = k }) x) → isUnseen code x ≡ true
+    → EntersUnseen console bytes
+enters code k x decoded unseen = record { code = code; strip = record { 0 = k }; operand = x; decoded = decoded; unseen = unseen }
+
+pub commands-agree : ListsAgree (map command session₁) (map command session₂)
+unfolding firstRefusal shapeOf lengthOf numberAt operandsOf isOperand kindOf commandRefusal decode
+commands-agree =
+    next (calls.same _)
+    (next (calls.same _)
+    (next (entries (enters 0x06 5 0 refl refl) (enters 0x08 9 0 refl refl))
+    (next (calls.same _)
+    (next (entries (enters 0x07 5 0 refl refl) (enters 0x05 7 15 refl refl))
+    (next (entries (enters 0x04 6 8 refl refl) (enters 0x06 31 0 refl refl)) (next (calls.same _) calls.none))))))

@@ -2,7 +2,7 @@
 use Prim.Native.Nat.{ℕ, _≤_, _<_}
 use mathlib.Core.Path.{_≡_}
 use mathlib.Core.Bool.{true}
-use mathlib.Core.List.{List, [], _∷_, _++_, map}
+use mathlib.Core.List.{List, _++_, map}
 use mathlib.Core.Option.{Option, none, some}
 use lib.ListN.{length}
 use Rattle.board.specs.Board.{stripCount, cellCount, cellOf}
@@ -14,17 +14,12 @@ use Rattle.room.specs.Mergeable.{mergeable}
 use Rattle.store.specs.Layout.{encode}
 use Rattle.tape.specs.Tape.{tapeOf}
 use Rattle.unit.specs.declared.Reply.{Reply}
-use Rattle.unit.specs.Calls.{Call, command, replied, written, pauseOutcome, commonReply, originReply, mergeableReply, paneOutcome, replyTo, storeAfter}
+use Rattle.unit.specs.Calls.{command, replied, written, pauseOutcome, commonReply, originReply, mergeableReply, paneOutcome, repliesTo}
 use Rattle.unit.specs.View.{viewOf}
 use Rattle.unit.specs.Journal.{Journal}
 use Rattle.unit.specs.Convergence.{afterCalls}
 use Rattle.cases.specs.Run.{made, replies}
 use Rattle.cases.specs.Requests.{viewIn, paneIn}
-
--- the replies to these calls on a store, one after the other
-unfoldable pub repliesTo : List ℕ → List Call → List Reply
-repliesTo store [] = []
-repliesTo store (c ∷ calls) = replyTo store c ∷ repliesTo (storeAfter store c) calls
 
 -- how a head is told: the common version of a console with itself
 abbrev pub headReply : Option ℕ → Reply

@@ -21,7 +21,7 @@ use Rattle.unit.specs.declared.Reply.{Reply}
 use Rattle.tape.specs.Tape.{tapeOf}
 use Rattle.unit.specs.Calls.{Outcome, written, tooShort, boardShown, commandOutcome, resumeOutcome, originReply, mergeableReply, paneOutcome}
 use Rattle.unit.specs.View.{View, viewOf, refusedView, shownView}
-use Rattle.cases.specs.Run.{Case, _gives_, fork, level, heading, mark, unmark, call, alert, calm, merge, forward, leave, hub, made, answers, counts, nowhere, on, headsShown, session}
+use Rattle.cases.specs.Run.{Case, _gives_, fork, level, heading, mark, unmark, call, alert, quiet, merge, forward, leave, hub, made, answers, counts, nowhere, on, headsShown, session}
 use Rattle.cases.specs.Starred.{crossed, stuck}
 
 -- One: the origin of a cell, and the value shown there
@@ -293,7 +293,7 @@ abbrev pub session₁ : List (List ℕ)
 session₁ = level 0 5 100 ∷ mark 0 5 3 ∷ call 0 5 ∷ fork 1 0 ∷ alert 1 5 ∷ mark 0 6 8 ∷ merge 0 1 ∷ []
 
 abbrev pub session₂ : List (List ℕ)
-session₂ = level 0 5 100 ∷ mark 0 5 3 ∷ calm 0 9 ∷ fork 1 0 ∷ unmark 1 7 15 ∷ call 0 31 ∷ merge 0 1 ∷ []
+session₂ = level 0 5 100 ∷ mark 0 5 3 ∷ quiet 0 9 ∷ fork 1 0 ∷ unmark 1 7 15 ∷ call 0 31 ∷ merge 0 1 ∷ []
 
 -- what a student is shown in both: level 100 and mark 3 of strip 5
 abbrev pub seenInBoth : List ℕ

@@ -44,8 +44,8 @@ call c k = 0x06 ∷ c ∷ k ∷ []
 abbrev pub alert : ℕ → ℕ → List ℕ
 alert c k = 0x07 ∷ c ∷ k ∷ []
 
-abbrev pub calm : ℕ → ℕ → List ℕ
-calm c k = 0x08 ∷ c ∷ k ∷ []
+abbrev pub quiet : ℕ → ℕ → List ℕ
+quiet c k = 0x08 ∷ c ∷ k ∷ []
 
 abbrev pub merge : ℕ → ℕ → List ℕ
 merge receiver giver = 0x09 ∷ receiver ∷ giver ∷ []

@@ -1,6 +1,6 @@
 -- Graphs that agree but for what a student does not see have the same ancestors and bases, and show a student the same.
 -- Assumes nothing.
-use Prim.Native.Nat.{ℕ, suc, _≤_, _<_}
+use Prim.Native.Nat.{ℕ, suc, _≤_}
 use mathlib.Core.Path.{_≡_, refl, sym, _∙_, ap, subst}
 use mathlib.Core.Bool.{Bool, true, false, cond, not, _&&_, _||_}
 use mathlib.Core.List.{List, [], _∷_}
@@ -13,8 +13,8 @@ use lib.ListN.{length, getD, set}
 use Rattle.laws.proofs.Logic.{clash, and-l, and-r, and-i, or-split}
 use Rattle.board.specs.declared.Cell.{Cell}
 use Rattle.board.specs.declared.Cell.the-variants.{Level, Heading}
-use Rattle.board.specs.Board.{boardSize, markCount, markBit, enter, writingCode, markPutEntry, markTakenEntry, callEntry, alertOffEntry}
-use Rattle.board.specs.Pane.{firstUnseenMark, seenMarks, studentPane}
+use Rattle.board.specs.Board.{markBit, writingCode, markPutEntry, markTakenEntry, callEntry}
+use Rattle.board.specs.Pane.{seenMarks, studentPane}
 use Rattle.board.proofs.Marks.{unseen-bit}
 use Rattle.board.proofs.Seen.{Alike, alike-same, alike-back, alike-through, pane-alike, alike-merged, alike-entered, alike-unseen}
 use Rattle.graph.specs.Below.{everyBelow, highestBelow}
@@ -30,15 +30,15 @@ use Rattle.command.proofs.Limits.{within-true}
 use Rattle.room.specs.Room.{Room, head}
 use Rattle.room.specs.Boards.{boardMade, boardOf}
 use Rattle.room.specs.Step.{moved, grown, step}
-use Rattle.room.specs.Unseen.{isCallOrAlert, isUnseenMark, isUnseen, isUnseenOn, Agree, same, unseen, RoomsAgree}
+use Rattle.room.specs.Unseen.{isCallOrAlert, isUnseenMark, isUnseen, isUnseenOn, GraphsAgree, same, unseen, RoomsAgree}
 use Rattle.room.specs.Unseen as agree
 use Rattle.room.proofs.Lengths.{boardOf-length}
 
-pub agree-same : (g : Graph) → Agree g g
+pub agree-same : (g : Graph) → GraphsAgree g g
 agree-same [] = agree.none
 agree-same (n ∷ g) = same n (agree-same g)
 
-pub same-length : {g h : Graph} → Agree g h → length g ≡ length h
+pub same-length : {g h : Graph} → GraphsAgree g h → length g ≡ length h
 same-length agree.none = refl
 same-length (same n a) = ap suc (same-length a)
 same-length (unseen parent m n p q a) = ap suc (same-length a)
@@ -49,7 +49,7 @@ unseen-parent f parent (node.Entry p code strip operand) u = ap f (eqb-true (p .
 unseen-parent f parent (node.Merge p q) u = clash u refl
 
 -- "Ancestors, bases and heads do not depend on what an entry says."
-same-ancestors : {g h : Graph} → Agree g h → (u v : ℕ) → ancestor g u v ≡ ancestor h u v
+same-ancestors : {g h : Graph} → GraphsAgree g h → (u v : ℕ) → ancestor g u v ≡ ancestor h u v
 unfolding ancestor
 same-ancestors agree.none u v = refl
 same-ancestors (same n a) u v =
@@ -59,7 +59,7 @@ same-ancestors (unseen {g} {h} parent m n p q a) u v =
     unseen-parent (ancestor g u) parent m p ∙ same-ancestors a u parent ∙ sym (unseen-parent (ancestor h u) parent n q) in
     λ i. cond (eqb v (suc (same-length a i))) (eqb u v || parents i) (same-ancestors a u v i)
 
-same-base : {g h : Graph} → Agree g h → (p q : ℕ) → baseOf g p q ≡ baseOf h p q
+same-base : {g h : Graph} → GraphsAgree g h → (p q : ℕ) → baseOf g p q ≡ baseOf h p q
 unfolding meet isMeet
 same-base a p q = λ i.
     let leads : ℕ → ℕ → Bool = λ u v. same-ancestors a u v i in
@@ -101,7 +101,7 @@ unseen-made g parent (node.Entry p code strip x) u =
 unseen-made g parent (node.Merge p q) u = clash u refl
 
 -- boards made of boards that are alike
-made-alike : {g h : Graph} → Agree g h → ((v : ℕ) → Alike (boardOf g v) (boardOf h v)) → (n : Node)
+made-alike : {g h : Graph} → GraphsAgree g h → ((v : ℕ) → Alike (boardOf g v) (boardOf h v)) → (n : Node)
     → Alike (boardMade (boardOf g) (baseOf g) n) (boardMade (boardOf h) (baseOf h) n)
 unfolding boardMade
 made-alike {g} {h} a older (node.Entry p code strip x) =
@@ -115,7 +115,7 @@ choice-alike true a b = a
 choice-alike false a b = b
 
 -- the board of each version, in two graphs that agree
-boards-alike : {g h : Graph} → Agree g h → (v : ℕ) → Alike (boardOf g v) (boardOf h v)
+boards-alike : {g h : Graph} → GraphsAgree g h → (v : ℕ) → Alike (boardOf g v) (boardOf h v)
 unfolding boardOf
 boards-alike agree.none v = alike-same _
 boards-alike (same {g} {h} n a) v =
@@ -125,7 +125,7 @@ boards-alike (unseen {g} {h} parent m n p q a) v =
     (choice-alike (eqb v (versionCount h))
     (alike-through (unseen-made g parent m p) (alike-through (boards-alike a parent) (alike-back (unseen-made h parent n q)))) (boards-alike a v))
 
-pub same-panes : {g h : Graph} → Agree g h → (v : ℕ) → studentPane (boardOf g v) ≡ studentPane (boardOf h v)
+pub same-panes : {g h : Graph} → GraphsAgree g h → (v : ℕ) → studentPane (boardOf g v) ≡ studentPane (boardOf h v)
 same-panes a v = pane-alike (boards-alike a v)
 
 -- rooms that agree, and what commands make of them
@@ -143,12 +143,12 @@ module _ {r s : Room} (a : RoomsAgree r s) where
   moved-agree c e = record { versions = a .versions; heads = λ i. set (a .heads i) c (e i) }
 
   -- the same version, made on heads
-  same-made : (made : (ℕ → ℕ) → Node) → Agree (made (head r) ∷ r .versions) (made (head s) ∷ s .versions)
+  same-made : (made : (ℕ → ℕ) → Node) → GraphsAgree (made (head r) ∷ r .versions) (made (head s) ∷ s .versions)
   same-made made =
-      subst (λ (heads : List (Option ℕ)). Agree (made (λ c. Option·getD (getD heads c none) 0) ∷ r .versions) (made (head s) ∷ s .versions)) (sym (a .heads))
+      subst (λ (heads : List (Option ℕ)). GraphsAgree (made (λ c. Option·getD (getD heads c none) 0) ∷ r .versions) (made (head s) ∷ s .versions)) (sym (a .heads))
       (same (made (head s)) (a .versions))
 
-  grown-agree : (c : ℕ) {m n : Node} → Agree (m ∷ r .versions) (n ∷ s .versions) → RoomsAgree (grown r c m) (grown s c n)
+  grown-agree : (c : ℕ) {m n : Node} → GraphsAgree (m ∷ r .versions) (n ∷ s .versions) → RoomsAgree (grown r c m) (grown s c n)
   grown-agree c more = record { versions = more; heads = λ i. set (a .heads i) c (some (suc (same-length (a .versions) i))) }
 
   -- an entry each that a student does not see, on the same console

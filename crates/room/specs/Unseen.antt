@@ -32,12 +32,12 @@ isUnseenOn parent (Merge p q) = false
 
 -- Two graphs agree but for what a student does not see: they have as many versions, and each version is the same in both, or is in both such an entry on
 -- the same parent. Code, strip and operand may differ, also from one of these kinds to another.
-pub data Agree : Graph → Graph → Type 0 where
-  none : Agree [] []
-  same : {g h : Graph} (n : Node) → Agree g h → Agree (n ∷ g) (n ∷ h)
-  unseen : {g h : Graph} (parent : ℕ) (m n : Node) → isUnseenOn parent m ≡ true → isUnseenOn parent n ≡ true → Agree g h → Agree (m ∷ g) (n ∷ h)
+pub data GraphsAgree : Graph → Graph → Type 0 where
+  none : GraphsAgree [] []
+  same : {g h : Graph} (n : Node) → GraphsAgree g h → GraphsAgree (n ∷ g) (n ∷ h)
+  unseen : {g h : Graph} (parent : ℕ) (m n : Node) → isUnseenOn parent m ≡ true → isUnseenOn parent n ≡ true → GraphsAgree g h → GraphsAgree (m ∷ g) (n ∷ h)
 
 -- two rooms agree so: their versions do, and each console has the same head in both, or is absent from both; capacity and hub may differ
 pub record RoomsAgree (r s : Room) : Type 0 where
-  pub versions : Agree (r .versions) (s .versions)
+  pub versions : GraphsAgree (r .versions) (s .versions)
   pub heads : r .heads ≡ s .heads

@@ -111,9 +111,9 @@ pair-state-sole s c = rw (or-same (absent (roomIn s) c))
 pub pair-sole : (s : List ℕ) (c : ℕ) → firstRefusal (pairTests s c c) ≡ firstRefusal (consoleTests s c)
 pair-sole s c = rw (or-same (not (isConsole c)), or-same (absent (roomIn s) c))
 
-pub board-allowed : (s : List ℕ) (c : ℕ) (output : List ℕ) {n : ℕ} → n ≡ firstRefusal (bufferTests (consoleTests s c) output boardSize) → n ≡ 0
+pub pane-allowed : (s : List ℕ) (c : ℕ) (output : List ℕ) {n : ℕ} → n ≡ firstRefusal (bufferTests (consoleTests s c) output boardSize) → n ≡ 0
     → Allowed s c c × (boardSize ≤ length output)
-board-allowed s c output e z =
+pane-allowed s c output e z =
     let n = buffer-allowed (consoleTests s c) output boardSize refl (sym e ∙ z) in
     (pair-allowed s c c refl (pair-sole s c ∙ n .0), n .1)
 

@@ -40,11 +40,11 @@ use Rattle.store.proofs.RoundTrip.{encode-length, room-over, holds-over, holds-
 use Rattle.store.proofs.Whole.{whole-sound}
 use Rattle.update.proofs.HubStore.{hub-store}
 use Rattle.unit.specs.declared.Reply.{Reply}
-use Rattle.unit.specs.Calls.{Outcome, Call, opening, command, resume, question, replied, written, commandTests, stepOutcome, commandOutcome, commonReply, mergeableReply, pauseOutcome, resumeOutcome, replyTo, storeAfter, storeAfterAll}
+use Rattle.unit.specs.Calls.{Outcome, Call, opening, command, resume, question, replied, written, commandTests, stepOutcome, commandOutcome, commonReply, mergeableReply, pauseOutcome, pausedTape, resumeOutcome, replyTo, storeAfter, storeAfterAll}
 use Rattle.unit.specs.Journal.{Journal, afterCommand, afterAccepted, feed}
 use Rattle.unit.specs.Mergeable.{answerFor, headReply}
 use Rattle.unit.specs.Convergence.{begins, afterCalls}
-use Rattle.unit.specs.Hub.{hubBytes, hubOutcome, hasHub, allAnswered, noneBegins, asCalls, gatherCalls, Gathered, pausedTape, MayMakeHub, MakingHub}
+use Rattle.unit.specs.Hub.{hubBytes, hubOutcome, hasHub, allAnswered, noneBegins, asCalls, gatherCalls, Gathered, MayMakeHub, MakingHub}
 use Rattle.unit.proofs.Answered.{Allowed, pair-answered, pair-told}
 use Rattle.unit.proofs.Commanded.{held-refused, answered-by, carried-out, carried}
 use Rattle.unit.proofs.Mergeable.{told, one-head, agree-said}

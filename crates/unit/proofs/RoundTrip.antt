@@ -20,7 +20,7 @@ use Rattle.tape.specs.Tape.{Content, contentOf, contentTests, contentRefusal, r
 use Rattle.buffer.proofs.Parts.{Bytes}
 use Rattle.tape.proofs.Accepted.{Accepted, accepted, accepts}
 use Rattle.tape.proofs.RoundTrip.{contentFrom, tape-content, tape-room, tape-accepted, tape-forth}
-use Rattle.unit.specs.Calls.{replied, written, roomTests, pauseOutcome, resumeTests, resumed, resumeOutcome}
+use Rattle.unit.specs.Calls.{replied, written, roomTests, pauseOutcome, pausedTape, resumeTests, resumed, resumeOutcome}
 use Rattle.unit.proofs.Answered.{buffer-fits, buffer-allowed}
 
 -- a pause that is not refused, of a store whose tape is known
@@ -36,6 +36,14 @@ unfolding pauseOutcome
 pause-allowed store output h =
     let n = buffer-allowed (roomTests store) output (length (tapeOf (roomIn store))) refl h in
     (not-false (holdsStore store) (none-applies _ refl (n .0) .0), n .1)
+
+-- and what it wrote: the tape of the store
+pub paused-tape : (store output : List ℕ) → pauseOutcome store output .reply .answer ≡ 0
+    → (holdsStore store ≡ true) × (pausedTape store output ≡ tapeOf (roomIn store))
+paused-tape store output h =
+    let a = pause-allowed store output h in
+    let tape = tapeOf (roomIn store) in
+    (a .0, rw (pause-done store output tape (a .0) refl (a .1)) (take-append-seam tape (drop (length tape) output)))
 
 -- the tests of resume on what a tape says
 module _ (t : Content) (store : List ℕ) where
@@ -88,9 +96,6 @@ module _ (store : List ℕ) (held : holdsStore store ≡ true) (buffer : List �
       rw (tape-content r s, resume-none t buffer (accepted t (tape-accepted r s)) fits) (λ i. record { reply = replied 0 0; buffer = over i })
 
 pub paused-resumes : (store output buffer : List ℕ) → pauseOutcome store output .reply .answer ≡ 0 → sizeOf store ≤ length buffer
-    → resumeOutcome (take (pauseOutcome store output .reply .count) (pauseOutcome store output .buffer)) buffer
+    → resumeOutcome (pausedTape store output) buffer
     ≡ record { reply = replied 0 0; buffer = take (sizeOf store) store ++ drop (sizeOf store) buffer }
-paused-resumes store output buffer h fits =
-    let a = pause-allowed store output h in
-    let tape = tapeOf (roomIn store) in
-    rw (pause-done store output tape (a .0) refl (a .1), take-append-seam tape (drop (length tape) output)) (tape-resumes store (a .0) buffer fits)
+paused-resumes store output buffer h fits = let p = paused-tape store output h in rw (p .1) (tape-resumes store (p .0) buffer fits)

@@ -9,13 +9,11 @@ use mathlib.Core.Option.{Option, none, some}
 use native.Mathlib.Omega.{arith}
 use borrow.Author.Tests.{eqb-true, not-false}
 use lib.Dec.{eqb}
-use lib.ListN.{getD, drop, length}
-use lib.Seq.{take-append-seam}
+use lib.ListN.{getD, drop}
 use Rattle.laws.proofs.Logic.{clash, decide}
 use Rattle.buffer.specs.Field.{overwrite}
 use Rattle.board.specs.declared.Viewer.the-variants.{Student}
 use Rattle.board.specs.Board.{boardSize}
-use Rattle.board.specs.Pane.{studentPane}
 use Rattle.graph.specs.declared.Console.{Console}
 use Rattle.graph.specs.Graph.{isSome}
 use Rattle.refusal.specs.Refusal.{_when_, firstRefusal}
@@ -34,15 +32,14 @@ use Rattle.room.proofs.Steps.{step-sound, fresh-sound}
 use Rattle.room.proofs.Unseen.{same-panes, rooms-same, same-shown, entries-agree, step-agree}
 use Rattle.store.specs.Layout.{encode, roomIn, holdsStore}
 use Rattle.store.proofs.RoundTrip.{room-over, holds-over, holds-sound}
-use Rattle.tape.specs.Tape.{Content, contentOf, roomOf, tapeOf}
+use Rattle.tape.specs.Tape.{Content, contentOf, roomOf}
 use Rattle.tape.proofs.RoundTrip.{contentFrom, tape-content, tape-room}
-use Rattle.unit.specs.Calls.{Call, opening, command, resume, question, written, bufferTests, openTests, commandTests, resumeTests, boardShown, openOutcome, stepOutcome, commandOutcome, resumed, resumeOutcome, paneOutcome, pauseOutcome, replyTo, storeAfter, storeAfterAll, answersTo}
+use Rattle.unit.specs.Calls.{Call, opening, command, resume, question, written, bufferTests, openTests, resumeTests, openOutcome, stepOutcome, commandOutcome, resumed, resumeOutcome, paneOutcome, pauseOutcome, pausedTape, replyTo, storeAfter, storeAfterAll, repliesTo, answersOf}
 use Rattle.unit.specs.Convergence.{begins}
-use Rattle.unit.specs.Hub.{pausedTape}
 use Rattle.unit.specs.Secrecy.{EntersUnseen, TapesAgree, CallsAgree, same, entries, tapes, questions, ListsAgree, next, StoresAgree, KeptFromStudents}
 use Rattle.unit.specs.Secrecy as lists
 use Rattle.unit.proofs.Commanded.{held-refused}
-use Rattle.unit.proofs.RoundTrip.{pause-done, pause-allowed}
+use Rattle.unit.proofs.RoundTrip.{paused-tape}
 
 -- what the call shows of two stores that agree; where neither buffer holds one, both give 3 or 11
 module _ (store other : List ℕ) (a : StoresAgree store other) (console : ℕ) (output : List ℕ) where
@@ -51,13 +48,13 @@ module _ (store other : List ℕ) (a : StoresAgree store other) (console : ℕ) 
   held-same rooms = λ i.
       written
       (firstRefusal
-      (bufferTests (3 when not (isConsole console) ∷ 11 when not (a .alike i) ∷ 12 when not (isSome (getD (rooms .heads i) console none)) ∷ []) output boardSize))
+      (bufferTests (3 when not (isConsole console) ∷ 11 when not (a .held i) ∷ 12 when not (isSome (getD (rooms .heads i) console none)) ∷ []) output boardSize))
       boardSize (same-shown rooms console i) output
 
   none-held : holdsStore store ≡ false → paneOutcome Student store console output ≡ paneOutcome Student other console output
   unfolding paneOutcome firstRefusal
   none-held h =
-      let h′ : holdsStore other ≡ false = sym (a .alike) ∙ h in
+      let h′ : holdsStore other ≡ false = sym (a .held) ∙ h in
       elim (decide (isConsole console)) [ inl c ↦ rw (h, h′, c) | inr c ↦ rw c ]
 
   panes-same : paneOutcome Student store console output ≡ paneOutcome Student other console output
@@ -67,7 +64,7 @@ module _ (store other : List ℕ) (a : StoresAgree store other) (console : ℕ) 
 over-agree : (r s : Room) (store other : List ℕ) → soundRoom r ≡ true → soundRoom s ≡ true → RoomsAgree r s
     → StoresAgree (overwrite (encode r) store) (overwrite (encode s) other)
 over-agree r s store other p q a = record {
-  alike = holds-over r store p ∙ sym (holds-over s other q);
+  held = holds-over r store p ∙ sym (holds-over s other q);
   agree = λ _. rw (room-over r store p, room-over s other q) a;
 }
 
@@ -102,7 +99,7 @@ module _ {store other : List ℕ} (a : StoresAgree store other) where
       either-agree a e
       (λ h k.
       let held = not-false _ (none-given 11 _ _ (omega arith) h .0) in
-      let held′ = sym (a .alike) ∙ held in
+      let held′ = sym (a .held) ∙ held in
       over-agree (step (roomIn store) c) (step (roomIn other) d) store other
       (step-sound (roomIn store) c (holds-sound store held) (decode-range bytes c p) (sym (held-refused store c held) ∙ h))
       (step-sound (roomIn other) d (holds-sound other held′) (decode-range others d q) (sym (held-refused other d held′) ∙ k))
@@ -151,9 +148,9 @@ module _ {store other : List ℕ} (a : StoresAgree store other) where
   call-agree (tapes t) e = told-agree t e
   call-agree (questions p q) e = a
 
-calls-agree : {store other : List ℕ} {calls others : List Call} → StoresAgree store other → ListsAgree calls others → answersTo store calls ≡ answersTo other others
+calls-agree : {store other : List ℕ} {calls others : List Call} → StoresAgree store other → ListsAgree calls others → answersOf store calls ≡ answersOf other others
     → StoresAgree (storeAfterAll store calls) (storeAfterAll other others)
-unfolding storeAfterAll answersTo
+unfolding storeAfterAll repliesTo
 calls-agree a lists.none e = a
 calls-agree a (next c more) e = calls-agree (call-agree a c (ap (λ (l : List ℕ). getD l 0 0) e)) more (ap (drop 1) e)
 
@@ -187,12 +184,6 @@ begun-agree store other _ _ (tapes t) b h k = begun-told t store other h k
 begun-agree store other _ _ (questions p q) b h k = clash b refl
 
 -- the tapes of two pauses
-paused-tape : (store output : List ℕ) → pauseOutcome store output .reply .answer ≡ 0 → (holdsStore store ≡ true) × (pausedTape store output ≡ tapeOf (roomIn store))
-paused-tape store output h =
-    let a = pause-allowed store output h in
-    let tape = tapeOf (roomIn store) in
-    (a .0, rw (pause-done store output tape (a .0) refl (a .1)) (take-append-seam tape (drop (length tape) output)))
-
 paused-agree : (store other output lent : List ℕ) → StoresAgree store other → pauseOutcome store output .reply .answer ≡ 0
     → pauseOutcome other lent .reply .answer ≡ 0 → TapesAgree (pausedTape store output) (pausedTape other lent)
 paused-agree store other output lent a h k =
@@ -213,6 +204,7 @@ kept-from-students = record {
   versions = λ g h a v. same-panes a v;
   rooms = λ r s a console. same-shown a console;
   stores = panes-same;
+  itself = λ store. record { held = refl; agree = λ _. rooms-same (roomIn store) };
   calls = λ store other calls others a l e. calls-agree a l e;
   begun = begun-agree;
   paused = paused-agree;

@@ -4,10 +4,10 @@
 -- resume, and the stores of a question or a pause are lent for reading alone, so that nothing can change them.
 use Prim.Native.Nat.{ℕ}
 use mathlib.Core.Bool.{Bool, cond, not, _||_}
-use mathlib.Core.List.{List, [], _∷_, _++_}
+use mathlib.Core.List.{List, [], _∷_, _++_, map}
 use mathlib.Core.Option.{Option, none, some}
 use lib.Dec.{eqb, ltb}
-use lib.ListN.{length}
+use lib.ListN.{length, take}
 use Rattle.buffer.specs.Field.{overwrite, addressOf}
 use Rattle.board.specs.Board.{boardSize, cellOf}
 use Rattle.board.specs.declared.Viewer.{Viewer}
@@ -220,6 +220,10 @@ pauseOutcome store output =
     let tape : List ℕ = tapeOf (roomIn store) in
     outputOutcome (roomTests store) (length tape) tape output
 
+-- what a pause that answers 0 wrote, as many bytes as it counts
+abbrev pub pausedTape : List ℕ → List ℕ → List ℕ
+pausedTape store output = take (pauseOutcome store output .reply .count) (pauseOutcome store output .buffer)
+
 -- The other store of a view: it is the frozen one, and the store that is asked the live one, or the other way round. The same store twice is
 -- either, with that store's bytes.
 pub data Beside : Type 0 where
@@ -279,10 +283,13 @@ storeAfter store (command c) = (commandOutcome store c) .buffer
 storeAfter store (resume tape) = (resumeOutcome tape store) .buffer
 storeAfter store (question q) = store
 
--- what a list of calls, given one after the other, is answered: 0 or a refusal for each
-unfoldable pub answersTo : List ℕ → List Call → List ℕ
-answersTo store [] = []
-answersTo store (c ∷ calls) = replyTo store c .answer ∷ answersTo (storeAfter store c) calls
+-- the replies to a list of calls, given one after the other, and the answer in each
+unfoldable pub repliesTo : List ℕ → List Call → List Reply
+repliesTo store [] = []
+repliesTo store (c ∷ calls) = replyTo store c ∷ repliesTo (storeAfter store c) calls
+
+abbrev pub answersOf : List ℕ → List Call → List ℕ
+answersOf store calls = map (λ (r : Reply). r .answer) (repliesTo store calls)
 
 -- the store's buffer after the list: `afterCalls` of demand 3 without its journal
 unfoldable pub storeAfterAll : List ℕ → List Call → List ℕ

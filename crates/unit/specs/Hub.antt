@@ -6,7 +6,7 @@ use mathlib.Core.Logic.{_⊎_}
 use mathlib.Core.Bool.{Bool, true, not, _&&_}
 use mathlib.Core.List.{List, [], _∷_, map}
 use lib.Dec.{eqb}
-use lib.ListN.{length, take}
+use lib.ListN.{length}
 use Rattle.buffer.specs.Field.{putWord}
 use Rattle.graph.specs.Graph.{ancestor}
 use Rattle.command.specs.declared.Command.{Command}
@@ -15,7 +15,7 @@ use Rattle.command.specs.Decode.{commandBytes}
 use Rattle.room.specs.Mergeable.{stuck, allAgree, numberOf}
 use Rattle.room.specs.Gathering.{consolesIn, versionsFree, gathering}
 use Rattle.store.specs.Layout.{storeSize, hubAt, roomIn, holdsStore}
-use Rattle.unit.specs.Calls.{Outcome, Call, command, replied, replyTo, storeAfter, storeAfterAll, commandOutcome, commonReply, mergeableReply, pauseOutcome, resumeOutcome}
+use Rattle.unit.specs.Calls.{Outcome, Call, command, replied, replyTo, storeAfter, storeAfterAll, commandOutcome, commonReply, mergeableReply, pauseOutcome, pausedTape, resumeOutcome}
 use Rattle.unit.specs.Journal.{Journal, feed}
 use Rattle.unit.specs.Mergeable.{answerFor, headReply, OneHead}
 use Rattle.unit.specs.Convergence.{begins}
@@ -56,10 +56,6 @@ pub record Gathered (store : List ℕ) (after : List ℕ) : Type 0 where
   pub agree : mergeableReply after ≡ replied 0 (numberOf allAgree)
   -- each console that was here still is, and no other
   pub allHere : (c : ℕ) → headReply after c .answer ≡ headReply store c .answer
-
--- what a pause that answers 0 wrote, as many bytes as it counts
-abbrev pub pausedTape : List ℕ → List ℕ → List ℕ
-pausedTape store output = take (pauseOutcome store output .reply .count) (pauseOutcome store output .buffer)
 
 -- true of every store whose hub is console 0
 pub record ThroughHub (store : List ℕ) : Type 0 where

@@ -15,12 +15,11 @@ use Rattle.command.specs.declared.Decoded.the-variants.{Whole}
 use Rattle.command.specs.Decode.{decode}
 use Rattle.room.specs.Room.{Room}
 use Rattle.room.specs.Boards.{boardOf}
-use Rattle.room.specs.Unseen.{isUnseen, Agree, RoomsAgree}
+use Rattle.room.specs.Unseen.{isUnseen, GraphsAgree, RoomsAgree}
 use Rattle.store.specs.Layout.{roomIn, holdsStore}
 use Rattle.tape.specs.Tape.{Content, contentOf, roomOf}
-use Rattle.unit.specs.Calls.{Question, Call, command, resume, question, boardShown, paneOutcome, pauseOutcome, replyTo, storeAfter, storeAfterAll, answersTo}
+use Rattle.unit.specs.Calls.{Question, Call, command, resume, question, boardShown, paneOutcome, pauseOutcome, pausedTape, replyTo, storeAfter, storeAfterAll, answersOf}
 use Rattle.unit.specs.Convergence.{begins}
-use Rattle.unit.specs.Hub.{pausedTape}
 
 -- the bytes of a command are decoded to an entry on this console that a student does not see
 pub record EntersUnseen (console : Console) (bytes : List ℕ) : Type 0 where
@@ -53,22 +52,24 @@ pub data ListsAgree : List Call → List Call → Type 0 where
 
 -- two buffers: both hold sound stores, whose rooms agree, or neither does
 pub record StoresAgree (store other : List ℕ) : Type 0 where
-  pub alike : holdsStore store ≡ holdsStore other
+  pub held : holdsStore store ≡ holdsStore other
   pub agree : holdsStore store ≡ true → RoomsAgree (roomIn store) (roomIn other)
 
 -- the claim
 pub record KeptFromStudents : Type 0 where
   -- of graphs: the student's pane of each version
-  pub versions : (g h : Graph) → Agree g h → (v : ℕ) → studentPane (boardOf g v) ≡ studentPane (boardOf h v)
+  pub versions : (g h : Graph) → GraphsAgree g h → (v : ℕ) → studentPane (boardOf g v) ≡ studentPane (boardOf h v)
   -- of rooms: that of each console
   pub rooms : (r s : Room) → RoomsAgree r s → (console : ℕ) → studentPane (boardShown r console) ≡ studentPane (boardShown s console)
   -- of the exported call: its reply, and the lent pane to the byte
   pub stores : (store other : List ℕ) → StoresAgree store other
       → (console : ℕ) (output : List ℕ) → paneOutcome Student store console output ≡ paneOutcome Student other console output
+  -- two lists on one buffer begin so
+  pub itself : (store : List ℕ) → StoresAgree store store
   -- of lists of calls that were answered alike: they leave stores that agree, and so, by `stores`, panes that are the same
   pub calls : (store other : List ℕ) (calls others : List Call) → StoresAgree store other → ListsAgree calls others
-      → answersTo store calls ≡ answersTo other others → StoresAgree (storeAfterAll store calls) (storeAfterAll other others)
-  -- any two buffers agree after an opening, or a resume, that both answered with 0
+      → answersOf store calls ≡ answersOf other others → StoresAgree (storeAfterAll store calls) (storeAfterAll other others)
+  -- any two buffers agree after the same opening, or resumes of tapes that agree, which both answered with 0
   pub begun : (store other : List ℕ) (c d : Call) → CallsAgree c d → begins c ≡ true → replyTo store c .answer ≡ 0 → replyTo other d .answer ≡ 0
       → StoresAgree (storeAfter store c) (storeAfter other d)
   -- and the tapes of two stores that agree do

@@ -6,14 +6,14 @@ use mathlib.Core.Path.{_≡_}
 use mathlib.Core.Bool.{cond}
 use mathlib.Core.List.{List, []}
 use lib.Dec.{eqb}
-use lib.ListN.{length, take}
+use lib.ListN.{length}
 use Rattle.buffer.specs.Field.{part}
 use Rattle.board.specs.Board.{boardSize}
 use Rattle.command.specs.Code.{isConsole}
 use Rattle.room.specs.Room.{Room, head}
 use Rattle.store.specs.Layout.{storeSize, boardAt, roomIn}
 use Rattle.unit.specs.declared.Reply.{Reply}
-use Rattle.unit.specs.Calls.{replied, written, commonReply, boardShown, boardOutcome, viewPart, viewAtReply, viewRefusalReply, pauseOutcome, resumeOutcome}
+use Rattle.unit.specs.Calls.{replied, written, commonReply, boardShown, boardOutcome, viewPart, viewAtReply, viewRefusalReply, pauseOutcome, pausedTape, resumeOutcome}
 
 -- the part's bytes, and what the two questions with the same operands reply
 pub record View : Type 0 where
@@ -60,9 +60,7 @@ pub record Told (store : List ℕ) (console : ℕ) (view : View) : Type 0 where
 -- showed it, whatever the live store is by then
 abbrev pub AsPaused : Type 0
 AsPaused = (store output lent : List ℕ) → pauseOutcome store output .reply .answer ≡ 0 → storeSize (roomIn store .settings .capacity) ≤ length lent
-    → let paused = pauseOutcome store output in
-    let tape = take (paused .reply .count) (paused .buffer) in
-    let frozen = resumeOutcome tape lent .buffer in
+    → let frozen = resumeOutcome (pausedTape store output) lent .buffer in
     (live other : List ℕ) (console : ℕ) → viewOf live frozen console 1 ≡ viewOf store other console 0
 
 -- the claim

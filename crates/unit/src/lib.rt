@@ -5,6 +5,7 @@ pub mod opening;
 pub mod panes;
 pub mod pausing;
 pub mod questions;
+mod refusals;
 pub mod resuming;
 pub mod views;
 

@@ -3,7 +3,7 @@ use crate::Reply;
 use crate::answers::counted;
 use crate::answers::reply_of;
 use crate::answers::size;
-use crate::questions::pair_refusal;
+use crate::refusals::pair_refusal;
 use board::Viewer;
 use board::panes::show_board;
 use graph::Console;

@@ -4,6 +4,8 @@ use crate::Reply;
 use crate::answers::counted;
 use crate::answers::reply_of;
 use crate::answers::size;
+use crate::refusals::pair_refusal;
+use crate::refusals::pair_state_refusal;
 use board::values::cell_of;
 use command::numbers::is_cell;
 use command::numbers::is_console;
@@ -13,40 +15,14 @@ use graph::Strip;
 use query::common_of;
 use query::head_of;
 use query::heard_count;
-use query::is_present;
 use query::origin::origin_of;
 use refusal::first_of;
 use refusal::when;
 use step::mergeable::mergeable_pair;
 use store::judge::holds;
 ghost use mathlib.Core.Path.{_≡_};
-ghost use Prim.Native.Nat.{_<_};
 ghost use Rattle.refusal.specs.Refusal.{firstRefusal};
-ghost use Rattle.command.specs.Code.{consoleCount};
-ghost use Rattle.unit.specs.Calls.{pairStateTests, pairTests, originInputTests, originTests, heardReply, commonReply, originReply, mergeableReply};
-
-// Why these bytes can't be asked about two consoles, or 0.
-fn pair_state_refusal(store: &[u8], c: Console, d: Console) -> u32
-    requires { ⌜ (c .0 < consoleCount) × (d .0 < consoleCount) ⌝ }
-    ensures { λ r. ⌜ r ≡ firstRefusal (pairStateTests (now (store .entry)) (c .0) (d .0)) ⌝ }
-{
-    if !holds(store) {
-        return 11;
-    }
-    when(12, !is_present(store, c) | !is_present(store, d))
-}
-
-// Why two consoles of a store can't be asked about, or 0.
-pub fn pair_refusal(store: &[u8], first: u32, second: u32) -> u32
-    ensures { λ r. ⌜ r ≡ firstRefusal (pairTests (now (store .entry)) first second) ⌝ }
-{
-    let c = size(first);
-    let d = size(second);
-    if !is_console(c) | !is_console(d) {
-        return 3;
-    }
-    pair_state_refusal(store, Console(c), Console(d))
-}
+ghost use Rattle.unit.specs.Calls.{originInputTests, originTests, heardReply, commonReply, originReply, mergeableReply};
 
 // How many entries a console has heard.
 #[no_mangle]

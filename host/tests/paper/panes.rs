@@ -120,7 +120,8 @@ fn every_mark_alone() {
 /// Each entry that no student sees, alone on an empty board, and what an instructor sees of it.
 #[test]
 fn every_secret_alone() {
-    let secrets: [(&[u8], [u8; 12]); 4] = [
+    let secrets: [(&[u8], [u8; 12]); 5] = [
+        (&[0x04, 0, 2, 8], [0, 0, 0, 0, 1, 0, 0, 0, 0, 0, 0, 0]),
         (&[0x06, 0, 2], [0, 0, 0, 0, 0, 0, 0, 1, 0, 0, 0, 0]),
         (&[0x07, 0, 2], [0, 0, 0, 0, 0, 0, 0, 0, 0, 1, 1, 0]),
         (&[0x08, 0, 2], EMPTY),
@@ -177,7 +178,7 @@ fn all_strips() {
     assert_eq!(store.board(0), to_instructor);
 }
 
-/// Console 1 has marked strip 3 and console 2 has called on strip 4, and each pane shows its own console.
+/// Console 1 has marked strip 3 and console 15 has called on strip 4, and each pane shows its own console.
 #[test]
 fn each_console_has_its_own_panes() {
     let mut store = Store::open(8);

@@ -1,16 +1,16 @@
--- `board::panes::show_student` meets its contract. The invariant of its loop is `Made`: the first k strips are written.
+-- `board::panes::show_student` meets its contract. The invariant of its loop is `StripsMade`: the first k strips are written.
 -- Assumes nothing.
 use Prim.Native.Nat.{_-_}
 use native.Mathlib.Omega.{arith}
 use Rattle.board.specs.Board.{stripCount}
 use Rattle.board.specs.Pane.{studentStrip}
 use Rattle.board.proofs.Length.{studentStrip-length}
-use Rattle.board.proofs.Boards.{Made, made-start, made-step, made-finish}
+use Rattle.board.proofs.Boards.{StripsMade, made-start, made-step, made-finish}
 use Rattle.board.proofs.panes.show_student.Statement.{statement}
 use Rattle.board.proofs.panes.show_student.Tie as tie
 
 abbrev Inv-loop : tie.InvT-loop
-Inv-loop pane₀ board k₀ pane k = Made (studentStrip board) pane k
+Inv-loop pane₀ board k₀ pane k = StripsMade (studentStrip board) pane k
 
 abbrev μ-loop : tie.MeasureT-loop
 μ-loop pane₀ board k₀ pane k = stripCount - k

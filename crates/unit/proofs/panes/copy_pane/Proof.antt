@@ -10,7 +10,7 @@ use Rattle.room.specs.Room.{head}
 use Rattle.room.proofs.Lengths.{boardOf-length}
 use Rattle.store.specs.Layout.{roomIn}
 use Rattle.unit.specs.Calls.{boardShown, paneOutcome}
-use Rattle.unit.proofs.Answered.{written-refused, written-done, board-allowed}
+use Rattle.unit.proofs.Answered.{written-refused, written-done, pane-allowed}
 use Rattle.unit.proofs.panes.copy_pane.Statement.{statement}
 use Rattle.unit.proofs.panes.copy_pane.Tie as tie
 
@@ -25,30 +25,30 @@ returns c =
 head-of-requires : tie.Need-head-of-requires
 head-of-requires c κs =
     let a = c .before .before .before .before .before .before .args in
-    let p = board-allowed (a .store .now) (a .console) (a .pane .now) (c .before .before .pane-refusal .ensures) (omega arith) in
+    let p = pane-allowed (a .store .now) (a .console) (a .pane .now) (c .before .before .pane-refusal .ensures) (omega arith) in
     rw (c .size .ensures) (p .0 .held, p .0 .first)
 
 slice-relend-prefix-show-board : tie.Need-slice-relend-prefix-show-board
 slice-relend-prefix-show-board c =
     let a = c .before .before .before .before .before .before .before .args in
-    omega (arith, board-allowed (a .store .now) (a .console) (a .pane .now) (c .before .before .before .pane-refusal .ensures) (omega arith) .1)
+    omega (arith, pane-allowed (a .store .now) (a .console) (a .pane .now) (c .before .before .before .pane-refusal .ensures) (omega arith) .1)
 
 slice-aggregate-show-board : tie.Need-slice-aggregate-show-board
 slice-aggregate-show-board c =
     let a = c .before .before .before .before .before .before .before .before .args in
-    let p = board-allowed (a .store .now) (a .console) (a .pane .now) (c .before .before .before .before .pane-refusal .ensures) (omega arith) in
+    let p = pane-allowed (a .store .now) (a .console) (a .pane .now) (c .before .before .before .before .pane-refusal .ensures) (omega arith) in
     sym (length-take-le _ (a .pane .now) (omega (arith, p .1)))
 
 board-of-requires : tie.Need-board-of-requires
 board-of-requires c κs =
     let a = c .before .before .before .before .before .before .before .before .args in
-    let p = board-allowed (a .store .now) (a .console) (a .pane .now) (c .before .before .before .before .pane-refusal .ensures) (omega arith) in
+    let p = pane-allowed (a .store .now) (a .console) (a .pane .now) (c .before .before .before .before .pane-refusal .ensures) (omega arith) in
     (p .0 .held, omega (arith, c .before .head-of .ensures .1))
 
 show-board-requires : tie.Need-show-board-requires
 show-board-requires c κs =
     let a = c .before .before .before .before .before .before .before .before .before .args in
-    let p = board-allowed (a .store .now) (a .console) (a .pane .now) (c .before .before .before .before .before .pane-refusal .ensures) (omega arith) in
+    let p = pane-allowed (a .store .now) (a .console) (a .pane .now) (c .before .before .before .before .before .pane-refusal .ensures) (omega arith) in
     (length-take-le boardSize (a .pane .now) (p .1), c .board-of .ensures .1)
 
 returns-2 : tie.Need-returns-2

@@ -1,12 +1,12 @@
--- `unit::questions::pair_refusal` meets its contract.
+-- `unit::refusals::pair_refusal` meets its contract.
 -- Assumes nothing.
 use mathlib.Core.Bool.{not}
 use borrow.Author.Tests.{ltb-true, not-false}
 use Rattle.laws.proofs.Logic.{or-none-l, or-none-r}
 use Rattle.refusal.proofs.Refusals.{given-here, given-later}
 use Rattle.command.specs.Code.{consoleCount, isConsole}
-use Rattle.unit.proofs.questions.pair_refusal.Statement.{statement}
-use Rattle.unit.proofs.questions.pair_refusal.Tie as tie
+use Rattle.unit.proofs.refusals.pair_refusal.Statement.{statement}
+use Rattle.unit.proofs.refusals.pair_refusal.Tie as tie
 
 returns : tie.Need-returns
 returns c =

@@ -1,11 +1,11 @@
--- `unit::questions::pair_state_refusal` meets its contract.
+-- `unit::refusals::pair_state_refusal` meets its contract.
 -- Assumes nothing.
 use mathlib.Core.Path.{sym, _∙_}
 use native.Mathlib.Omega.{arith}
 use borrow.Author.Tests.{not-false}
 use Rattle.refusal.proofs.Refusals.{given-here, given-later}
-use Rattle.unit.proofs.questions.pair_state_refusal.Statement.{statement}
-use Rattle.unit.proofs.questions.pair_state_refusal.Tie as tie
+use Rattle.unit.proofs.refusals.pair_state_refusal.Statement.{statement}
+use Rattle.unit.proofs.refusals.pair_state_refusal.Tie as tie
 
 returns : tie.Need-returns
 returns c = given-here 11 _ _ (rw (c .before .holds .ensures) at (c .if1 .taken))
