@@ -1,6 +1,7 @@
 -- The theorems of the tables: what the definitions give is what the paper and the requests say, by computation.
 use Prim.Native.Nat.{ℕ}
 use mathlib.Core.Path.{_≡_, refl, ap}
+use mathlib.Core.Bool.{true}
 use mathlib.Core.List.{List, [], _∷_, map}
 use Rattle.board.specs.Board.{mergeFlag, mergeStrip, mergeStrips, enter}
 use Rattle.board.specs.Pane.{studentStrip, strips}
@@ -107,7 +108,7 @@ sessions-agree =
 -- and so do their commands, call by call
 enters : {console : Console} {bytes : List ℕ} (code k x : ℕ) → decode bytes ≡ Whole (Entry console code (record { 0 = k }) x) → isUnseen code x ≡ true
     → EntersUnseen console bytes
-enters code k x decoded unseen = record { code = code; strip = record { 0 = k }; operand = x; decoded = decoded; unseen = unseen }
+enters code k x told kind = record { code = code; strip = record { 0 = k }; operand = x; decoded = told; unseen = kind }
 
 pub commands-agree : ListsAgree (map command session₁) (map command session₂)
 unfolding firstRefusal shapeOf lengthOf numberAt operandsOf isOperand kindOf commandRefusal decode
