@@ -22,6 +22,20 @@ returns c =
     rw (c .reply-of .ensures)
     (written-refused boardSize (paneOf (a .viewer) (boardShown r (a .console))) (a .pane .now) (c .before .before .pane-refusal .ensures) (omega arith))
 
+returns-2 : tie.Need-returns-2
+unfolding paneOutcome
+returns-2 c =
+    let copied = c .before .before .before in
+    let named = copied .before .before .before in
+    let judged = named .before .before .before in
+    let a = judged .before .before .before .before .args in
+    let r = roomIn (a .store .now) in
+    let board = boardShown r (a .console) in
+    let shown = copied .show-board .ensures ∙ ap (paneOf (a .viewer)) (copied .before .board-of .ensures .0) in
+    rw (c .counted .ensures)
+    (written-done boardSize (paneOf (a .viewer) board) (a .pane .now) (judged .pane-refusal .ensures) (omega arith) refl
+    (rw (shown, rw (named .before .size .ensures) at (named .head-of .ensures .0), pane-length (a .viewer) board (boardOf-length (r .versions) (head r (a .console))))))
+
 head-of-requires : tie.Need-head-of-requires
 head-of-requires c κs =
     let a = c .before .before .before .before .before .before .args in
@@ -50,20 +64,6 @@ show-board-requires c κs =
     let a = c .before .before .before .before .before .before .before .before .before .args in
     let p = pane-allowed (a .store .now) (a .console) (a .pane .now) (c .before .before .before .before .before .pane-refusal .ensures) (omega arith) in
     (length-take-le boardSize (a .pane .now) (p .1), c .board-of .ensures .1)
-
-returns-2 : tie.Need-returns-2
-unfolding paneOutcome
-returns-2 c =
-    let copied = c .before .before .before in
-    let named = copied .before .before .before in
-    let judged = named .before .before .before in
-    let a = judged .before .before .before .before .args in
-    let r = roomIn (a .store .now) in
-    let board = boardShown r (a .console) in
-    let shown = copied .show-board .ensures ∙ ap (paneOf (a .viewer)) (copied .before .board-of .ensures .0) in
-    rw (c .counted .ensures)
-    (written-done boardSize (paneOf (a .viewer) board) (a .pane .now) (judged .pane-refusal .ensures) (omega arith) refl
-    (rw (shown, rw (named .before .size .ensures) at (named .head-of .ensures .0), pane-length (a .viewer) board (boardOf-length (r .versions) (head r (a .console))))))
 
 pub copy-pane-spec : {M : Type 1} → statement M
 copy-pane-spec =
