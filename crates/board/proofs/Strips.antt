@@ -58,7 +58,7 @@ module _ (l a b : List ℕ) where
     rw (bool-bit x, bool-bit y, e₁ .1, e₂ .1),
   )
 
--- all 16 bits of a field, those of marks 0 to 7, and none
+-- a field of which all 16 bits are seen is written as it stands
 all-seen : (w : ℕ) → word (bitAnd w 0xFFFF) ≡ word w
 all-seen w = rw (and-mask w 16) (ap₂ (λ (x y : ℕ). x ∷ y ∷ []) (omega arith) (omega arith))
 
