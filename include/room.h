@@ -6,7 +6,8 @@
  *   With a length of 0 the pointer may be NULL.
  * - A buffer that a call writes overlaps no other buffer of that call. The two stores of a view are only read, so they may overlap or be one.
  * - No other thread touches a lent buffer before the call has returned. The unit keeps no pointer and no state of its own.
- * - room_resume needs ROOM_RESUME_STACK bytes of stack, room_origin ROOM_ORIGIN_STACK bytes, any other call ROOM_STACK bytes.
+ * - room_resume needs ROOM_RESUME_STACK bytes of stack, room_origin ROOM_ORIGIN_STACK bytes, any other call ROOM_STACK bytes. musl gives a
+ *   thread 131,072 bytes unless told otherwise, too few for room_resume: there pthread_attr_setstacksize has to ask for more.
  * - A store stays where it is, and nobody writes it, as long as a pointer that room_view made into it is in use.
  * Nothing else: any bytes may stand in a lent buffer, and any number may be passed.
  *
@@ -22,15 +23,30 @@
 extern "C" {
 #endif
 
+/* The version of this header and of the archive it came with: 1 for the paper, 8 for the requests that have landed since. */
+#define ROOM_VERSION "1.8.0"
+#define ROOM_VERSION_MAJOR 1
+#define ROOM_VERSION_MINOR 8
+#define ROOM_VERSION_PATCH 0
+
+/* Every macro below but ROOM_VERSION is a number that #if can use too. */
+
 /* Sizes. A store of a capacity takes ROOM_STORE_BYTES(capacity) bytes at the front of its buffer; bytes behind it are never touched. */
 #define ROOM_CONSOLES 16
 #define ROOM_STRIPS 32
 #define ROOM_STRIP_BYTES 12
 #define ROOM_BOARD_BYTES 384
 #define ROOM_MAX_CAPACITY 1024
-#define ROOM_STORE_BYTES(capacity) ((size_t)4096 + (size_t)544 * (size_t)(capacity))
+#define ROOM_STORE_BYTES(capacity) (4096UL + 544UL * (capacity))
 /* The longest tape of a room of this capacity: its start, its versions, 16 heads, the byte 25 of a hub room and its end. */
-#define ROOM_TAPE_BYTES(capacity) ((size_t)7 * (size_t)(capacity) + (size_t)62)
+#define ROOM_TAPE_BYTES(capacity) (7UL * (capacity) + 62UL)
+
+/* The highest that is accepted. The lowest is 0, which stands for none given in a level and a heading. */
+#define ROOM_MAX_LEVEL 600
+#define ROOM_MAX_HEADING 360
+#define ROOM_MAX_MARK 15
+/* The longest command: 02 and 03. */
+#define ROOM_MAX_COMMAND_BYTES 5
 /* The most clashes of a merge: the level and the heading of every strip. */
 #define ROOM_MAX_CLASHES 64
 
@@ -63,9 +79,9 @@ enum room_pair_kind {
     ROOM_CAN_MERGE = 2,       /* the receiver can merge the giver */
     ROOM_CAN_FAST_FORWARD = 3 /* the receiver can fast-forward to the giver */
 };
-#define ROOM_KIND_OF(count) ((uint32_t)(count) / 256u)
-#define ROOM_RECEIVER_OF(count) ((uint32_t)(count) / 16u % 16u)
-#define ROOM_GIVER_OF(count) ((uint32_t)(count) % 16u)
+#define ROOM_KIND_OF(count) ((count) / 256u)
+#define ROOM_RECEIVER_OF(count) ((count) / 16u % 16u)
+#define ROOM_GIVER_OF(count) ((count) % 16u)
 
 /* Codes of commands, with the bytes that follow. ROOM_HUB makes the room a hub room for good: console 0 is its hub, one of the two in every
    merge and fast-forward, and the only one that is forked from. Given again it changes nothing. In a hub room of n consoles with n - 1
@@ -82,6 +98,15 @@ enum room_pair_kind {
 #define ROOM_FAST_FORWARD 0x0A /* receiver, giver */
 #define ROOM_LEAVE 0x0B        /* console */
 #define ROOM_HUB 0x0C          /* nothing */
+
+/* Codes of the records of a tape, with the bytes that follow, 16 bits with the high byte first: the start, a record for each version from 1
+   upward, one for each head, consoles rising, in a hub room the byte 25, the end. */
+#define ROOM_TAPE_START 0x20 /* capacity in 16 bits */
+#define ROOM_TAPE_ENTRY 0x21 /* parent in 16 bits, code 02 to 08, strip, operand in 16 bits: level, heading or mark, else 0 */
+#define ROOM_TAPE_MERGE 0x22 /* receiver's version, giver's version, in 16 bits each */
+#define ROOM_TAPE_HEAD 0x23  /* console, version in 16 bits */
+#define ROOM_TAPE_END 0x24   /* nothing */
+#define ROOM_TAPE_HUB 0x25   /* nothing */
 
 /* Refusals. Each call below names its own in the order of its tests, and the first that applies is given: that is the lowest, but a command
    tests 20 right after 6, and 22 right after 13. An ancestor of a version may be the version itself. */
@@ -111,6 +136,12 @@ enum room_refusal {
     ROOM_NOT_THROUGH_HUB = 22,    /* in a hub room: fork off another console than 0, merge or fast-forward of two others */
     ROOM_HUB_LACKS_COMMON = 23    /* hub: the common version of two consoles is no ancestor of console 0's head */
 };
+#define ROOM_MAX_REFUSAL 23
+
+/* What an answer means, in words, and its name above; of an answer above ROOM_MAX_REFUSAL that there is none. The strings stay as long as
+   the program runs. These two are C, in room_text.c, and not of the proved unit. */
+const char *room_refusal_text(uint32_t answer);
+const char *room_refusal_name(uint32_t answer);
 
 /* 0 or a refusal; and a question's number, the clashes of a merge, for room_pause, room_board and the two panes the bytes written, or for
    room_view_at where the board begins, else 0. */
