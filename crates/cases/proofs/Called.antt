@@ -37,8 +37,8 @@ use Rattle.tape.specs.Tape.{tapeOf}
 use Rattle.unit.specs.declared.Reply.{Reply}
 use Rattle.unit.specs.Calls.{Outcome, replied, written, openOutcome, stepOutcome, commandOutcome, pauseOutcome, commonReply, originReply, boardShown, viewPart, viewAtReply, viewRefusalReply, mergeableReply, paneOutcome, command, replyTo, storeAfter, repliesTo}
 use Rattle.unit.specs.View.{View, viewOf, refusedView}
-use Rattle.unit.specs.Journal.{Journal, feed}
-use Rattle.unit.specs.Convergence.{afterCalls}
+use Rattle.claims.specs.Journal.{Journal, feed}
+use Rattle.claims.specs.Convergence.{afterCalls}
 use Rattle.unit.proofs.Answered.{origin-answered}
 use Rattle.unit.proofs.Commanded.{held-refused}
 use Rattle.unit.proofs.RoundTrip.{pause-done}

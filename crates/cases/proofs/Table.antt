@@ -23,8 +23,8 @@ use Rattle.room.specs.Mergeable.{pairNumber, firstPair, headsAgree, mergeable}
 use Rattle.room.specs.Gathering.{hubTakes, hubGives, afterAll, forEach, gathering}
 use Rattle.store.specs.Layout.{holdsStore}
 use Rattle.unit.specs.Calls.{command, originReply, viewPart, viewAtReply, viewRefusalReply, mergeableReply, paneOutcome, stepOutcome, commandOutcome, resumed, resumeOutcome}
-use Rattle.unit.specs.Secrecy.{EntersUnseen, entries, ListsAgree, next}
-use Rattle.unit.specs.Secrecy as calls
+use Rattle.claims.specs.Secrecy.{EntersUnseen, entries, ListsAgree, next}
+use Rattle.claims.specs.Secrecy as calls
 use Rattle.tape.specs.Record.{recordFrom, recordIn}
 use Rattle.tape.specs.Tape.{versionRecords, headRecords, tapeOf, afterRecord, readOn, contentOf, headSlots, consolesRise, headsNamed}
 use Rattle.cases.specs.Run.{Case, merge, forward, answerIn, countIn, roomAfter, made, replies, session}

@@ -16,8 +16,8 @@ use Rattle.tape.specs.Tape.{tapeOf}
 use Rattle.unit.specs.declared.Reply.{Reply}
 use Rattle.unit.specs.Calls.{command, replied, written, pauseOutcome, commonReply, originReply, mergeableReply, paneOutcome, repliesTo}
 use Rattle.unit.specs.View.{viewOf}
-use Rattle.unit.specs.Journal.{Journal}
-use Rattle.unit.specs.Convergence.{afterCalls}
+use Rattle.claims.specs.Journal.{Journal}
+use Rattle.claims.specs.Convergence.{afterCalls}
 use Rattle.cases.specs.Run.{made, replies}
 use Rattle.cases.specs.Requests.{viewIn, paneIn}
 

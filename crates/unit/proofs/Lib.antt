@@ -1,15 +1,5 @@
 pub mod Answered
 pub mod Commanded
 pub mod Taken
-pub mod Reading
-pub mod Matched
-pub mod Absent
-pub mod Leaving
-pub mod Clashes
-pub mod Mergeable
-pub mod Convergence
-pub mod Traced
 pub mod RoundTrip
-pub mod Hub
 pub mod View
-pub mod Secrecy

@@ -1,11 +1,2 @@
 pub mod Calls
-pub mod Traced
 pub mod View
-pub mod Absent
-pub mod Journal
-pub mod Leaving
-pub mod Clashes
-pub mod Mergeable
-pub mod Convergence
-pub mod Hub
-pub mod Secrecy

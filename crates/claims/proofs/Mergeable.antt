@@ -24,11 +24,11 @@ use Rattle.room.proofs.Steps.{common-self}
 use Rattle.room.proofs.Mergeable.{eighteen-last, one-kind, merge-number, forward-number, neither-number, same-number, numbered-by, no-pair, none-paired, pair-first, pair-found, pair-answered, none-answered, agree-heads, heads-agree, other-head, agree-none}
 use Rattle.store.specs.Layout.{roomIn, holdsStore}
 use Rattle.store.proofs.Whole.{whole-sound}
 use Rattle.unit.specs.declared.Reply.{Reply}
 use Rattle.unit.specs.Calls.{replied, holdsNoStore, commonReply, mergeableReply}
-use Rattle.unit.specs.Mergeable.{answerFor, mergesIfFree, fastForwards, Neither, NeitherBefore, headReply, OneHead, Stuck, IsTrue, NamesConsoles, IsAccepted, Says, MergeableTold}
+use Rattle.claims.specs.Mergeable.{answerFor, mergesIfFree, fastForwards, Neither, NeitherBefore, headReply, OneHead, Stuck, IsTrue, NamesConsoles, IsAccepted, Says, MergeableTold}
 use Rattle.unit.proofs.Answered.{pair-allowed, pair-answered as common-answered}
 use Rattle.unit.proofs.Commanded.{answered-by}
 
 -- The tests of both commands before those of the room.
 abbrev consoles : ℕ → ℕ → Operands

@@ -15,11 +15,11 @@ use Rattle.room.proofs.Lengths.{boardOf-length}
 use Rattle.room.proofs.Origins.{origin-none, origin-heard, origin-wrote}
 use Rattle.store.specs.Layout.{roomIn}
 use Rattle.store.proofs.RoundTrip.{holds-sound}
 use Rattle.unit.specs.declared.Reply.{Reply}
 use Rattle.unit.specs.Calls.{replied, boardShown, originReply}
-use Rattle.unit.specs.Traced.{shownBy, OriginsTraced}
+use Rattle.claims.specs.Traced.{shownBy, OriginsTraced}
 use Rattle.unit.proofs.Answered.{Askable, origin-allowed}
-use Rattle.unit.proofs.Convergence.{board-shown}
+use Rattle.claims.proofs.Convergence.{board-shown}
 
 -- an accepted question counts the origin
 accepted : (store : List ℕ) (c k cell v : ℕ) → originReply store c k cell ≡ replied 0 v → Askable store c k cell × (v ≡ origin (roomIn store) c k (cellOf cell))

@@ -15,7 +15,7 @@ use Rattle.graph.specs.declared.Node.{Node}
 use Rattle.graph.specs.declared.Node.the-variants.{Entry, Merge}
 use Rattle.graph.specs.Graph.{Graph, versionCount, ancestor, nodeOf, isEntryNode, isEntry}
 use Rattle.room.proofs.Counters.{entryIs}
-use Rattle.unit.specs.Journal.{madeBy, leads, madeAs, wasEntered, callOf}
+use Rattle.claims.specs.Journal.{madeBy, leads, madeAs, wasEntered, callOf}
 
 pub leads-ancestor : (g : Graph) (u v : ℕ) → leads (map madeBy g) u v ≡ ancestor g u v
 unfolding leads ancestor

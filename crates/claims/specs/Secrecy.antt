@@ -18,8 +18,8 @@ use Rattle.room.specs.Boards.{boardOf}
 use Rattle.room.specs.Unseen.{isUnseen, GraphsAgree, RoomsAgree}
 use Rattle.store.specs.Layout.{roomIn, holdsStore}
 use Rattle.tape.specs.Tape.{Content, contentOf, roomOf}
 use Rattle.unit.specs.Calls.{Question, Call, command, resume, question, boardShown, paneOutcome, pauseOutcome, pausedTape, replyTo, storeAfter, storeAfterAll, answersOf}
-use Rattle.unit.specs.Convergence.{begins}
+use Rattle.claims.specs.Convergence.{begins}
 
 -- the bytes of a command are decoded to an entry on this console that a student does not see
 pub record EntersUnseen (console : Console) (bytes : List ℕ) : Type 0 where

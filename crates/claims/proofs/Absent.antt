@@ -19,10 +19,10 @@ use Rattle.room.proofs.Sound.{present-console}
 use Rattle.room.proofs.Accepted.{fork-accepts}
 use Rattle.store.specs.Layout.{roomIn, holdsStore}
 use Rattle.store.proofs.Whole.{whole-sound}
 use Rattle.unit.specs.Calls.{Outcome, replied, commandOutcome, paneOutcome, heardReply, commonReply, originReply, viewPart, viewAtReply, viewRefusalReply}
 use Rattle.unit.specs.View.{viewOf, refusedView}
-use Rattle.unit.specs.Absent.{Absent}
+use Rattle.claims.specs.Absent.{Absent}
 use Rattle.unit.proofs.Commanded.{carried-out}
 
 module _ (store : List ℕ) (held : holdsStore store ≡ true) (c : ℕ) (cl : c < consoleCount) (away : present (roomIn store) c ≡ false) where
   no-common : (d : ℕ) → d < consoleCount → (commonReply store c d ≡ replied 12 0) × (commonReply store d c ≡ replied 12 0)

@@ -12,9 +12,9 @@ use Rattle.board.specs.Board.{stripCount, boardSize, callsAt, cellCount, cellOf
 use Rattle.board.specs.declared.Viewer.{Viewer}
 use Rattle.command.specs.Code.{consoleCount}
 use Rattle.store.specs.Layout.{roomIn, holdsStore}
 use Rattle.unit.specs.Calls.{Call, opening, command, resume, question, replied, replyTo, storeAfter, paneOutcome, boardOutcome, heardReply, commonReply, originReply}
-use Rattle.unit.specs.Journal.{Journal, entered, isPresent, headNumber, feed, leads, madeAs, holds, hasHeard, commonTo, entriesHeard, callsHeard}
-use Rattle.unit.specs.Absent.{Absent}
+use Rattle.claims.specs.Journal.{Journal, entered, isPresent, headNumber, feed, leads, madeAs, holds, hasHeard, commonTo, entriesHeard, callsHeard}
+use Rattle.claims.specs.Absent.{Absent}
 
 -- the store and the journal after a list of calls
 unfoldable pub afterCalls : List ℕ → Journal → List Call → List ℕ × Journal

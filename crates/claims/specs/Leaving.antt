@@ -12,9 +12,9 @@ use Rattle.board.specs.declared.Viewer.{Viewer}
 use Rattle.graph.specs.Below.{someBelow}
 use Rattle.command.specs.Code.{consoleCount, mergeCommand, fastForwardCommand, leaveCommand}
 use Rattle.store.specs.Layout.{commonAt, holdsStore}
 use Rattle.unit.specs.Calls.{Outcome, replied, commandOutcome, paneOutcome, heardReply, commonReply, originReply, command}
-use Rattle.unit.specs.Absent.{Absent}
-use Rattle.unit.specs.Journal.{Journal, moveTo, feed}
+use Rattle.claims.specs.Absent.{Absent}
+use Rattle.claims.specs.Journal.{Journal, moveTo, feed}
 
 abbrev pub leaveBytes : ℕ → List ℕ
 leaveBytes c = leaveCommand ∷ c ∷ []

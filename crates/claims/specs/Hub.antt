@@ -15,10 +15,10 @@ use Rattle.command.specs.Decode.{commandBytes}
 use Rattle.room.specs.Mergeable.{stuck, allAgree, numberOf}
 use Rattle.room.specs.Gathering.{consolesIn, versionsFree, gathering}
 use Rattle.store.specs.Layout.{storeSize, hubAt, roomIn, holdsStore}
 use Rattle.unit.specs.Calls.{Outcome, Call, command, replied, replyTo, storeAfter, storeAfterAll, commandOutcome, commonReply, mergeableReply, pauseOutcome, pausedTape, resumeOutcome}
-use Rattle.unit.specs.Journal.{Journal, feed}
-use Rattle.unit.specs.Mergeable.{answerFor, headReply, OneHead}
-use Rattle.unit.specs.Convergence.{begins}
+use Rattle.claims.specs.Journal.{Journal, feed}
+use Rattle.claims.specs.Mergeable.{answerFor, headReply, OneHead}
+use Rattle.claims.specs.Convergence.{begins}
 
 abbrev pub hubBytes : List ℕ
 hubBytes = makeHubCommand ∷ []

@@ -34,12 +34,12 @@ use Rattle.store.specs.Layout.{encode, roomIn, holdsStore}
 use Rattle.store.proofs.RoundTrip.{room-over, holds-over, holds-sound}
 use Rattle.tape.specs.Tape.{Content, contentOf, roomOf}
 use Rattle.tape.proofs.RoundTrip.{contentFrom, tape-content, tape-room}
 use Rattle.unit.specs.Calls.{Call, opening, command, resume, question, written, bufferTests, openTests, resumeTests, openOutcome, stepOutcome, commandOutcome, resumed, resumeOutcome, paneOutcome, pauseOutcome, pausedTape, replyTo, storeAfter, storeAfterAll, repliesTo, answersOf}
-use Rattle.unit.specs.Convergence.{begins}
-use Rattle.unit.specs.Secrecy.{EntersUnseen, TapesAgree, CallsAgree, same, entries, tapes, questions, ListsAgree, next, StoresAgree, KeptFromStudents}
-use Rattle.unit.specs.Secrecy as lists
+use Rattle.claims.specs.Convergence.{begins}
+use Rattle.claims.specs.Secrecy.{EntersUnseen, TapesAgree, CallsAgree, same, entries, tapes, questions, ListsAgree, next, StoresAgree, KeptFromStudents}
+use Rattle.claims.specs.Secrecy as lists
 use Rattle.unit.proofs.Commanded.{held-refused}
 use Rattle.unit.proofs.RoundTrip.{paused-tape}
 
 -- what the call shows of two stores that agree; where neither buffer holds one, both give 3 or 11
 module _ (store other : List ℕ) (a : StoresAgree store other) (console : ℕ) (output : List ℕ) where

@@ -43,13 +43,13 @@ use Rattle.store.proofs.Whole.{whole-sound, whole-front}
 use Rattle.update.specs.Commons.{putOthers, putHead}
 use Rattle.update.proofs.CommonsTable.{table-length, table-kept}
 use Rattle.update.proofs.MovedStore.{left-store}
 use Rattle.unit.specs.declared.Reply.{Reply}
 use Rattle.unit.specs.Calls.{Outcome, replied, written, stepOutcome, commandOutcome, paneOutcome, heardReply, commonReply, originReply, command}
-use Rattle.unit.specs.Journal.{Journal, moveTo, afterCommand, afterAccepted, feed}
-use Rattle.unit.specs.Leaving.{leaveBytes, leaveOutcome, MayLeave, inField, inRowOrColumn, Gone, ConsolesLeave}
+use Rattle.claims.specs.Journal.{Journal, moveTo, afterCommand, afterAccepted, feed}
+use Rattle.claims.specs.Leaving.{leaveBytes, leaveOutcome, MayLeave, inField, inRowOrColumn, Gone, ConsolesLeave}
 use Rattle.unit.proofs.Commanded.{held-refused, carried-out, carried}
 use Rattle.unit.proofs.Answered.{Allowed, pair-allowed, pair-answered, pair-told}
-use Rattle.unit.proofs.Absent.{absent-console}
+use Rattle.claims.proofs.Absent.{absent-console}
 
 -- what is true where a leave is accepted
 record Accepted (store : List ℕ) (c : ℕ) : Type 0 where

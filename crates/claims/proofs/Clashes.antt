@@ -25,8 +25,8 @@ use Rattle.room.specs.Step.{clashCount}
 use Rattle.room.proofs.Clashes.{few-counted}
 use Rattle.store.specs.Layout.{roomIn}
 use Rattle.tape.specs.Tape.{Content, contentOf}
 use Rattle.unit.specs.Calls.{commandTests, stepOutcome, commandOutcome, resumeTests, resumed, resumeOutcome}
-use Rattle.unit.specs.Clashes.{clashesBetween, ClashesCounted}
+use Rattle.claims.specs.Clashes.{clashesBetween, ClashesCounted}
 
 -- only the command of a merge's code counts
 only-merges : (r : Room) (k : Kind) (code : ℕ) (o : Operands) → Says code k → (code ≡ mergeCommand → ⊥) → clashCount r (commandOf k code o) ≡ 0

@@ -27,10 +27,10 @@ use Rattle.room.proofs.Steps.{step-sound, fresh-sound}
 use Rattle.store.specs.Layout.{encode, roomIn, holdsStore}
 use Rattle.store.proofs.RoundTrip.{room-over, holds-over, holds-sound}
 use Rattle.tape.specs.Tape.{Content, contentOf, roomOf}
 use Rattle.unit.specs.Calls.{openOutcome, commandTests, stepOutcome, commandOutcome, resumeTests, resumed, resumeOutcome, Call, opening, command, resume, question, answerTo, replyTo, storeAfter}
-use Rattle.unit.specs.Journal.{Journal, madeBy, opened, afterCommand, afterTape, afterAccepted, feed}
-use Rattle.unit.specs.Convergence.{begins, afterCalls}
+use Rattle.claims.specs.Journal.{Journal, madeBy, opened, afterCommand, afterTape, afterAccepted, feed}
+use Rattle.claims.specs.Convergence.{begins, afterCalls}
 use Rattle.unit.proofs.Commanded.{held-refused}
 
 -- the journal of a room: its versions, each as it was made, and its heads
 abbrev pub journalOf : Room → Journal

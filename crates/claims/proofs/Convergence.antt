@@ -32,13 +32,13 @@ use Rattle.room.proofs.Lengths.{boardOf-length}
 use Rattle.store.specs.Layout.{roomIn, holdsStore}
 use Rattle.store.proofs.RoundTrip.{holds-sound}
 use Rattle.store.proofs.Whole.{whole-sound}
 use Rattle.unit.specs.Calls.{replied, written, boardShown, paneOutcome, boardOutcome, heardReply}
-use Rattle.unit.specs.Journal.{Journal, Made, entered, merged, madeBy, isPresent, headNumber, leads, madeAs, wasEntered, holds, hasHeard, entriesHeard, callOf, callsHeard}
-use Rattle.unit.specs.Convergence.{Common, Origin, Converged, Demand3}
-use Rattle.unit.proofs.Reading.{leads-ancestor, made-node, entered-entry, call-entry}
-use Rattle.unit.proofs.Matched.{journalOf, matched}
+use Rattle.claims.specs.Journal.{Journal, Made, entered, merged, madeBy, isPresent, headNumber, leads, madeAs, wasEntered, holds, hasHeard, entriesHeard, callOf, callsHeard}
+use Rattle.claims.specs.Convergence.{Common, Origin, Converged, Demand3}
+use Rattle.claims.proofs.Reading.{leads-ancestor, made-node, entered-entry, call-entry}
+use Rattle.claims.proofs.Matched.{journalOf, matched}
 use Rattle.unit.proofs.Answered.{Allowed, pair-answered, Askable, origin-answered}
-use Rattle.unit.proofs.Absent.{absent-console}
+use Rattle.claims.proofs.Absent.{absent-console}
 
 -- what the journal of a room says is what the room says
 holds-ancestor : (r : Room) (v e : ℕ) → holds (journalOf r) v e ≡ (isEntry (r .versions) e && ancestor (r .versions) e v)

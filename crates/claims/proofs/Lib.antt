@@ -1,0 +1,10 @@
+pub mod Reading
+pub mod Matched
+pub mod Absent
+pub mod Leaving
+pub mod Clashes
+pub mod Mergeable
+pub mod Convergence
+pub mod Traced
+pub mod Hub
+pub mod Secrecy

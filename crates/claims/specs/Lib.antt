@@ -1,0 +1,9 @@
+pub mod Traced
+pub mod Absent
+pub mod Journal
+pub mod Leaving
+pub mod Clashes
+pub mod Mergeable
+pub mod Convergence
+pub mod Hub
+pub mod Secrecy
