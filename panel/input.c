@@ -1,0 +1,148 @@
+/* Reads lines: with line editing and a history by readline or libedit, where the panel was built with one of them and both ends are a
+   terminal, else plainly. The parts of the panel that know its room are kept out: both libraries have a `read_history` of their own. */
+#define _XOPEN_SOURCE 700
+#include "input.h"
+
+#include <errno.h>
+#include <stdio.h>
+#include <stdlib.h>
+#include <string.h>
+#include <unistd.h>
+
+#include "outcome.h"
+#include "words.h"
+
+#if defined HAVE_READLINE
+#include <readline/history.h>
+#include <readline/readline.h>
+#elif defined HAVE_EDITLINE
+#include <editline/readline.h>
+#endif
+
+/* The last line, and how many bytes `getline` may write there. */
+static char *buffer;
+static size_t buffer_bytes;
+
+int is_interactive(void)
+{
+    return isatty(STDIN_FILENO);
+}
+
+/* `getline` keeps the end of a line, which the last may lack. */
+static void cut_line_end(struct text *text)
+{
+    if (text->length > 0 && text->bytes[text->length - 1] == '\n')
+        text->bytes[--text->length] = '\0';
+}
+
+static int read_plain(const char *prompt, struct text *text)
+{
+    if (is_interactive()) {
+        fputs(prompt, stdout);
+        fflush(stdout);
+    }
+    errno = 0;
+    ssize_t length = getline(&buffer, &buffer_bytes, stdin);
+    if (length < 0 && !feof(stdin)) {
+        printf("standard input could not be read: %s\n", strerror(errno));
+        note(FILE_FAILED);
+    }
+    clearerr(stdin); /* someone who types may go on behind an end of input */
+    if (length < 0)
+        return 0;
+    *text = (struct text){buffer, (size_t)length};
+    cut_line_end(text);
+    return 1;
+}
+
+#if defined HAVE_READLINE || defined HAVE_EDITLINE
+
+static int is_edited(void)
+{
+    return is_interactive() && isatty(STDOUT_FILENO);
+}
+
+/* Several lines that are pasted are several lines. Only readline knows another way, which makes one of them. */
+static void set_up_editing(void)
+{
+#if defined HAVE_READLINE
+    rl_initialize();
+    rl_variable_bind("enable-bracketed-paste", "off");
+#endif
+}
+
+static int read_edited(const char *prompt, struct text *text)
+{
+    free(buffer);
+    set_up_editing();
+    buffer = readline(prompt);
+    buffer_bytes = 0;
+    if (buffer == NULL)
+        return 0;
+    buffer_bytes = strlen(buffer) + 1;
+    *text = (struct text){buffer, buffer_bytes - 1};
+    return 1;
+}
+
+static void remember(const struct text *text)
+{
+    if (is_edited() && text->length > 0)
+        add_history(text->bytes);
+}
+
+#else
+
+static int is_edited(void)
+{
+    return 0;
+}
+
+static int read_edited(const char *prompt, struct text *text)
+{
+    return read_plain(prompt, text);
+}
+
+static void remember(const struct text *text)
+{
+    (void)text;
+}
+
+#endif
+
+static int read_after(const char *prompt, struct text *text)
+{
+    int is_read = is_edited() ? read_edited(prompt, text) : read_plain(prompt, text);
+    if (!is_read && is_interactive())
+        putchar('\n'); /* where the prompt stands no line was ended */
+    return is_read;
+}
+
+int read_line(struct text *text)
+{
+    if (!read_after("room> ", text))
+        return 0;
+    remember(text);
+    return 1;
+}
+
+static int is_yes(char *text)
+{
+    char *word;
+    if (take_word(&text, &word) != A_WORD || (strcmp(word, "y") != 0 && strcmp(word, "yes") != 0))
+        return 0;
+    return take_word(&text, &word) == NO_WORD;
+}
+
+enum consent ask(const char *question)
+{
+    struct text text;
+    if (!read_after(question, &text))
+        return NO_ANSWER;
+    return is_yes(text.bytes) ? YES : NO;
+}
+
+void free_input(void)
+{
+    free(buffer);
+    buffer = NULL;
+}
