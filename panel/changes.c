@@ -51,7 +51,8 @@ static int take_over(uint32_t receiver, uint32_t giver)
     return give(&line) == ROOM_ACCEPTED;
 }
 
-static int hub_takes_over_from_each(void)
+/* Console 0 is the receiver; whether nothing was refused. */
+static int take_over_from_each(void)
 {
     for (uint32_t console = 1; console < ROOM_CONSOLES; console++)
         if (is_present(console) && !take_over(0, console))
@@ -59,7 +60,8 @@ static int hub_takes_over_from_each(void)
     return 1;
 }
 
-static void each_takes_over_from_hub(void)
+/* Console 0 is the giver. */
+static void pass_on_to_each(void)
 {
     for (uint32_t console = 1; console < ROOM_CONSOLES; console++)
         if (is_present(console) && !take_over(console, 0))
@@ -70,7 +72,7 @@ static void each_takes_over_from_hub(void)
    room also of one that a third console keeps apart. Last comes what `who` says: all on one version, or what could be done. */
 void gather(const struct line *line)
 {
-    if (hub_takes_over_from_each())
-        each_takes_over_from_hub();
+    if (take_over_from_each())
+        pass_on_to_each();
     show_mergeable(line);
 }

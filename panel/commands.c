@@ -64,12 +64,30 @@ static const struct command COMMANDS[] = {
 
 #define COMMANDS_END (COMMANDS + sizeof COMMANDS / sizeof COMMANDS[0])
 
-const struct command *find_command(const char *name)
+static const struct command *find_by_bytes(const char *name, size_t length)
 {
     for (const struct command *command = COMMANDS; command < COMMANDS_END; command++)
-        if (strcmp(command->name, name) == 0)
+        if (strlen(command->name) == length && memcmp(command->name, name, length) == 0)
             return command;
     return NULL;
+}
+
+const struct command *find_command(const char *name)
+{
+    return find_by_bytes(name, strlen(name));
+}
+
+const struct command *find_typed_command(const char *word, int *is_sure)
+{
+    size_t length = strlen(word);
+    *is_sure = length > 0 && word[length - 1] == '!';
+    const struct command *command = find_by_bytes(word, *is_sure ? length - 1 : length);
+    return command != NULL && *is_sure && !command->may_lose_room ? NULL : command;
+}
+
+int say_no_command(const char *word)
+{
+    return misunderstood("there is no command `%s`; `help` lists them", shown(word).text);
 }
 
 /* A command as it is typed. */
@@ -101,15 +119,21 @@ void show_commands(void)
         printf("%-*s  %s\n", width, usage_of(command).text, command->help);
 }
 
+static void show_command(const struct command *command)
+{
+    printf("%s\n%s\n", usage_of(command).text, command->help);
+    if (command->more_help != NULL)
+        printf("%s\n", command->more_help);
+}
+
 void help(const struct line *line)
 {
-    const struct command *command = line->text != NULL ? find_command(line->text) : NULL;
+    int is_sure;
+    const struct command *command = line->text != NULL ? find_typed_command(line->text, &is_sure) : NULL;
     if (line->text == NULL)
         show_commands();
     else if (command == NULL)
-        misunderstood("there is no command `%s`; `help` lists them", shown(line->text).text);
+        say_no_command(line->text);
     else
-        printf("%s\n%s\n", usage_of(command).text, command->help);
-    if (command != NULL && command->more_help != NULL)
-        printf("%s\n", command->more_help);
+        show_command(command);
 }

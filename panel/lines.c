@@ -84,27 +84,14 @@ static int take_operands(struct line *line, char *rest)
     return is_at_end(rest);
 }
 
-/* Finds the command of a word and whether it is sure; whether there is one. A `!` stands behind those alone that may lose the room. */
-static int take_command(struct line *line, char *word)
-{
-    size_t length = strlen(word);
-    line->command = find_command(word);
-    if (line->command != NULL || length == 0 || word[length - 1] != '!')
-        return line->command != NULL;
-    word[length - 1] = '\0';
-    line->command = find_command(word);
-    line->is_sure = line->command != NULL && line->command->may_lose_room;
-    word[length - 1] = '!';
-    return line->is_sure;
-}
-
 static int is_understood(struct line *line, char *rest)
 {
     char *word;
     if (take_word(&rest, &word) == OPEN_QUOTE)
         return say_open_quote();
-    if (!take_command(line, word))
-        return misunderstood("there is no command `%s`; `help` lists them", shown(word).text);
+    line->command = find_typed_command(word, &line->is_sure);
+    if (line->command == NULL)
+        return say_no_command(word);
     if (take_operands(line, rest))
         return 1;
     printf("usage: ");

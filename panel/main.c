@@ -39,7 +39,7 @@ static int end_with(int status)
 {
     if (!is_output_lost())
         return status;
-    fputs("standard output could not be written: no further line was carried out\n", stderr);
+    fputs("standard output could not be written: the panel ends here\n", stderr);
     return OUTPUT_LOST;
 }
 

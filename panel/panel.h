@@ -43,6 +43,12 @@ struct line {
 /* The command of that name; NULL where there is none. */
 const struct command *find_command(const char *name);
 
+/* The same of a word as it may be typed, with a `!` behind those commands that may lose the room, which then is sure. */
+const struct command *find_typed_command(const char *word, int *is_sure);
+
+/* Says that there is no command of a typed word; always 0. */
+int say_no_command(const char *word);
+
 /* Prints a command as it is typed, with the names of its operands. */
 void show_usage(const struct command *command);
 
