@@ -156,10 +156,11 @@ static void print_different(size_t number, const uint8_t *strip, const uint8_t *
 
 static void print_diff_head(unsigned first, unsigned second)
 {
-    char name[2][sizeof "console 15"];
-    snprintf(name[0], sizeof name[0], "console %u", first % ROOM_CONSOLES);
-    snprintf(name[1], sizeof name[1], "console %u", second % ROOM_CONSOLES);
-    printf("strip  %-7s  %16s  %16s\n", "cell", name[0], name[1]);
+    char name[sizeof "console 4294967295"];
+    char other_name[sizeof name];
+    sprintf(name, "console %u", first);
+    sprintf(other_name, "console %u", second);
+    printf("strip  %-7s  %16s  %16s\n", "cell", name, other_name);
 }
 
 /* Whether the unit copied that console's board out; else its refusal is said. */

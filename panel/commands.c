@@ -9,26 +9,26 @@
 enum { PLAIN = 0, MAY_LOSE_ROOM = 1, NO_CODE = 0 };
 
 #define ONE_CONSOLE {"CONSOLE", CONSOLE}
-#define ENTRY {"CONSOLE", CONSOLE}, {"STRIP", NUMBER}
+#define STRIP_OF_CONSOLE {"CONSOLE", CONSOLE}, {"STRIP", NUMBER}
 #define TAKING_OVER {"RECEIVER", CONSOLE}, {"GIVER", CONSOLE}
 #define TWO_CONSOLES {"FIRST", CONSOLE}, {"SECOND", CONSOLE}
 #define NOTHING {NULL, NO_OPERAND}
 
+static const char RANGES[] = "Consoles are numbered 0 to 15, strips 0 to 31.";
+
 static const struct command COMMANDS[] = {
     {"open", {{"CAPACITY", NUMBER}}, NO_CODE, MAY_LOSE_ROOM, open_room, "a new room, with console 0",
-     "The capacity is 1 to 1,024 versions. `open!` does not ask for the room that is there."},
-    {"fork", {{"NEW", CONSOLE}, {"OLD", CONSOLE}}, ROOM_FORK, PLAIN, change_room, "a new console on the old one's version",
-     "Consoles are numbered 0 to 15."},
-    {"level", {ENTRY, {"LEVEL", WIDE_NUMBER}}, ROOM_LEVEL, PLAIN, change_room, "in hundreds of feet, 0 to 600; 0 means none given",
-     "Strips are numbered 0 to 31."},
-    {"heading", {ENTRY, {"DEGREES", WIDE_NUMBER}}, ROOM_HEADING, PLAIN, change_room, "0 to 360; 0 means none given",
-     "Strips are numbered 0 to 31."},
-    {"mark", {ENTRY, {"MARK", NUMBER}}, ROOM_MARK_PUT, PLAIN, change_room, "puts a mark, 0 to 15, on the strip",
+     "The capacity is 1 to 1,024 versions."},
+    {"fork", {{"NEW", CONSOLE}, {"OLD", CONSOLE}}, ROOM_FORK, PLAIN, change_room, "a new console on the old one's version", RANGES},
+    {"level", {STRIP_OF_CONSOLE, {"LEVEL", WIDE_NUMBER}}, ROOM_LEVEL, PLAIN, change_room, "in hundreds of feet, 0 to 600; 0 means none given",
+     RANGES},
+    {"heading", {STRIP_OF_CONSOLE, {"DEGREES", WIDE_NUMBER}}, ROOM_HEADING, PLAIN, change_room, "0 to 360; 0 means none given", RANGES},
+    {"mark", {STRIP_OF_CONSOLE, {"MARK", NUMBER}}, ROOM_MARK_PUT, PLAIN, change_room, "puts a mark, 0 to 15, on the strip",
      "A student sees marks 0 to 7 alone."},
-    {"unmark", {ENTRY, {"MARK", NUMBER}}, ROOM_MARK_TAKEN, PLAIN, change_room, "takes a mark from the strip", NULL},
-    {"call", {ENTRY}, ROOM_CALL, PLAIN, change_room, "counts a call", NULL},
-    {"alert", {ENTRY}, ROOM_ALERT_ON, PLAIN, change_room, "counts an alert and raises the strip's flag", NULL},
-    {"quiet", {ENTRY}, ROOM_ALERT_OFF, PLAIN, change_room, "clears the strip's flag", NULL},
+    {"unmark", {STRIP_OF_CONSOLE, {"MARK", NUMBER}}, ROOM_MARK_TAKEN, PLAIN, change_room, "takes a mark from the strip", RANGES},
+    {"call", {STRIP_OF_CONSOLE}, ROOM_CALL, PLAIN, change_room, "counts a call", RANGES},
+    {"alert", {STRIP_OF_CONSOLE}, ROOM_ALERT_ON, PLAIN, change_room, "counts an alert and raises the strip's flag", RANGES},
+    {"quiet", {STRIP_OF_CONSOLE}, ROOM_ALERT_OFF, PLAIN, change_room, "clears the strip's flag", RANGES},
     {"merge", {TAKING_OVER}, ROOM_MERGE, PLAIN, change_room, "the receiver takes over what the giver has, beside what it has of its own",
      "This makes a new version. The panel says how many levels and headings clashed: there the receiver keeps its own."},
     {"forward", {TAKING_OVER}, ROOM_FAST_FORWARD, PLAIN, change_room, "the receiver, with nothing of its own, moves to the giver's version",
@@ -48,18 +48,17 @@ static const struct command COMMANDS[] = {
     {"missing", {TWO_CONSOLES}, NO_CODE, PLAIN, show_missing_of, "the entries that the first has heard and the second has not", NULL},
     {"diff", {TWO_CONSOLES}, NO_CODE, PLAIN, show_diff, "the cells in which their boards differ", NULL},
     {"common", {TWO_CONSOLES}, NO_CODE, PLAIN, show_common, "the last version that both have", NULL},
-    {"origin", {ENTRY, {"CELL", CELL}}, NO_CODE, PLAIN, show_origin, "the entry behind that cell, `level` or `heading`", NULL},
+    {"origin", {STRIP_OF_CONSOLE, {"CELL", CELL}}, NO_CODE, PLAIN, show_origin, "the entry behind that cell, `level` or `heading`", NULL},
     {"who", {NOTHING}, NO_CODE, PLAIN, show_mergeable, "which two can merge or fast-forward, and what to type", NULL},
     {"freeze", {NOTHING}, NO_CODE, PLAIN, freeze, "keeps the room as it is now, for the wall", NULL},
     {"wall", {ONE_CONSOLE, {"ROOM", ROOM}}, NO_CODE, PLAIN, show_wall, "its strips in that room, `live` or `frozen`",
      "A * stands behind each cell that differs from the other room's."},
     {"pause", {{"FILE", TEXT}}, NO_CODE, PLAIN, pause_room, "writes the room to a tape",
      "The tape is read back before it takes the place of an older one. A name with blanks stands in double quotes."},
-    {"resume", {{"FILE", TEXT}}, NO_CODE, MAY_LOSE_ROOM, resume_room, "goes on with the room of a tape",
-     "`resume!` does not ask for the room that is there."},
+    {"resume", {{"FILE", TEXT}}, NO_CODE, MAY_LOSE_ROOM, resume_room, "goes on with the room of a tape", NULL},
     {"graph", {{"FILE", OPTIONAL_TEXT}}, NO_CODE, PLAIN, show_or_write_graph, "the versions, the newest first; to a file, for Graphviz", NULL},
     {"help", {{"COMMAND", OPTIONAL_TEXT}}, NO_CODE, PLAIN, help, "this list, or more on a command", NULL},
-    {"quit", {NOTHING}, NO_CODE, MAY_LOSE_ROOM, quit, "ends the panel", "`quit!` does not ask for the room that is there."},
+    {"quit", {NOTHING}, NO_CODE, MAY_LOSE_ROOM, quit, "ends the panel", NULL},
 };
 
 #define COMMANDS_END (COMMANDS + sizeof COMMANDS / sizeof COMMANDS[0])
@@ -108,7 +107,7 @@ static struct usage usage_of(const struct command *command)
 
 void show_usage(const struct command *command)
 {
-    printf("%s", usage_of(command).text);
+    printf("usage: %s\n", usage_of(command).text);
 }
 
 /* The longest usage is that of `heading`. */
@@ -121,9 +120,12 @@ void show_commands(void)
 
 static void show_command(const struct command *command)
 {
-    printf("%s\n%s\n", usage_of(command).text, command->help);
+    show_usage(command);
+    printf("%s\n", command->help);
     if (command->more_help != NULL)
         printf("%s\n", command->more_help);
+    if (command->may_lose_room)
+        printf("A room that was changed since its last pause is not left behind unasked, but by `%s!` it is.\n", command->name);
 }
 
 void help(const struct line *line)

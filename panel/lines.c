@@ -1,7 +1,6 @@
 /* Lines understood and carried out. A line is taken whole or refused whole, by its first word at fault. */
 #include "lines.h"
 
-#include <stdio.h>
 #include <string.h>
 
 #include "answers.h"
@@ -94,9 +93,7 @@ static int is_understood(struct line *line, char *rest)
         return say_no_command(word);
     if (take_operands(line, rest))
         return 1;
-    printf("usage: ");
     show_usage(line->command);
-    putchar('\n');
     return 0;
 }
 

@@ -15,7 +15,7 @@ enum { FIRST_CAPACITY = 64, WRONG_START = 2, OUTPUT_LOST = 2 };
 static const char NAME[] = "room panel " ROOM_VERSION;
 static const char USAGE[] = "usage: panel [--help | --version | TAPE]\n";
 static const char START_HELP[] =
-    "TAPE is a file that `pause` wrote: the panel goes on with its room, else with a new one of capacity 64.\n"
+    "TAPE is a file that `pause` wrote: the panel goes on with its room, else with a new one of capacity %d.\n"
     "Commands are read from standard input, a line each:\n";
 
 /* Where nobody reads the output, or a file grows too long, the panel is to be told and not ended; and an interrupt that is typed would lose
@@ -46,7 +46,7 @@ static int end_with(int status)
 static int show_help(void)
 {
     fputs(USAGE, stdout);
-    fputs(START_HELP, stdout);
+    printf(START_HELP, FIRST_CAPACITY);
     show_commands();
     return end_with(ALL_WELL);
 }

@@ -49,7 +49,7 @@ const struct command *find_typed_command(const char *word, int *is_sure);
 /* Says that there is no command of a typed word; always 0. */
 int say_no_command(const char *word);
 
-/* Prints a command as it is typed, with the names of its operands. */
+/* Prints how a command is typed, with the names of its operands. */
 void show_usage(const struct command *command);
 
 /* Prints every command with what it does. */
