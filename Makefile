@@ -1,31 +1,67 @@
-# `make run` proves, builds and runs the unit's main job; `make test` runs every check and is what .ci/run calls.
-.PHONY: run test bench compare panel staticlib fmt
+# What can be made here: `make` lists it, from the words behind ## at each target.
+.DEFAULT_GOAL := help
+.PHONY: help run test staticlib panel bench compare install uninstall fmt clean
 
-# The paper's printed session: its commands as standard input, a line for each.
-run:
-	rt check session
-	target/bin/session <crates/session/stdin
+PREFIX ?= /usr/local
+LIBDIR ?= $(PREFIX)/lib
+INCLUDEDIR ?= $(PREFIX)/include
+MANDIR ?= $(PREFIX)/share/man
 
-# The verdict, from nothing. Its last line is 'N passed, 0 failed'.
-test:
+archive := target/staticlib/libroom.a
+panel := target/panel/panel
+
+# All that the archive's proof is made from. A folder changes too where a file is removed.
+unit_crates := unit $(shell sed -n 's/^unit: //p' crates.txt)
+unit_parts := $(wildcard $(foreach crate,$(unit_crates),$(addprefix crates/$(crate)/,src specs proofs)))
+unit_files := $(shell find $(unit_parts) -type d -o -name '*.rt' -o -name '*.antt')
+
+help: ## this list
+	@awk -F ':.*## ' '/^[a-z]+:.*## / { printf "make %-10s %s\n", $$1, $$2 }' Makefile
+
+run: ## proves and builds the unit, runs the paper's printed session and says what each line means
+	@scripts/run
+
+test: ## every check, from nothing; its last line is 'N passed, 0 failed'
 	@scripts/test
 
-# The unit's archive, target/staticlib/libunit.a, which include/room.h declares.
-staticlib:
-	rt staticlib unit
+staticlib: $(archive) ## the unit's archive, target/staticlib/libroom.a, of the calls in include/room.h
+	@echo "the archive: $(archive)"
 
-# Speed, as ratios of times measured in one run.
-bench: staticlib
+panel: $(panel) ## the sample panel, target/panel/panel; docs/MANUAL.md is its manual
+	@echo "the panel: $(panel)"
+
+bench: $(archive) ## the speed as ratios, with their limits
 	@scripts/cargo run --release --quiet --bin bench
 
-# The unit against the Rust model, call by call.
-compare: staticlib
+compare: $(archive) ## the unit against the Rust model, call by call
 	@scripts/cargo run --release --quiet --bin compare
 
-# The sample panel, target/panel/panel.
-panel: staticlib
-	@scripts/panel build
+# Where the files go, quoted for the shell.
+header_place = "$(DESTDIR)$(INCLUDEDIR)/room.h"
+archive_place = "$(DESTDIR)$(LIBDIR)/libroom.a"
+pc_place = "$(DESTDIR)$(LIBDIR)/pkgconfig/room.pc"
+page_place = "$(DESTDIR)$(MANDIR)/man3/room.3"
 
-# Lay out every .rt and .antt file.
-fmt:
+install: $(archive) ## header, archive, room.pc and manual page below PREFIX, /usr/local if not set; DESTDIR goes before it
+	$(if $(filter /%,$(PREFIX)),,$(error PREFIX must begin with /, as room.pc names it))
+	@PREFIX="$(PREFIX)" LIBDIR="$(LIBDIR)" INCLUDEDIR="$(INCLUDEDIR)" scripts/filled include/room.pc.in >target/room.pc
+	@scripts/filled include/room.3.in >target/room.3
+	install -D -m 644 include/room.h $(header_place)
+	install -D -m 644 $(archive) $(archive_place)
+	install -D -m 644 target/room.pc $(pc_place)
+	install -D -m 644 target/room.3 $(page_place)
+
+uninstall: ## removes what install put there, with the same settings
+	rm -f $(header_place) $(archive_place) $(pc_place) $(page_place)
+
+fmt: ## lays out every .rt and .antt file
 	rt fmt
+
+clean: ## removes all that was built and proved
+	rm -rf target host/target rust/target
+
+$(archive): $(unit_files) crates.txt include/room.h include/room_text.c scripts/staticlib scripts/prove
+	@scripts/staticlib
+
+$(panel): $(archive) include/room.h $(wildcard panel/*.[ch]) scripts/panel
+	@scripts/panel build
