@@ -2,10 +2,12 @@
 .DEFAULT_GOAL := help
 .PHONY: help run test staticlib panel bench compare install uninstall fmt clean
 
+# Where install puts things. Only that script gets them, as a make that another script calls would take them for its own.
 PREFIX ?= /usr/local
 LIBDIR ?= $(PREFIX)/lib
 INCLUDEDIR ?= $(PREFIX)/include
 MANDIR ?= $(PREFIX)/share/man
+places = DESTDIR="$(DESTDIR)" PREFIX="$(PREFIX)" LIBDIR="$(LIBDIR)" INCLUDEDIR="$(INCLUDEDIR)" MANDIR="$(MANDIR)"
 
 archive := target/staticlib/libroom.a
 panel := target/panel/panel
@@ -36,23 +38,11 @@ bench: $(archive) ## the speed as ratios, with their limits
 compare: $(archive) ## the unit against the Rust model, call by call
 	@scripts/cargo run --release --quiet --bin compare
 
-# Where the files go, quoted for the shell.
-header_place = "$(DESTDIR)$(INCLUDEDIR)/room.h"
-archive_place = "$(DESTDIR)$(LIBDIR)/libroom.a"
-pc_place = "$(DESTDIR)$(LIBDIR)/pkgconfig/room.pc"
-page_place = "$(DESTDIR)$(MANDIR)/man3/room.3"
-
 install: $(archive) ## header, archive, room.pc and manual page below PREFIX, /usr/local if not set; DESTDIR goes before it
-	$(if $(filter /%,$(PREFIX)),,$(error PREFIX must begin with /, as room.pc names it))
-	@PREFIX="$(PREFIX)" LIBDIR="$(LIBDIR)" INCLUDEDIR="$(INCLUDEDIR)" scripts/filled include/room.pc.in >target/room.pc
-	@scripts/filled include/room.3.in >target/room.3
-	install -D -m 644 include/room.h $(header_place)
-	install -D -m 644 $(archive) $(archive_place)
-	install -D -m 644 target/room.pc $(pc_place)
-	install -D -m 644 target/room.3 $(page_place)
+	@$(places) scripts/install
 
 uninstall: ## removes what install put there, with the same settings
-	rm -f $(header_place) $(archive_place) $(pc_place) $(page_place)
+	@$(places) scripts/install remove
 
 fmt: ## lays out every .rt and .antt file
 	rt fmt
@@ -60,7 +50,7 @@ fmt: ## lays out every .rt and .antt file
 clean: ## removes all that was built and proved
 	rm -rf target host/target rust/target
 
-$(archive): $(unit_files) crates.txt include/room.h include/room_text.c scripts/staticlib scripts/prove
+$(archive): $(unit_files) crates.txt include/room.h include/room_text.c scripts/staticlib
 	@scripts/staticlib
 
 $(panel): $(archive) include/room.h $(wildcard panel/*.[ch]) scripts/panel
