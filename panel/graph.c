@@ -1,130 +1,256 @@
-/* The version graph of a room, read off its pause tape: as a Graphviz file, an entry of it in words, and whether the room is full. */
-#include "panel.h"
+/* The version graph in the terminal: a line for each version, the newest first, with its lanes, its number, what it is and who stands on it.
+ *
+ * How to draw it by hand. A lane is a column that waits for a version: that of the next `*` in it.
+ * - Each present console has a column of its own, consoles rising, and waits there for its head. Nothing is drawn in it above that head, unless a
+ *   merge is joined to it.
+ * - A version's `*` stands in the first column that waits for it, a console's own before any other. The others that wait for it end on its line,
+ *   joined to the `*`: `'` where a lane comes from above; `o` where none does, as there a console stands on the version too.
+ * - Then the column of the `*` waits for the version's parent; of a merge, for the receiver's version.
+ * - A merge's line is joined also to a column that waits for the giver's version: the first as above, else the first free one, which is opened. There
+ *   stands `.` where a lane begins (but an `o` stays), and `+` where one is joined on its way. No column is free on the line on which its lane ends.
+ * - A column that is no console's own and comes to wait for a version that another waits for goes on beside it, as long as no more than 16 columns
+ *   wait. Else it ends with its `*`, joined to the other as the giver's side of a merge is.
+ * - `|` is a lane that passes, also where a join crosses it; `-` is the rest of a join.
+ *
+ * By commands no more than 33 columns come together: whatever is waited for on a line was some console's head when that version was made, which makes
+ * 16 beside the consoles' own. A tape from elsewhere may have more sides than consoles, so that there are columns enough for any. */
+#include "history_parts.h"
 
-#include "room.h"
+/* Each merge opens at most one column. */
+enum { COLUMNS = ROOM_CONSOLES + ROOM_MAX_CAPACITY };
+enum { FREE = -1, NO_COLUMN = -1 };
 
-/* Records of a tape, and how many bytes each takes. */
-enum { START = 0x20, ENTRY = 0x21, MERGE = 0x22, HEAD = 0x23 };
-enum { START_BYTES = 3, ENTRY_BYTES = 7, MERGE_BYTES = 5, HEAD_BYTES = 4, END_BYTES = 1 };
-
-static unsigned field(const uint8_t *record, size_t at)
-{
-    return (unsigned)record[at] * 256u + record[at + 1];
-}
-
-static const char *entry_name(uint8_t code)
-{
-    switch (code) {
-    case ROOM_LEVEL: return "level";
-    case ROOM_HEADING: return "heading";
-    case ROOM_MARK_PUT: return "mark";
-    case ROOM_MARK_TAKEN: return "unmark";
-    case ROOM_CALL: return "call";
-    case ROOM_ALERT_ON: return "alert";
-    default: return "quiet";
-    }
-}
-
-static size_t record_bytes(uint8_t code)
-{
-    switch (code) {
-    case START: return START_BYTES;
-    case ENTRY: return ENTRY_BYTES;
-    case MERGE: return MERGE_BYTES;
-    case HEAD: return HEAD_BYTES;
-    default: return END_BYTES;
-    }
-}
-
-/* A reading place on a tape: the bytes from there on, and the last version before it. */
-struct place {
-    const uint8_t *next;
-    size_t left;
-    unsigned version;
+struct lane {
+    int waits_for; /* a version, or FREE */
+    int is_own;    /* a console's own column, until it ends */
+    int is_begun;  /* it comes from above */
 };
 
-/* Whether a whole record stands at this place, other than the tape's end and the byte before it that tells of a hub. */
-static int has_record(const struct place *place)
+/* The lanes below the line that was laid last, and that line: a character for each column, and the first and last column that its join touches. */
+struct picture {
+    const struct history *history;
+    int columns; /* that have been used so far */
+    struct lane lane[COLUMNS];
+    char drawn[COLUMNS];
+    int join_from;
+    int join_to;
+};
+
+static void begin(struct picture *picture, const struct history *history)
 {
-    return place->left > 0 && place->next[0] >= START && place->next[0] <= HEAD && record_bytes(place->next[0]) <= place->left;
+    picture->history = history;
+    picture->columns = 0;
+    for (unsigned console = 0; console < ROOM_CONSOLES; console++)
+        if (history->head[console] != ABSENT)
+            picture->lane[picture->columns++] = (struct lane){.waits_for = history->head[console], .is_own = 1};
 }
 
-/* Moves past one whole record and returns it; NULL where there is none. After a version's record the place has its number. */
-static const uint8_t *take_record(struct place *place)
+/* ---- a line is laid ---- */
+
+/* The first column that waits for a version, a console's own before any other, or NO_COLUMN. */
+static int waiting_column(const struct picture *picture, int version)
 {
-    if (!has_record(place))
-        return NULL;
-    const uint8_t *record = place->next;
-    place->next += record_bytes(record[0]);
-    place->left -= record_bytes(record[0]);
-    if (record[0] == ENTRY || record[0] == MERGE)
-        place->version++;
-    return record;
+    int found = NO_COLUMN;
+    for (int column = 0; column < picture->columns; column++) {
+        const struct lane *lane = &picture->lane[column];
+        if (lane->waits_for == version && (found == NO_COLUMN || (lane->is_own && !picture->lane[found].is_own)))
+            found = column;
+    }
+    return found;
 }
 
-static void write_entry(FILE *file, unsigned version, const uint8_t *record)
+static int waiting_columns(const struct picture *picture)
 {
-    fprintf(file, "  v%u [label=\"%u\\n%s strip %u\"];\n", version, version, entry_name(record[3]), record[4]);
-    fprintf(file, "  v%u -> v%u;\n", field(record, 1), version);
+    int waiting = 0;
+    for (int column = 0; column < picture->columns; column++)
+        waiting += picture->lane[column].waits_for != FREE;
+    return waiting;
 }
 
-/* The giver's side of a merge is drawn dashed. */
-static void write_merge(FILE *file, unsigned version, const uint8_t *record)
+/* The first column in which a lane can begin on this line, a new one at the right where there is no other. */
+static int free_column(struct picture *picture)
 {
-    fprintf(file, "  v%u [label=\"%u\\nmerge\", shape=diamond];\n", version, version);
-    fprintf(file, "  v%u -> v%u;\n", field(record, 1), version);
-    fprintf(file, "  v%u -> v%u [style=dashed];\n", field(record, 3), version);
+    int column = 0;
+    while (column < picture->columns &&
+           (picture->lane[column].waits_for != FREE || (picture->drawn[column] != ' ' && picture->drawn[column] != 'o')))
+        column++;
+    if (column == picture->columns)
+        picture->drawn[picture->columns++] = ' ';
+    return column;
 }
 
-static void write_head(FILE *file, const uint8_t *record)
+/* The column that waits for a version; where none does, a free one that now will. */
+static int column_for(struct picture *picture, int version)
 {
-    fprintf(file, "  c%u [label=\"console %u\", shape=box];\n", record[1], record[1]);
-    fprintf(file, "  c%u -> v%u [arrowhead=none, style=dotted];\n", record[1], field(record, 2));
+    int column = waiting_column(picture, version);
+    if (column == NO_COLUMN) {
+        column = free_column(picture);
+        picture->lane[column] = (struct lane){.waits_for = version};
+    }
+    return column;
 }
 
-static void write_record(FILE *file, unsigned version, const uint8_t *record)
+static void draw(struct picture *picture, int column, char character)
 {
-    if (record[0] == ENTRY)
-        write_entry(file, version, record);
-    else if (record[0] == MERGE)
-        write_merge(file, version, record);
-    else if (record[0] == HEAD)
-        write_head(file, record);
+    picture->drawn[column] = character;
+    if (column < picture->join_from)
+        picture->join_from = column;
+    if (column > picture->join_to)
+        picture->join_to = column;
 }
 
-void write_graph(FILE *file, const uint8_t *tape, size_t length)
+static void draw_passing(struct picture *picture)
 {
-    struct place place = {tape, length, 0};
-    const uint8_t *record;
-    fprintf(file, "digraph room {\n  rankdir=LR;\n  v0 [label=\"0\"];\n");
-    while ((record = take_record(&place)) != NULL)
-        write_record(file, place.version, record);
-    fprintf(file, "}\n");
+    for (int column = 0; column < picture->columns; column++)
+        picture->drawn[column] = picture->lane[column].is_begun ? '|' : ' ';
 }
 
-/* A level or a heading of 0 stands for none given. */
-static void print_entry(unsigned version, const uint8_t *record)
+static void end_lane(struct picture *picture, int column)
 {
-    unsigned operand = field(record, 5);
-    const char *meaning = operand == 0 ? " (none given)" : "";
-    printf("version %u: %s %u%s on strip %u\n", version, entry_name(record[3]), operand, meaning, record[4]);
+    picture->lane[column] = (struct lane){.waits_for = FREE};
 }
 
-void show_entry(const uint8_t *tape, size_t length, unsigned version)
+/* Ends the lanes that wait for the version in other columns than its own. */
+static void end_others(struct picture *picture, int own_column, int version)
 {
-    struct place place = {tape, length, 0};
-    const uint8_t *record;
-    while ((record = take_record(&place)) != NULL)
-        if (record[0] == ENTRY && place.version == version)
-            print_entry(version, record);
+    for (int column = 0; column < picture->columns; column++)
+        if (column != own_column && picture->lane[column].waits_for == version) {
+            draw(picture, column, picture->lane[column].is_begun ? '\'' : 'o');
+            end_lane(picture, column);
+        }
 }
 
-/* Version 0 has no record, but counts. */
-int is_full_room(const uint8_t *tape, size_t length)
+/* Joins the line to a lane that waits for a parent of its version. */
+static void join(struct picture *picture, int column)
 {
-    struct place place = {tape, length, 0};
-    const uint8_t *start = take_record(&place);
-    while (take_record(&place) != NULL)
-        continue;
-    return start != NULL && place.version + 1 == field(start, 1);
+    struct lane *lane = &picture->lane[column];
+    char opened = picture->drawn[column] == 'o' ? 'o' : '.';
+    draw(picture, column, lane->is_begun ? '+' : opened);
+    lane->is_begun = 1;
+}
+
+/* The lane of the version goes on to its parent, or ends here where another does. */
+static void go_on(struct picture *picture, int column, int parent)
+{
+    struct lane *lane = &picture->lane[column];
+    int other = waiting_column(picture, parent);
+    if (other == NO_COLUMN || lane->is_own || waiting_columns(picture) <= ROOM_CONSOLES) {
+        lane->waits_for = parent;
+        lane->is_begun = 1;
+    } else {
+        end_lane(picture, column);
+        join(picture, other);
+    }
+}
+
+static void lay_line(struct picture *picture, unsigned number)
+{
+    const struct version *version = &picture->history->version[number];
+    draw_passing(picture);
+    int column = column_for(picture, (int)number);
+    picture->join_from = picture->join_to = column;
+    draw(picture, column, '*');
+    end_others(picture, column, (int)number);
+    if (number > 0)
+        go_on(picture, column, version->parent);
+    if (is_merge(version))
+        join(picture, column_for(picture, version->giver));
+}
+
+/* ---- and printed ---- */
+
+static char drawn_at(const struct picture *picture, int column)
+{
+    int is_in_join = column > picture->join_from && column < picture->join_to;
+    return picture->drawn[column] == ' ' && is_in_join ? '-' : picture->drawn[column];
+}
+
+/* The columns, with a place between each two. */
+static void print_lanes(const struct picture *picture)
+{
+    putchar(drawn_at(picture, 0));
+    for (int column = 1; column < picture->columns; column++) {
+        putchar(column > picture->join_from && column <= picture->join_to ? '-' : ' ');
+        putchar(drawn_at(picture, column));
+    }
+}
+
+/* What stands between the lanes and the words, so that these begin at one place on all lines. */
+static void print_gap(const struct picture *picture, int widest)
+{
+    printf("%*s  ", 2 * (widest - picture->columns), "");
+}
+
+static void draw_digits(struct picture *picture, const char digits[ROOM_CONSOLES + 1])
+{
+    int column = 0;
+    for (unsigned console = 0; console < ROOM_CONSOLES; console++)
+        if (picture->history->head[console] != ABSENT)
+            picture->drawn[column++] = digits[console];
+}
+
+/* The consoles over their columns; where one has two digits, the first stands above the second. */
+static void print_header(struct picture *picture, int widest)
+{
+    picture->join_from = picture->join_to = 0;
+    draw_digits(picture, "          111111");
+    if (picture->drawn[picture->columns - 1] != ' ') {
+        print_lanes(picture);
+        printf("\n");
+    }
+    draw_digits(picture, "0123456789012345");
+    print_lanes(picture);
+    print_gap(picture, widest);
+    printf("consoles\n");
+}
+
+static void print_words(const struct history *history, unsigned number)
+{
+    const struct version *version = &history->version[number];
+    if (number == 0)
+        printf("empty board");
+    else if (is_merge(version))
+        printf("merge of %u and %u", version->parent, version->giver);
+    else
+        print_entry(version);
+}
+
+static void print_heads(const struct history *history, unsigned number)
+{
+    if (consoles_on(history, number) == 0)
+        return;
+    printf("  <- ");
+    print_consoles(stdout, history, number);
+}
+
+static void print_line(const struct picture *picture, unsigned number, int widest)
+{
+    int digits = snprintf(NULL, 0, "%u", picture->history->versions - 1);
+    print_lanes(picture);
+    print_gap(picture, widest);
+    printf("%*u  ", digits, number);
+    print_words(picture->history, number);
+    print_heads(picture->history, number);
+    printf("\n");
+}
+
+/* How many columns the picture takes: all lines are laid and none is printed. */
+static int widest_line(struct picture *picture, const struct history *history)
+{
+    begin(picture, history);
+    for (unsigned number = history->versions; number-- > 0;)
+        lay_line(picture, number);
+    return picture->columns;
+}
+
+void show_graph(const struct history *history)
+{
+    static struct picture picture;
+    int widest = widest_line(&picture, history);
+    begin(&picture, history);
+    print_header(&picture, widest);
+    for (unsigned number = history->versions; number-- > 0;) {
+        lay_line(&picture, number);
+        print_line(&picture, number, widest);
+    }
 }
