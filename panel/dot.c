@@ -79,7 +79,7 @@ static void write_box(FILE *file, const struct history *history, const struct fa
 static void write_merge(FILE *file, unsigned number, const struct version *merge)
 {
     fprintf(file, "  v%u [label=\"%u\", shape=circle, width=0.3, margin=0.02];\n", number, number);
-    write_edge(file, merge->parent, number, "");
+    write_edge(file, merge->parent, number, " [weight=4]");
     write_edge(file, merge->giver, number, " [style=dashed]");
 }
 
