@@ -1,6 +1,6 @@
 // The book of demand 3, kept of the calls alone and apart from the model, and the comparison of a store's answers with it.
 
-use crate::calls::Reply;
+use crate::calls::{reply_of, Reply};
 use crate::implementations::Calls;
 use crate::layout::BOARD_BYTES;
 use std::collections::BTreeSet;
@@ -274,10 +274,10 @@ impl Book {
         console: u8,
         head: usize,
     ) -> Result<Present, String> {
-        let due = Reply::of(Ok(head));
+        let due = reply_of(Ok(head));
         let found = answers.common(console, console);
         agree(format_args!("the head of {console}"), due, found)?;
-        let due = Reply::of(Ok(BOARD_BYTES));
+        let due = reply_of(Ok(BOARD_BYTES));
         let (found, board) = answers.board(console);
         agree(format_args!("copying the board of {console}"), due, found)?;
         let leading = self.leading_to(head);
@@ -312,7 +312,7 @@ impl Book {
 
 /// A console that has no head in the book is absent from the store: each question about it is refused, and it can be forked.
 fn check_absent(answers: &Answers, console: u8) -> Result<(), String> {
-    let absent = Reply::of(Err(ABSENT));
+    let absent = reply_of(Err(ABSENT));
     let what = format_args!("the entries heard by {console}, who is absent");
     agree(what, absent, answers.heard(console))?;
     let what = format_args!("the board of {console}, who is absent");
@@ -331,7 +331,7 @@ fn check_absent(answers: &Answers, console: u8) -> Result<(), String> {
         agree(what, [absent; 2], found)?;
     }
     let what = format_args!("a fork of 0 to {console}, who is absent");
-    agree(what, Reply::of(Ok(0)), answers.fork(console, 0))
+    agree(what, reply_of(Ok(0)), answers.fork(console, 0))
 }
 
 /// Every two different consoles, in both orders.
@@ -345,7 +345,7 @@ fn pairs_of(present: &[Present]) -> impl Iterator<Item = (&Present, &Present)> {
 /// The heard count, and the call counter of every strip.
 fn check_heard(answers: &Answers, one: &Present) -> Result<(), String> {
     let console = one.console;
-    let due = Reply::of(Ok(one.heard.len()));
+    let due = reply_of(Ok(one.heard.len()));
     let what = format_args!("the entries heard by {console}");
     agree(what, due, answers.heard(console))?;
     for strip in 0..STRIPS {

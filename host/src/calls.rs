@@ -9,34 +9,27 @@ use crate::model::{
 };
 
 /// The answer is 0 or the refusal; the count is the question's number, the bytes written, the place of a view or the clashes of a merge,
-/// else 0.
-#[derive(Clone, Copy, Debug, PartialEq, Eq)]
-#[repr(C)]
-pub struct Reply {
-    pub answer: u32,
-    pub count: u32,
+/// else 0. It is the unit's own struct, so that its calls and the model's have one form.
+pub use room::ffi::Reply;
+
+pub(crate) fn reply_of(outcome: Result<usize, u32>) -> Reply {
+    match outcome {
+        Ok(count) => Reply {
+            answer: 0,
+            count: count as u32,
+        },
+        Err(refusal) => Reply {
+            answer: refusal,
+            count: 0,
+        },
+    }
 }
 
-impl Reply {
-    pub(crate) fn of(outcome: Result<usize, u32>) -> Reply {
-        match outcome {
-            Ok(count) => Reply {
-                answer: 0,
-                count: count as u32,
-            },
-            Err(refusal) => Reply {
-                answer: refusal,
-                count: 0,
-            },
-        }
-    }
-
-    /// What a reply to the question which two can meet says; nothing for a refusal.
-    pub fn verdict(self) -> Option<Verdict> {
-        match self.answer {
-            0 => Verdict::of_number(self.count),
-            _ => None,
-        }
+/// What a reply to the question which two can meet says; nothing for a refusal.
+pub fn verdict_in(reply: Reply) -> Option<Verdict> {
+    match reply.answer {
+        0 => Verdict::of_number(reply.count),
+        _ => None,
     }
 }
 
@@ -44,59 +37,59 @@ impl Reply {
 
 pub fn open(capacity: u32, store: &mut [u8]) -> Reply {
     let outcome = opened_room(capacity).and_then(|room| write_store(&room, store));
-    Reply::of(outcome)
+    reply_of(outcome)
 }
 
 pub fn command(store: &mut [u8], command: &[u8]) -> Reply {
-    Reply::of(obey(store, command))
+    reply_of(obey(store, command))
 }
 
 pub fn pause(store: &[u8], tape: &mut [u8]) -> Reply {
     let outcome = room_in(store).and_then(|room| write_front(&tape_of(&room), tape));
-    Reply::of(outcome)
+    reply_of(outcome)
 }
 
 pub fn resume(tape: &[u8], store: &mut [u8]) -> Reply {
     let outcome = room_of_tape(tape).and_then(|room| write_store(&room, store));
-    Reply::of(outcome)
+    reply_of(outcome)
 }
 
 pub fn board(store: &[u8], console: u32, board: &mut [u8]) -> Reply {
-    Reply::of(copy_out(store, console, board, Board::clone))
+    reply_of(copy_out(store, console, board, Board::clone))
 }
 
 pub fn student_pane(store: &[u8], console: u32, pane: &mut [u8]) -> Reply {
-    Reply::of(copy_out(store, console, pane, shown_to_student))
+    reply_of(copy_out(store, console, pane, shown_to_student))
 }
 
 pub fn instructor_pane(store: &[u8], console: u32, pane: &mut [u8]) -> Reply {
-    Reply::of(copy_out(store, console, pane, shown_to_instructor))
+    reply_of(copy_out(store, console, pane, shown_to_instructor))
 }
 
 pub fn heard(store: &[u8], console: u32) -> Reply {
-    Reply::of(heard_number(store, console))
+    reply_of(heard_number(store, console))
 }
 
 pub fn common(store: &[u8], first: u32, second: u32) -> Reply {
-    Reply::of(common_number(store, first, second))
+    reply_of(common_number(store, first, second))
 }
 
 pub fn origin(store: &[u8], console: u32, strip: u32, cell: u32) -> Reply {
-    Reply::of(origin_number(store, console, strip, cell))
+    reply_of(origin_number(store, console, strip, cell))
 }
 
 pub fn mergeable(store: &[u8]) -> Reply {
-    Reply::of(room_in(store).map(|room| verdict(&room).number()))
+    reply_of(room_in(store).map(|room| verdict(&room).number()))
 }
 
 /// Why there is no view with these operands, or 0.
 pub fn view_refusal(live: &[u8], frozen: &[u8], console: u32, choice: u32) -> Reply {
-    Reply::of(viewed(live, frozen, console, choice).map(|_| 0))
+    reply_of(viewed(live, frozen, console, choice).map(|_| 0))
 }
 
 /// Where the board viewed stands in the store chosen.
 pub fn view_at(live: &[u8], frozen: &[u8], console: u32, choice: u32) -> Reply {
-    Reply::of(viewed(live, frozen, console, choice).map(|view| view.place))
+    reply_of(viewed(live, frozen, console, choice).map(|view| view.place))
 }
 
 /// The board viewed as a part of the store chosen; a refusal gives a part of length 0.

@@ -5,7 +5,7 @@
 // seed, so that a difference can be met again.
 
 use crate::book::Book;
-use crate::calls::Reply;
+use crate::calls::{reply_of, Reply};
 use crate::gen;
 use crate::implementations::{Calls, MODEL};
 use crate::layout::{self, store_bytes, BOARD_BYTES};
@@ -1333,7 +1333,7 @@ fn compare_clashes(comparison: &mut Comparison, rng: &mut Rng, clashes: usize) -
     for merge in [[code::MERGE, 0, 1], [code::MERGE, 1, 0]] {
         let mut session = resumed_session(comparison, rng, room.clone())?;
         let reply = session.command(&merge)?;
-        if reply != Reply::of(Ok(clashes)) {
+        if reply != reply_of(Ok(clashes)) {
             let round = &comparison.round;
             let made = format!("a room made for {clashes} clashes");
             return Err(format!(

@@ -3,7 +3,7 @@
 // words, an entry's board as slices, a merge's many cells at a time. It uses no heap and no unsafe code and keeps nothing between
 // calls. With the model it shares the reply, the names of the refusals and the way to give one (`refuse_if`), nothing else.
 
-use crate::calls::Reply;
+use crate::calls::{reply_of, Reply};
 use crate::model::{refusal, refuse_if};
 use std::array;
 
@@ -38,27 +38,27 @@ type Row = [u64; 16];
 // ---------------------------------------------------------------- the calls
 
 pub fn open(capacity: u32, store: &mut [u8]) -> Reply {
-    Reply::of(open_store(capacity as usize, store))
+    reply_of(open_store(capacity as usize, store))
 }
 
 pub fn command(store: &mut [u8], command: &[u8]) -> Reply {
-    Reply::of(obey(store, command))
+    reply_of(obey(store, command))
 }
 
 pub fn pause(store: &[u8], tape: &mut [u8]) -> Reply {
-    Reply::of(write_tape(store, tape))
+    reply_of(write_tape(store, tape))
 }
 
 pub fn resume(tape: &[u8], store: &mut [u8]) -> Reply {
-    Reply::of(read_tape(tape, store))
+    reply_of(read_tape(tape, store))
 }
 
 pub fn board(store: &[u8], console: u32, board: &mut [u8]) -> Reply {
-    Reply::of(copy_board(store, console as usize, board))
+    reply_of(copy_board(store, console as usize, board))
 }
 
 pub fn student_pane(store: &[u8], console: u32, pane: &mut [u8]) -> Reply {
-    Reply::of(copy_student_pane(store, console as usize, pane))
+    reply_of(copy_student_pane(store, console as usize, pane))
 }
 
 /// The instructor's pane is the board.
@@ -67,15 +67,15 @@ pub fn instructor_pane(store: &[u8], console: u32, pane: &mut [u8]) -> Reply {
 }
 
 pub fn heard(store: &[u8], console: u32) -> Reply {
-    Reply::of(count_heard(store, console as usize))
+    reply_of(count_heard(store, console as usize))
 }
 
 pub fn common(store: &[u8], first: u32, second: u32) -> Reply {
-    Reply::of(find_common(store, first as usize, second as usize))
+    reply_of(find_common(store, first as usize, second as usize))
 }
 
 pub fn origin(store: &[u8], console: u32, strip: u32, cell: u32) -> Reply {
-    Reply::of(find_origin(
+    reply_of(find_origin(
         store,
         console as usize,
         strip as usize,
@@ -84,17 +84,17 @@ pub fn origin(store: &[u8], console: u32, strip: u32, cell: u32) -> Reply {
 }
 
 pub fn mergeable(store: &[u8]) -> Reply {
-    Reply::of(find_pair(store))
+    reply_of(find_pair(store))
 }
 
 pub fn view_refusal(live: &[u8], frozen: &[u8], console: u32, choice: u32) -> Reply {
     let found = find_view(live, frozen, console as usize, choice as usize);
-    Reply::of(found.map(|_| 0))
+    reply_of(found.map(|_| 0))
 }
 
 pub fn view_at(live: &[u8], frozen: &[u8], console: u32, choice: u32) -> Reply {
     let found = find_view(live, frozen, console as usize, choice as usize);
-    Reply::of(found.map(|(place, _)| place))
+    reply_of(found.map(|(place, _)| place))
 }
 
 pub fn view<'a>(live: &'a [u8], frozen: &'a [u8], console: u32, choice: u32) -> &'a [u8] {

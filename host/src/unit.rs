@@ -1,91 +1,21 @@
-// The safe wrapper of the room unit: its calls as safe functions. A slice crosses the boundary as a pointer and a length, and the
-// unit's contracts have no conditions, so any bytes and any numbers may be handed over. No slice comes back: of a view the unit says the
-// place, and the part is cut out here.
+// The room unit's calls as functions of the form that all implementations share, made of the declarations of the crate `room`. A slice
+// crosses the boundary as a pointer and a length, and the unit's contracts have no conditions, so any bytes and any numbers may be handed
+// over. No slice comes back: of a view the unit says the place, and the part is cut out here.
 
 use crate::calls::Reply;
 use crate::layout::BOARD_BYTES;
 use crate::model::choice::LIVE;
-
-// As include/room.h declares them; public for the tests of NULL, which no slice can be.
-#[link(name = "unit", kind = "static")]
-extern "C" {
-    pub fn room_open(capacity: u32, store: *mut u8, store_length: usize) -> Reply;
-    pub fn room_command(
-        store: *mut u8,
-        store_length: usize,
-        command: *const u8,
-        command_length: usize,
-    ) -> Reply;
-    pub fn room_pause(
-        store: *const u8,
-        store_length: usize,
-        tape: *mut u8,
-        tape_length: usize,
-    ) -> Reply;
-    pub fn room_resume(
-        tape: *const u8,
-        tape_length: usize,
-        store: *mut u8,
-        store_length: usize,
-    ) -> Reply;
-    pub fn room_board(
-        store: *const u8,
-        store_length: usize,
-        console: u32,
-        board: *mut u8,
-        board_length: usize,
-    ) -> Reply;
-    pub fn room_student_pane(
-        store: *const u8,
-        store_length: usize,
-        console: u32,
-        pane: *mut u8,
-        pane_length: usize,
-    ) -> Reply;
-    pub fn room_instructor_pane(
-        store: *const u8,
-        store_length: usize,
-        console: u32,
-        pane: *mut u8,
-        pane_length: usize,
-    ) -> Reply;
-    pub fn room_heard(store: *const u8, store_length: usize, console: u32) -> Reply;
-    pub fn room_common(store: *const u8, store_length: usize, first: u32, second: u32) -> Reply;
-    pub fn room_origin(
-        store: *const u8,
-        store_length: usize,
-        console: u32,
-        strip: u32,
-        cell: u32,
-    ) -> Reply;
-    pub fn room_mergeable(store: *const u8, store_length: usize) -> Reply;
-    pub fn room_view_refusal(
-        live: *const u8,
-        live_length: usize,
-        frozen: *const u8,
-        frozen_length: usize,
-        console: u32,
-        choice: u32,
-    ) -> Reply;
-    pub fn room_view_at(
-        live: *const u8,
-        live_length: usize,
-        frozen: *const u8,
-        frozen_length: usize,
-        console: u32,
-        choice: u32,
-    ) -> Reply;
-}
+use room::ffi;
 
 // Each call below is sound for every argument: the unit reads and writes within the lengths given and keeps no pointer.
 
 pub fn open(capacity: u32, store: &mut [u8]) -> Reply {
-    unsafe { room_open(capacity, store.as_mut_ptr(), store.len()) }
+    unsafe { ffi::room_open(capacity, store.as_mut_ptr(), store.len()) }
 }
 
 pub fn command(store: &mut [u8], command: &[u8]) -> Reply {
     unsafe {
-        room_command(
+        ffi::room_command(
             store.as_mut_ptr(),
             store.len(),
             command.as_ptr(),
@@ -95,31 +25,28 @@ pub fn command(store: &mut [u8], command: &[u8]) -> Reply {
 }
 
 pub fn pause(store: &[u8], tape: &mut [u8]) -> Reply {
-    unsafe { room_pause(store.as_ptr(), store.len(), tape.as_mut_ptr(), tape.len()) }
+    unsafe { ffi::room_pause(store.as_ptr(), store.len(), tape.as_mut_ptr(), tape.len()) }
 }
 
 pub fn resume(tape: &[u8], store: &mut [u8]) -> Reply {
-    unsafe { room_resume(tape.as_ptr(), tape.len(), store.as_mut_ptr(), store.len()) }
+    unsafe { ffi::room_resume(tape.as_ptr(), tape.len(), store.as_mut_ptr(), store.len()) }
 }
 
 pub fn board(store: &[u8], console: u32, board: &mut [u8]) -> Reply {
-    copy_out(room_board, store, console, board)
+    copy_out(ffi::room_board, store, console, board)
 }
 
 /// The board without what belongs to the instructor: alerts, calls and marks 8 to 15 are zero.
 pub fn student_pane(store: &[u8], console: u32, pane: &mut [u8]) -> Reply {
-    copy_out(room_student_pane, store, console, pane)
+    copy_out(ffi::room_student_pane, store, console, pane)
 }
 
 /// The board.
 pub fn instructor_pane(store: &[u8], console: u32, pane: &mut [u8]) -> Reply {
-    copy_out(room_instructor_pane, store, console, pane)
+    copy_out(ffi::room_instructor_pane, store, console, pane)
 }
 
-/// One of the three calls that copy a board or a pane out.
-pub type ExternCopyOut = unsafe extern "C" fn(*const u8, usize, u32, *mut u8, usize) -> Reply;
-
-fn copy_out(call: ExternCopyOut, store: &[u8], console: u32, output: &mut [u8]) -> Reply {
+fn copy_out(call: ffi::CopyOut, store: &[u8], console: u32, output: &mut [u8]) -> Reply {
     unsafe {
         call(
             store.as_ptr(),
@@ -132,26 +59,26 @@ fn copy_out(call: ExternCopyOut, store: &[u8], console: u32, output: &mut [u8]) 
 }
 
 pub fn heard(store: &[u8], console: u32) -> Reply {
-    unsafe { room_heard(store.as_ptr(), store.len(), console) }
+    unsafe { ffi::room_heard(store.as_ptr(), store.len(), console) }
 }
 
 pub fn common(store: &[u8], first: u32, second: u32) -> Reply {
-    unsafe { room_common(store.as_ptr(), store.len(), first, second) }
+    unsafe { ffi::room_common(store.as_ptr(), store.len(), first, second) }
 }
 
 pub fn origin(store: &[u8], console: u32, strip: u32, cell: u32) -> Reply {
-    unsafe { room_origin(store.as_ptr(), store.len(), console, strip, cell) }
+    unsafe { ffi::room_origin(store.as_ptr(), store.len(), console, strip, cell) }
 }
 
-/// Which two can meet; `Reply::verdict` takes the number apart.
+/// Which two can meet; `calls::verdict_in` takes the number apart.
 pub fn mergeable(store: &[u8]) -> Reply {
-    unsafe { room_mergeable(store.as_ptr(), store.len()) }
+    unsafe { ffi::room_mergeable(store.as_ptr(), store.len()) }
 }
 
 /// Why there is no view with these operands, or 0.
 pub fn view_refusal(live: &[u8], frozen: &[u8], console: u32, choice: u32) -> Reply {
     unsafe {
-        room_view_refusal(
+        ffi::room_view_refusal(
             live.as_ptr(),
             live.len(),
             frozen.as_ptr(),
@@ -165,7 +92,7 @@ pub fn view_refusal(live: &[u8], frozen: &[u8], console: u32, choice: u32) -> Re
 /// Where the board viewed stands in the store chosen.
 pub fn view_at(live: &[u8], frozen: &[u8], console: u32, choice: u32) -> Reply {
     unsafe {
-        room_view_at(
+        ffi::room_view_at(
             live.as_ptr(),
             live.len(),
             frozen.as_ptr(),

@@ -1,6 +1,6 @@
 // Which two can meet, by consequence: what an implementation answers is held against its own commands, each tried on a copy of the store.
 
-use crate::calls::Reply;
+use crate::calls::{verdict_in, Reply};
 use crate::implementations::Calls;
 use crate::layout::{has_hub, is_full};
 use crate::model::{code, refusal, Verdict, CONSOLES, HUB};
@@ -11,7 +11,7 @@ pub fn check(calls: &Calls, store: &[u8]) -> Result<Verdict, String> {
     let due = by_commands(calls, store)?;
     if has_hub(store) && !is_through_hub(due) {
         Err(format!("{due:?} by the commands, though there is a hub"))
-    } else if reply.verdict() == Some(due) {
+    } else if verdict_in(reply) == Some(due) {
         Ok(due)
     } else {
         Err(format!("{due:?} by the commands, {reply:?} answered"))

@@ -1,7 +1,7 @@
 // A view of one of two stores, by what its calls say of each other: the refusal, the place, the part and the board that is copied out of
 // the store chosen must fit, whatever the model says.
 
-use crate::calls::Reply;
+use crate::calls::{reply_of, Reply};
 use crate::implementations::Calls;
 use crate::layout::BOARD_BYTES;
 use crate::model::choice::LIVE;
@@ -65,7 +65,7 @@ fn check_part(calls: &Calls, asked: Asked, place: Reply, part: &[u8]) -> Result<
     }
     let mut board = [0; BOARD_BYTES];
     let reply = (calls.board)(store, asked.console, &mut board);
-    if reply == Reply::of(Ok(BOARD_BYTES)) && part == board {
+    if reply == reply_of(Ok(BOARD_BYTES)) && part == board {
         Ok(())
     } else {
         Err(format!("view differs: not the board, {place:?}"))

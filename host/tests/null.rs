@@ -2,12 +2,12 @@
 // call's other buffer. The answers are worked out by hand from the paper and the requests; of several refusals that apply, the one
 // tested first is given.
 
-use room_host::calls::Reply;
-use room_host::unit::{
-    self, room_board, room_command, room_common, room_heard, room_instructor_pane, room_mergeable,
+use room::ffi::{
+    room_board, room_command, room_common, room_heard, room_instructor_pane, room_mergeable,
     room_open, room_origin, room_pause, room_resume, room_student_pane, room_view_at,
-    room_view_refusal, ExternCopyOut,
+    room_view_refusal, CopyOut, Reply,
 };
+use room_host::unit;
 use std::ptr::{null, null_mut};
 
 const FILLER: u8 = 0xA5;
@@ -114,7 +114,7 @@ fn resume_into_null() {
 }
 
 /// Copies a board or a pane out of a NULL store, into an output and into NULL.
-fn copy_from_null(copy_out: ExternCopyOut) {
+fn copy_from_null(copy_out: CopyOut) {
     for (console, due) in [(0, 11), (15, 11), (16, 3)] {
         let mut output = [FILLER; 384];
         let reply = unsafe { copy_out(null(), 0, console, output.as_mut_ptr(), output.len()) };
@@ -126,7 +126,7 @@ fn copy_from_null(copy_out: ExternCopyOut) {
 }
 
 /// Copies a board or a pane of a sound store into NULL.
-fn copy_into_null(copy_out: ExternCopyOut) {
+fn copy_into_null(copy_out: CopyOut) {
     let store = opened();
     for (console, due) in [(0, 19), (15, 12), (16, 3)] {
         let reply = unsafe { copy_out(store.as_ptr(), store.len(), console, null_mut(), 0) };

@@ -5,6 +5,7 @@
 use super::cases::{store_of_three_consoles, stuck_store};
 use super::store::{accepted, refused, resumed, Store, FILLER};
 use super::{tested, TESTED};
+use room_host::calls::verdict_in;
 use room_host::gen;
 use room_host::layout::store_bytes;
 use room_host::model::{Entry, Room, Verdict, Version};
@@ -401,19 +402,19 @@ fn a_damaged_store_gives_11() {
 
 #[test]
 fn a_reply_in_words() {
-    assert_eq!(accepted(0).verdict(), Some(Verdict::AllAgree));
-    assert_eq!(accepted(256).verdict(), Some(Verdict::Stuck));
+    assert_eq!(verdict_in(accepted(0)), Some(Verdict::AllAgree));
+    assert_eq!(verdict_in(accepted(256)), Some(Verdict::Stuck));
     let (receiver, giver) = (0, 1);
     let merge = Verdict::Merge { receiver, giver };
-    assert_eq!(accepted(513).verdict(), Some(merge));
+    assert_eq!(verdict_in(accepted(513)), Some(merge));
     let (receiver, giver) = (15, 14);
     let follows = Verdict::FastForward { receiver, giver };
-    assert_eq!(accepted(1022).verdict(), Some(follows));
+    assert_eq!(verdict_in(accepted(1022)), Some(follows));
     // Neither a kind with a pair that has none, nor a console with itself, nor a fifth kind.
     for number in [1, 255, 257, 511, 512, 512 + 17, 768, 1023, 1024, u32::MAX] {
-        assert_eq!(accepted(number).verdict(), None, "{number}");
+        assert_eq!(verdict_in(accepted(number)), None, "{number}");
     }
-    assert_eq!(refused(11).verdict(), None);
+    assert_eq!(verdict_in(refused(11)), None);
 }
 
 /// In rooms of every kind the commands themselves bear the answer out.
