@@ -1,0 +1,182 @@
+// What a run must meet often enough beside the answers of the calls.
+
+/// What is counted beside the answers.
+#[derive(Clone, Copy)]
+pub(super) enum Figure {
+    OriginOfNoEntry,
+    OriginOfAnEntry,
+    Leave,
+    ForkedAgain,
+    ResumedAfterLeave,
+    HeardTheSame,
+    MergeWithoutClash,
+    MergeWithClashes,
+    Clash,
+    AllAgree,
+    Stuck,
+    MergeNamed,
+    FastForwardNamed,
+    MergeNamedInFullRoom,
+    HighReceiverNamed,
+    HubMade,
+    HubMadeAgain,
+    HubRefused,
+    ForkPastHub,
+    JoinPastHub,
+    Gathered,
+    GatheredTooFull,
+    HubResumed,
+    HubTapeRefused,
+    LeaveWithHub,
+    ForkedAgainWithHub,
+    ViewOfLive,
+    ViewOfFrozen,
+    ViewOfOneStore,
+    LiveBesideUnsound,
+    FrozenBesideUnsound,
+    LiveAlone,
+    FrozenAlone,
+    BoardsDiffer,
+    MarksHidden,
+    CallsHidden,
+    AlertCountHidden,
+    AlertFlagHidden,
+    NothingHidden,
+    PanesRefused,
+}
+
+/// The figures, each with its name and the least that a run must have of it for each of its rounds.
+pub(super) const FIGURES: [(Figure, &str, u64); 40] = [
+    (Figure::OriginOfNoEntry, "origins of no entry", 1),
+    (Figure::OriginOfAnEntry, "origins of an entry", 1),
+    (Figure::Leave, "leaves accepted", 100),
+    (
+        Figure::ForkedAgain,
+        "numbers forked again after a leave",
+        60,
+    ),
+    (Figure::ResumedAfterLeave, "rooms resumed after a leave", 40),
+    (
+        Figure::HeardTheSame,
+        "pairs of consoles that heard the same",
+        300,
+    ),
+    (Figure::MergeWithoutClash, "merges that counted 0", 80),
+    (
+        Figure::MergeWithClashes,
+        "merges that counted 1 or more",
+        30,
+    ),
+    (Figure::Clash, "clashes counted", 300),
+    (Figure::AllAgree, "rooms in which all agree", 150),
+    (Figure::Stuck, "stuck rooms", 10),
+    (Figure::MergeNamed, "first pairs that can merge", 150),
+    (
+        Figure::FastForwardNamed,
+        "first pairs that can fast-forward",
+        150,
+    ),
+    (
+        Figure::MergeNamedInFullRoom,
+        "first pairs that could merge in full rooms",
+        40,
+    ),
+    (
+        Figure::HighReceiverNamed,
+        "first pairs with a receiver from 8 on",
+        8,
+    ),
+    (Figure::HubMade, "hubs made", 5),
+    (Figure::HubMadeAgain, "hubs made again", 10),
+    (Figure::HubRefused, "hubs refused", 4),
+    (Figure::ForkPastHub, "forks past the hub", 8),
+    (
+        Figure::JoinPastHub,
+        "merges and fast-forwards past the hub",
+        25,
+    ),
+    (Figure::Gathered, "rooms gathered by the hub", 3),
+    (
+        Figure::GatheredTooFull,
+        "gatherings that ran out of versions",
+        2,
+    ),
+    (Figure::HubResumed, "rooms with a hub resumed", 25),
+    (
+        Figure::HubTapeRefused,
+        "tapes refused for their hub alone",
+        4,
+    ),
+    (
+        Figure::LeaveWithHub,
+        "leaves accepted where there is a hub",
+        12,
+    ),
+    (
+        Figure::ForkedAgainWithHub,
+        "numbers forked again where there is a hub",
+        5,
+    ),
+    (Figure::ViewOfLive, "views of the live store", 250),
+    (Figure::ViewOfFrozen, "views of the frozen store", 250),
+    (
+        Figure::ViewOfOneStore,
+        "views of one store lent as both",
+        15,
+    ),
+    (
+        Figure::LiveBesideUnsound,
+        "views of the live store where the frozen one gives 11",
+        80,
+    ),
+    (
+        Figure::FrozenBesideUnsound,
+        "views of the frozen store where the live one gives 11",
+        80,
+    ),
+    (
+        Figure::LiveAlone,
+        "views of the live store where the frozen one gives 12",
+        10,
+    ),
+    (
+        Figure::FrozenAlone,
+        "views of the frozen store where the live one gives 12",
+        10,
+    ),
+    (
+        Figure::BoardsDiffer,
+        "boards that differ, live and frozen",
+        40,
+    ),
+    (Figure::MarksHidden, "student's panes that hide marks", 60),
+    (Figure::CallsHidden, "student's panes that hide calls", 100),
+    (
+        Figure::AlertCountHidden,
+        "student's panes that hide alert counts",
+        90,
+    ),
+    (
+        Figure::AlertFlagHidden,
+        "student's panes that hide alert flags",
+        90,
+    ),
+    (
+        Figure::NothingHidden,
+        "student's panes equal to the board",
+        25,
+    ),
+    (
+        Figure::PanesRefused,
+        "consoles whose panes are refused",
+        300,
+    ),
+];
+
+/// What a student's pane hides, in the order of `Hidden`.
+pub(super) const HIDING: [Figure; 4] = [
+    Figure::MarksHidden,
+    Figure::CallsHidden,
+    Figure::AlertCountHidden,
+    Figure::AlertFlagHidden,
+];
