@@ -8,7 +8,6 @@ use crate::views::Asked;
 
 /// Guard bytes before and behind each lent buffer. The number is odd, so that no buffer is aligned.
 const GUARD_BYTES: usize = 33;
-
 const GUARD: u8 = 0xA5;
 
 #[derive(Clone)]

@@ -127,7 +127,6 @@ fn tape_end(head: u16) -> [u8; 5] {
 }
 
 const EDGE_STRIPS: [u8; 4] = [0, 31, 32, 255];
-
 const EDGE_OPERANDS: [u16; 11] = [0, 1, 15, 16, 255, 256, 360, 361, 600, 601, 0xFFFF];
 
 /// Codes, strips and operands at and beyond the ends of their ranges, as commands and on tapes.
