@@ -11,6 +11,7 @@ pub mod fast;
 pub mod gen;
 pub mod implementations;
 pub mod layout;
+pub mod limits;
 pub mod model;
 pub mod panes;
 pub mod rng;
