@@ -1,6 +1,7 @@
 // Rooms in buffers that they borrow: what is written, what stays, and views that read a store where it stands.
 
-use room::{Console, Entry, Refusal, Room, Strip, sizes::store_bytes};
+use room::sizes::{MAX_CAPACITY, store_bytes, tape_bytes};
+use room::{Console, Entry, Refusal, Room, Strip};
 
 const FILLER: u8 = 0xA5;
 const BEHIND: usize = 16;
@@ -50,6 +51,34 @@ fn a_buffer_is_used_again() -> Result<(), Refusal> {
     let room = Room::resume_in(&mut buffer[..], &other.pause()?)?;
     assert_eq!(room.board(ZERO), other.board(ZERO));
     assert_eq!(room.pause(), other.pause());
+    Ok(())
+}
+
+/// A hub room of 16 consoles with no version left has the longest tape that there is, and comes back in a buffer as long as the first.
+#[test]
+fn the_largest_room() -> Result<(), Refusal> {
+    let mut room = Room::open(MAX_CAPACITY)?;
+    room.hub()?;
+    for console in 1..16 {
+        room.fork(Console(console), ZERO)?;
+    }
+    for _ in 1..MAX_CAPACITY {
+        room.enter(ZERO, Strip(0), Entry::Call)?;
+    }
+    assert_eq!(room.enter(ZERO, Strip(0), Entry::Call), Err(Refusal::Full));
+    let tape = room.pause()?;
+    assert_eq!(tape.len(), tape_bytes(MAX_CAPACITY));
+    let again = Room::resume(&tape)?;
+    assert_eq!(again.board(ZERO)?.strip(Strip(0))?.calls, 1023);
+    assert_eq!(again.into_buffer(), room.into_buffer());
+    Ok(())
+}
+
+/// A room of its own is no longer than its tape says.
+#[test]
+fn a_small_room_comes_back_small() -> Result<(), Refusal> {
+    let tape = Room::open(3)?.pause()?;
+    assert_eq!(Room::resume(&tape)?.into_buffer().len(), store_bytes(3));
     Ok(())
 }
 

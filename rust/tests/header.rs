@@ -96,10 +96,11 @@ fn variant_of(name: &str) -> String {
 
 #[test]
 fn the_names_of_refusals() {
-    for refusal in Refusal::ALL {
+    for (refusal, number) in Refusal::ALL.into_iter().zip(1..) {
+        assert_eq!(refusal.number(), number);
         let name = refusal.name();
         assert_eq!(variant_of(name), format!("{refusal:?}"));
-        let row = format!("{name} = {}", refusal.number());
+        let row = format!("{name} = {number}");
         let ends = [",", " "].map(|end| row.clone() + end);
         assert!(ends.iter().any(|row| HEADER.contains(row)), "{row}");
     }
