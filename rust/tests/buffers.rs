@@ -59,9 +59,7 @@ fn a_buffer_is_used_again() -> Result<(), Refusal> {
 fn the_largest_room() -> Result<(), Refusal> {
     let mut room = Room::open(MAX_CAPACITY)?;
     room.hub()?;
-    for console in 1..16 {
-        room.fork(Console(console), ZERO)?;
-    }
+    (1..16).try_for_each(|console| room.fork(Console(console), ZERO))?;
     for _ in 1..MAX_CAPACITY {
         room.enter(ZERO, Strip(0), Entry::Call)?;
     }

@@ -41,26 +41,16 @@ fn of_a_commands_form() {
 #[test]
 fn of_an_entrys_number() {
     let mut room = opened();
-    let highest = [
-        Entry::Level(600),
-        Entry::Heading(360),
-        Entry::MarkPut(15),
-        Entry::MarkTaken(15),
+    let highest_and_above = [
+        (Entry::Level(600), Entry::Level(601)),
+        (Entry::Heading(360), Entry::Heading(361)),
+        (Entry::MarkPut(15), Entry::MarkPut(16)),
+        (Entry::MarkTaken(15), Entry::MarkTaken(16)),
     ];
-    for entry in highest {
-        assert_eq!(room.enter(ZERO, Strip(31), entry), Ok(()));
-    }
-    let above = [
-        Entry::Level(601),
-        Entry::Heading(361),
-        Entry::MarkPut(16),
-        Entry::MarkTaken(16),
-    ];
-    for entry in above {
-        assert_eq!(
-            room.enter(ZERO, Strip(31), entry),
-            Err(Refusal::OperandTooHigh)
-        );
+    for (highest, above) in highest_and_above {
+        assert_eq!(room.enter(ZERO, Strip(31), highest), Ok(()));
+        let refused = room.enter(ZERO, Strip(31), above);
+        assert_eq!(refused, Err(Refusal::OperandTooHigh));
     }
 }
 
@@ -88,6 +78,10 @@ fn of_a_capacity() {
     for capacity in [0, 1025, u32::MAX] {
         assert_eq!(Room::open(capacity).unwrap_err(), Refusal::BadCapacity);
     }
+}
+
+#[test]
+fn of_a_tapes_capacity() {
     for [high, low] in [[0, 0], [0x04, 0x01], [0xFF, 0xFF]] {
         let tape = [0x20, high, low, 0x23, 0, 0, 0, 0x24];
         assert_eq!(Room::resume(&tape).unwrap_err(), Refusal::BadCapacity);
