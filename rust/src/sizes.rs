@@ -22,7 +22,7 @@ pub const MAX_COMMAND_BYTES: usize = 5;
 /// The most clashes of a merge: the level and the heading of every strip.
 pub const MAX_CLASHES: u32 = 64;
 
-/// Bytes of stack that every call needs but [`RESUME_STACK`]'s and [`ORIGIN_STACK`]'s.
+/// Bytes of stack that a call needs; the next two say which need more.
 pub const STACK: usize = 16_384;
 /// Bytes of stack that [`Room::resume`](crate::Room::resume) and `resume_in` need. A thread of Rust's own has far more, but one that is
 /// made with `stack_size` may not.
