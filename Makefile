@@ -54,4 +54,4 @@ $(archive): $(unit_files) crates.txt include/room.h include/room_text.c scripts/
 	@scripts/staticlib
 
 $(panel): $(archive) include/room.h $(wildcard panel/*.[ch]) scripts/panel
-	@scripts/panel build
+	@scripts/panel

@@ -47,7 +47,7 @@ static void begin(struct history *history)
         history->head[console] = ABSENT;
 }
 
-void read_history(struct history *history, const uint8_t *tape, size_t length)
+void take_tape_apart(struct history *history, const uint8_t *tape, size_t length)
 {
     begin(history);
     for (size_t at = 0; at < length; at += record_bytes(tape[at]))

@@ -29,7 +29,7 @@ struct history {
 };
 
 /* Takes a tape apart that room_pause wrote. */
-void read_history(struct history *history, const uint8_t *tape, size_t length);
+void take_tape_apart(struct history *history, const uint8_t *tape, size_t length);
 
 int is_full(const struct history *history);
 

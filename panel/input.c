@@ -1,5 +1,5 @@
 /* Reads lines: with line editing and a history by readline or libedit, where the panel was built with one of them and both ends are a
-   terminal, else plainly. The parts of the panel that know its room are kept out: both libraries have a `read_history` of their own. */
+   terminal, else plainly. */
 #define _XOPEN_SOURCE 700
 #include "input.h"
 

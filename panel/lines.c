@@ -42,13 +42,20 @@ static int set_choice(struct line *line, int at, const char *word, const char *f
 
 _Static_assert(ROOM_LEVEL_CELL == 0 && ROOM_HEADING_CELL == 1 && ROOM_LIVE == 0 && ROOM_FROZEN == 1, "words in the order of their numbers");
 
+/* Two quotes with nothing between them name no file. */
+static int set_text(struct line *line, int at, const char *word)
+{
+    line->text = word;
+    return *word != '\0' || misunderstood("%s is missing", line->command->operand[at].name);
+}
+
 static int set_operand(struct line *line, int at, const char *word)
 {
     switch (line->command->operand[at].kind) {
     case CELL: return set_choice(line, at, word, "level", "heading");
     case ROOM: return set_choice(line, at, word, "live", "frozen");
     case TEXT:
-    case OPTIONAL_TEXT: line->text = word; return 1;
+    case OPTIONAL_TEXT: return set_text(line, at, word);
     default: return set_number(line, at, word);
     }
 }

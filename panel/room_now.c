@@ -31,7 +31,7 @@ const struct history *history_now(void)
     struct tape tape = tape_now();
     if (tape.length == 0)
         return NULL;
-    read_history(&history, tape.bytes, tape.length);
+    take_tape_apart(&history, tape.bytes, tape.length);
     return &history;
 }
 
