@@ -7,6 +7,7 @@
 #include <stdio.h>
 #include <stdlib.h>
 #include <string.h>
+#include <strings.h>
 #include <unistd.h>
 
 #include "outcome.h"
@@ -19,9 +20,15 @@
 #include <editline/readline.h>
 #endif
 
-/* The last line, and how many bytes `getline` may write there. */
-static char *buffer;
-static size_t buffer_bytes;
+/* What was read, and how many bytes `getline` may write there. */
+struct buffer {
+    char *bytes;
+    size_t size;
+};
+
+/* An answer has its own, as the line that is carried out meanwhile still points into the other. */
+static struct buffer last_line;
+static struct buffer last_answer;
 
 int is_interactive(void)
 {
@@ -35,14 +42,14 @@ static void cut_line_end(struct text *text)
         text->bytes[--text->length] = '\0';
 }
 
-static int read_plain(const char *prompt, struct text *text)
+static int read_plain(const char *prompt, struct buffer *buffer, struct text *text)
 {
     if (is_interactive()) {
         fputs(prompt, stdout);
         fflush(stdout);
     }
     errno = 0;
-    ssize_t length = getline(&buffer, &buffer_bytes, stdin);
+    ssize_t length = getline(&buffer->bytes, &buffer->size, stdin);
     if (length < 0 && !feof(stdin)) {
         printf("standard input could not be read: %s\n", strerror(errno));
         note(FILE_FAILED);
@@ -50,7 +57,7 @@ static int read_plain(const char *prompt, struct text *text)
     clearerr(stdin); /* someone who types may go on behind an end of input */
     if (length < 0)
         return 0;
-    *text = (struct text){buffer, (size_t)length};
+    *text = (struct text){buffer->bytes, (size_t)length};
     cut_line_end(text);
     return 1;
 }
@@ -62,25 +69,41 @@ static int is_edited(void)
     return is_interactive() && isatty(STDOUT_FILENO);
 }
 
-/* Several lines that are pasted are several lines. Only readline knows another way, which makes one of them. */
-static void set_up_editing(void)
-{
 #if defined HAVE_READLINE
-    rl_initialize();
-    rl_variable_bind("enable-bracketed-paste", "off");
-#endif
+
+/* An interrupt that is typed drops the line. */
+static int drop_line(void)
+{
+    rl_replace_line("", 0);
+    rl_done = 1;
+    return 0;
 }
 
-static int read_edited(const char *prompt, struct text *text)
+/* Several lines that are pasted are several lines: only readline knows another way, which makes one of them. */
+static void set_up_editing(void)
 {
-    free(buffer);
+    rl_initialize();
+    rl_variable_bind("enable-bracketed-paste", "off");
+    rl_signal_event_hook = drop_line;
+}
+
+#else
+
+static void set_up_editing(void)
+{
+}
+
+#endif
+
+static int read_edited(const char *prompt, struct buffer *buffer, struct text *text)
+{
+    free(buffer->bytes);
     set_up_editing();
-    buffer = readline(prompt);
-    buffer_bytes = 0;
-    if (buffer == NULL)
+    *buffer = (struct buffer){readline(prompt), 0};
+    if (buffer->bytes == NULL)
         return 0;
-    buffer_bytes = strlen(buffer) + 1;
-    *text = (struct text){buffer, buffer_bytes - 1};
+    *text = (struct text){buffer->bytes, strlen(buffer->bytes)};
+    buffer->size = text->length + 1;
     return 1;
 }
 
@@ -97,9 +120,9 @@ static int is_edited(void)
     return 0;
 }
 
-static int read_edited(const char *prompt, struct text *text)
+static int read_edited(const char *prompt, struct buffer *buffer, struct text *text)
 {
-    return read_plain(prompt, text);
+    return read_plain(prompt, buffer, text);
 }
 
 static void remember(const struct text *text)
@@ -109,9 +132,9 @@ static void remember(const struct text *text)
 
 #endif
 
-static int read_after(const char *prompt, struct text *text)
+static int read_after(const char *prompt, struct buffer *buffer, struct text *text)
 {
-    int is_read = is_edited() ? read_edited(prompt, text) : read_plain(prompt, text);
+    int is_read = is_edited() ? read_edited(prompt, buffer, text) : read_plain(prompt, buffer, text);
     if (!is_read && is_interactive())
         putchar('\n'); /* where the prompt stands no line was ended */
     return is_read;
@@ -119,7 +142,7 @@ static int read_after(const char *prompt, struct text *text)
 
 int read_line(struct text *text)
 {
-    if (!read_after("room> ", text))
+    if (!read_after("room> ", &last_line, text))
         return 0;
     remember(text);
     return 1;
@@ -128,7 +151,7 @@ int read_line(struct text *text)
 static int is_yes(char *text)
 {
     char *word;
-    if (take_word(&text, &word) != A_WORD || (strcmp(word, "y") != 0 && strcmp(word, "yes") != 0))
+    if (take_word(&text, &word) != A_WORD || (strcasecmp(word, "y") != 0 && strcasecmp(word, "yes") != 0))
         return 0;
     return take_word(&text, &word) == NO_WORD;
 }
@@ -136,13 +159,13 @@ static int is_yes(char *text)
 enum consent ask(const char *question)
 {
     struct text text;
-    if (!read_after(question, &text))
+    if (!read_after(question, &last_answer, &text))
         return NO_ANSWER;
     return is_yes(text.bytes) ? YES : NO;
 }
 
 void free_input(void)
 {
-    free(buffer);
-    buffer = NULL;
+    free(last_line.bytes);
+    free(last_answer.bytes);
 }

@@ -26,7 +26,7 @@ static int set_number(struct line *line, int at, const char *word)
     uint32_t most = most_of(line, operand);
     switch (read_number(word, most, &line->number[at])) {
     case A_NUMBER: return 1;
-    case TOO_HIGH: return misunderstood("%s is at most %lu in a command, not %s", operand->name, (unsigned long)most, shown(word).text);
+    case TOO_HIGH: return misunderstood("%s is more than a command can carry as %s (%lu)", shown(word).text, operand->name, (unsigned long)most);
     default: return misunderstood("%s is a number, not `%s`", operand->name, shown(word).text);
     }
 }
