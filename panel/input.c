@@ -4,6 +4,7 @@
 #include "input.h"
 
 #include <errno.h>
+#include <signal.h>
 #include <stdio.h>
 #include <stdlib.h>
 #include <string.h>
@@ -33,6 +34,21 @@ static struct buffer last_answer;
 int is_interactive(void)
 {
     return isatty(STDIN_FILENO);
+}
+
+static volatile sig_atomic_t is_interrupted;
+
+/* The line that was being typed is dropped by whoever reads it, the terminal or readline. */
+static void outlive(int interrupt)
+{
+    (void)interrupt;
+    is_interrupted = 1;
+}
+
+void outlive_interrupts(void)
+{
+    struct sigaction action = {.sa_handler = outlive, .sa_flags = SA_RESTART};
+    sigaction(SIGINT, &action, NULL);
 }
 
 /* `getline` keeps the end of a line, which the last may lack. */
@@ -71,11 +87,16 @@ static int is_edited(void)
 
 #if defined HAVE_READLINE
 
-/* An interrupt that is typed drops the line. */
+/* An interrupt that is typed drops the line, and an empty one is typed next. Any other signal, as of a window that changes its size, leaves it. */
 static int drop_line(void)
 {
+    if (!is_interrupted)
+        return 0;
+    is_interrupted = 0;
+    rl_crlf();
     rl_replace_line("", 0);
-    rl_done = 1;
+    rl_on_new_line();
+    rl_redisplay();
     return 0;
 }
 
@@ -85,6 +106,7 @@ static void set_up_editing(void)
     rl_initialize();
     rl_variable_bind("enable-bracketed-paste", "off");
     rl_signal_event_hook = drop_line;
+    is_interrupted = 0;
 }
 
 #else

@@ -7,6 +7,9 @@
 /* Whether standard input is a terminal, where someone sees a prompt and can be asked. */
 int is_interactive(void);
 
+/* From now on an interrupt that is typed, which would lose the room unasked, only drops the line. */
+void outlive_interrupts(void);
+
 /* The bytes of a line without its end, and a byte 0 behind them. They belong to the input and may be changed until the next call. */
 struct text {
     char *bytes;

@@ -18,19 +18,6 @@ static const char START_HELP[] =
     "TAPE is a file that `pause` wrote: the panel goes on with its room, else with a new one of capacity %d.\n"
     "Commands are read from standard input, a line each:\n";
 
-/* The line that was being typed is dropped by whoever reads it, the terminal or readline. */
-static void outlive(int interrupt)
-{
-    (void)interrupt;
-}
-
-/* An interrupt that is typed would lose the room unasked. */
-static void outlive_interrupts(void)
-{
-    struct sigaction action = {.sa_handler = outlive, .sa_flags = SA_RESTART};
-    sigaction(SIGINT, &action, NULL);
-}
-
 /* Where nobody reads the output, or a file grows too long, the panel is to be told and not ended. */
 static void prepare(void)
 {
