@@ -29,7 +29,7 @@ extern "C" {
 #define ROOM_VERSION_MINOR 8
 #define ROOM_VERSION_PATCH 0
 
-/* Every macro below but ROOM_VERSION is a number that #if can use too. */
+/* Every macro but ROOM_VERSION is a number that #if can use too. */
 
 /* Sizes. A store of a capacity takes ROOM_STORE_BYTES(capacity) bytes at the front of its buffer; bytes behind it are never touched. */
 #define ROOM_CONSOLES 16

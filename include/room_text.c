@@ -34,6 +34,8 @@ static const struct {
     ANSWER(ROOM_HUB_LACKS_COMMON, "two consoles have in common what console 0 lacks: let it take over from one of them first"),
 };
 
+_Static_assert(sizeof ANSWERS / sizeof ANSWERS[0] == ROOM_MAX_REFUSAL + 1, "a row for each answer");
+
 const char *room_refusal_text(uint32_t answer)
 {
     return answer <= ROOM_MAX_REFUSAL ? ANSWERS[answer].words : "no answer of the room unit";

@@ -178,7 +178,7 @@ pub fn bench_calls(report: &mut Report) {
 }
 
 /// A view of each of two equal stores. It costs the soundness test of the one that is chosen: were both
-/// tested it would be twice that. The call measured says the place, which is all that the wrapper's view asks for.
+/// tested it would be twice that. The call measured says the place, which is all that a view asks for.
 fn bench_views(report: &mut Report, room: &Room) {
     for (what, choice) in [("view_live", choice::LIVE), ("view_frozen", choice::FROZEN)] {
         let view = ViewNumbers {
