@@ -5,7 +5,8 @@
  * - A pointer and the length behind it describe bytes that the caller may read, and write where the pointer is not const.
  *   With a length of 0 the pointer may be NULL.
  * - A buffer that a call writes overlaps no other buffer of that call. The two stores of a view are only read, so they may overlap or be one.
- * - No other thread touches a lent buffer before the call has returned. The unit keeps no pointer and no state of its own.
+ * - Before the call has returned no other thread writes a lent buffer, nor reads one that the call writes. The unit keeps no pointer and no
+ *   state of its own.
  * - room_resume needs ROOM_RESUME_STACK bytes of stack, room_origin ROOM_ORIGIN_STACK bytes, any other call ROOM_STACK bytes. musl gives a
  *   thread 131,072 bytes unless told otherwise, too few for room_resume: there pthread_attr_setstacksize has to ask for more.
  * - A store stays where it is, and nobody writes it, as long as a pointer that room_view made into it is in use.

@@ -4,6 +4,7 @@
 
 #include <errno.h>
 #include <fcntl.h>
+#include <libgen.h>
 #include <stdio.h>
 #include <stdlib.h>
 #include <string.h>
@@ -89,6 +90,18 @@ static int is_filled(int file, const uint8_t *bytes, size_t length, mode_t mode)
     return write_all(file, bytes, length) && fsync(file) == 0 && reads_back(file, bytes, length) && fchmod(file, mode) == 0;
 }
 
+/* So that the new name too outlasts a power cut. That a file system cannot do it is no fault of the file. */
+static void sync_folder_of(const char *path)
+{
+    char *name = strdup(path);
+    int folder = name != NULL ? open(dirname(name), O_RDONLY | O_DIRECTORY) : -1;
+    if (folder >= 0) {
+        fsync(folder);
+        close(folder);
+    }
+    free(name);
+}
+
 /* Fills the new file, closes it and gives it its name. */
 static int put_in_place(int file, const char *beside, const struct place *place, const uint8_t *bytes, size_t length)
 {
@@ -98,7 +111,10 @@ static int put_in_place(int file, const char *beside, const struct place *place,
         errno = error;
         return 0;
     }
-    return close(file) == 0 && rename(beside, place->path) == 0;
+    if (close(file) != 0 || rename(beside, place->path) != 0)
+        return 0;
+    sync_folder_of(place->path);
+    return 1;
 }
 
 /* Whatever fails, nothing is left beside. */
@@ -160,9 +176,18 @@ static long read_up_to(int file, uint8_t *bytes, size_t most)
     return count < 0 ? NOT_READ : (long)length;
 }
 
+/* A pipe that nobody writes to would be waited for: it is opened without waiting, and then read like any file. */
+static int open_to_read(const char *name)
+{
+    int file = open(name, O_RDONLY | O_NONBLOCK);
+    if (file >= 0)
+        fcntl(file, F_SETFL, 0);
+    return file;
+}
+
 long read_file(const char *name, void *bytes, size_t most)
 {
-    int file = open(name, O_RDONLY);
+    int file = open_to_read(name);
     long length = file < 0 ? NOT_READ : read_up_to(file, bytes, most);
     if (length == NOT_READ)
         say_failed(name, "read");
