@@ -113,15 +113,26 @@ static void set_up_editing(void)
 
 static void set_up_editing(void)
 {
+    is_interrupted = 0;
 }
 
 #endif
+
+/* libedit ends the input at an interrupt, where readline has dropped the line by then: an empty one takes its place. */
+static char *edited_line(const char *prompt)
+{
+    char *line = readline(prompt);
+    if (line != NULL || !is_interrupted)
+        return line;
+    putchar('\n');
+    return strdup("");
+}
 
 static int read_edited(const char *prompt, struct buffer *buffer, struct text *text)
 {
     free(buffer->bytes);
     set_up_editing();
-    *buffer = (struct buffer){readline(prompt), 0};
+    *buffer = (struct buffer){edited_line(prompt), 0};
     if (buffer->bytes == NULL)
         return 0;
     *text = (struct text){buffer->bytes, strlen(buffer->bytes)};

@@ -34,7 +34,8 @@ impl Room<Vec<u8>> {
         Room::open_in(buffer_for(capacity), capacity)
     }
 
-    /// The room of a tape that [`pause`](Room::pause) wrote. Refusals 7 to 10.
+    /// The room of a tape that [`pause`](Room::pause) wrote. Needs [`RESUME_STACK`](crate::sizes::RESUME_STACK) bytes of stack.
+    /// Refusals 7 to 10.
     ///
     /// ```
     /// # use room::{Console, Entry, Room, Strip};

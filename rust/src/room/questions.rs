@@ -131,7 +131,7 @@ impl<B: AsRef<[u8]>> Room<B> {
     }
 
     /// The version of the entry behind what a console shows as a level or heading; none where that is 0 because nothing was entered.
-    /// Refusals 3, 4, 12.
+    /// Needs [`ORIGIN_STACK`](crate::sizes::ORIGIN_STACK) bytes of stack. Refusals 3, 4, 12.
     ///
     /// ```
     /// # use room::{Cell, Console, Entry, Room, Strip, Version};
