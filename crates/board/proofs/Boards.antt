@@ -13,8 +13,7 @@ use Rattle.laws.proofs.Lists.{part_at, take_put}
 use Rattle.buffer.specs.Field.{word_at, part, with_part}
 use Rattle.buffer.proofs.Patches.{put_lent, with_length}
 use Rattle.board.specs.Board.{Merged, strip_size, strip_count, board_size, level_at, heading_at, marks_at, calls_at, alerts_at, flag_on, merge_strip, merge_strips, merge_board}
-use Rattle.buffer.specs.Blocks.{joined}
-use Rattle.board.specs.Pane.{student_strip}
+use Rattle.board.specs.Pane.{strips, student_strip}
 use Rattle.board.proofs.Length.{merge_strip-length, merged_strips}
 use Rattle.board.proofs.Clashes.{strip_clashes, strips_clashes}
 
@@ -77,16 +76,16 @@ strip_seen_put pane board k {x} {new} ex e =
 pub record StripsMade (each : ℕ → List ℕ) (board : List ℕ) (k : ℕ) : Type 0 where
   pub within : k ≤ strip_count
   pub long : length board ≡ board_size
-  pub done : take (strip_size * k) board ≡ joined each k
+  pub done : take (strip_size * k) board ≡ strips each k
 
 pub made_start : (each : ℕ → List ℕ) (board : List ℕ) → length board ≡ board_size → StripsMade each board 0
-unfolding joined
+unfolding strips
 made_start each board h = record { within = omega arith; long = h; done = refl }
 
 -- strip k is written
 pub made_step : {each : ℕ → List ℕ} {board new : List ℕ} {k : ℕ} → length (each k) ≡ strip_size → StripsMade each board k → k < strip_count
     → new ≡ with_part board (strip_size * k) (each k) → StripsMade each new (k + 1)
-unfolding joined with_part
+unfolding strips with_part
 made_step {each} {board} {new} {k} size m h e =
     record {
       within = omega arith;
@@ -97,7 +96,7 @@ made_step {each} {board} {new} {k} size m h e =
           ∙ rw (m.done, add-one);
     }
 
-pub made_finish : {each : ℕ → List ℕ} {board : List ℕ} {k : ℕ} → StripsMade each board k → strip_count ≤ k → board ≡ joined each strip_count
+pub made_finish : {each : ℕ → List ℕ} {board : List ℕ} {k : ℕ} → StripsMade each board k → strip_count ≤ k → board ≡ strips each strip_count
 made_finish {each} {board} {k} m h =
     let e : k ≡ strip_count = omega (arith, m.within) in
     rw (e, take_all board_size board (omega (arith, m.long))) at m.done

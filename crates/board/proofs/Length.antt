@@ -10,21 +10,20 @@ use Rattle.buffer.proofs.Writes.{put_length}
 use Rattle.board.specs.declared.Viewer.{Viewer}
 use Rattle.board.specs.declared.Viewer.TheVariants.{Instructor, Student}
 use Rattle.board.specs.Board.{board_size, strip_size, strip_count, merge_strip, merge_strips, merge_board, enter}
-use Rattle.buffer.specs.Blocks.{joined}
-use Rattle.board.specs.Pane.{student_strip, pane_of}
+use Rattle.board.specs.Pane.{strips, student_strip, pane_of}
 
 pub merge_strip-length : (l a b : List ℕ) (k : ℕ) → length (merge_strip l a b k).bytes ≡ strip_size
 unfolding merge_strip
 merge_strip-length l a b k = refl
 
 -- strips one behind the other; those of a merge are such
-pub strips_length : (each : ℕ → List ℕ) → ((k : ℕ) → length (each k) ≡ strip_size) → (n : ℕ) → length (joined each n) ≡ strip_size * n
-unfolding joined
+pub strips_length : (each : ℕ → List ℕ) → ((k : ℕ) → length (each k) ≡ strip_size) → (n : ℕ) → length (strips each n) ≡ strip_size * n
+unfolding strips
 strips_length each size zero = refl
 strips_length each size (suc n) = rw (length-append, strips_length each size n, size n) (omega arith)
 
-pub merged_strips : (l a b : List ℕ) (n : ℕ) → (merge_strips l a b n).bytes ≡ joined (λ k. (merge_strip l a b k).bytes) n
-unfolding merge_strips joined
+pub merged_strips : (l a b : List ℕ) (n : ℕ) → (merge_strips l a b n).bytes ≡ strips (λ k. (merge_strip l a b k).bytes) n
+unfolding merge_strips strips
 merged_strips l a b zero = refl
 merged_strips l a b (suc n) = ap (λ (before : List ℕ). before ++ (merge_strip l a b n).bytes) (merged_strips l a b n)
 

@@ -16,8 +16,7 @@ use Rattle.buffer.proofs.Fields.{cut}
 use Rattle.board.specs.declared.Cell.{Cell}
 use Rattle.board.specs.declared.Cell.TheVariants.{Level, Heading}
 use Rattle.board.specs.Board.{strip_count, board_size, marks_at, alerts_at, value_in, mark_bit, without, merge_value, merge_marks, merge_board, enter, writing_code, mark_put_entry, mark_taken_entry}
-use Rattle.buffer.specs.Blocks.{joined}
-use Rattle.board.specs.Pane.{seen_marks, student_strip, student_pane}
+use Rattle.board.specs.Pane.{seen_marks, student_strip, strips, student_pane}
 use Rattle.board.proofs.Marks.{seen_merged, seen_put, seen_taken, seen_cut}
 use Rattle.board.proofs.Cells.{value_cut, marks_cut, value_kept, marks_kept, value_written, mark_put, mark_taken}
 
@@ -40,8 +39,8 @@ pub alike_through : {s t u : List ℕ} → Alike s t → Alike t u → Alike s u
 alike_through a b = record { value = λ cell k l. a.value cell k l ∙ b.value cell k l; marks = λ k l. a.marks k l ∙ b.marks k l }
 
 -- then he is shown the same
-strips_same : (f g : ℕ → List ℕ) (n : ℕ) → ((k : ℕ) → k < n → f k ≡ g k) → joined f n ≡ joined g n
-unfolding joined
+strips_same : (f g : ℕ → List ℕ) (n : ℕ) → ((k : ℕ) → k < n → f k ≡ g k) → strips f n ≡ strips g n
+unfolding strips
 strips_same f g zero h = refl
 strips_same f g (suc n) h = ap₂ ◌++◌ (strips_same f g n (λ k l. h k (omega arith))) (h n (omega arith))
 

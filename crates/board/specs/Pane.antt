@@ -1,7 +1,6 @@
 -- "Alerts, calls and marks 8 to 15 belong to the instructor." What the instructor and what a student sees of a board.
-use Rattle.std.specs.Prelude.{ℕ, ◌%◌, ◌^◌, List, ◌++◌}
+use Rattle.std.specs.Prelude.{ℕ, zero, suc, ◌%◌, ◌^◌, List, [], ◌++◌}
 use Rattle.buffer.specs.Field.{word, word_at, zeros}
-use Rattle.buffer.specs.Blocks.{joined}
 use Rattle.board.specs.declared.Cell.TheVariants.{Level, Heading}
 use Rattle.board.specs.declared.Viewer.{Viewer}
 use Rattle.board.specs.declared.Viewer.TheVariants.{Instructor, Student}
@@ -20,8 +19,13 @@ seen_marks marks = marks % 2 ^ first_unseen_mark
 unfoldable pub student_strip : List ℕ → ℕ → List ℕ
 student_strip s k = word (value_in Level k s) ++ word (value_in Heading k s) ++ word (seen_marks (word_at s (marks_at k))) ++ zeros 6
 
+-- so many strips one behind the other, each given by its number
+unfoldable pub strips : (ℕ → List ℕ) → ℕ → List ℕ
+strips strip zero = []
+strips strip (suc n) = strips strip n ++ strip n
+
 abbrev pub student_pane : List ℕ → List ℕ
-student_pane s = joined (student_strip s) strip_count
+student_pane s = strips (student_strip s) strip_count
 
 -- "The instructor's pane is the board."
 abbrev pub pane_of : Viewer → List ℕ → List ℕ

@@ -1,7 +1,7 @@
 -- The rows that step a room are about the calls: on a buffer that begins with the bytes of a sound room, a command answers what the rows say
 -- and leaves the bytes of the room that they go on with.
 -- Assumes nothing.
-use Prim.Native.Nat.{ℕ, ◌≤◌, ◌<◌, ◌+◌}
+use Prim.Native.Nat.{ℕ, ◌≤◌, ◌<◌}
 use mathlib.Core.Path.{◌≡◌, refl, sym, ◌∙◌, ap}
 use mathlib.Core.Bool.{Bool, true, false, cond}
 use mathlib.Core.List.{List, [], ◌∷◌, ◌++◌, map}
@@ -31,9 +31,7 @@ use Rattle.room.specs.Mergeable.{mergeable}
 use Rattle.room.specs.Step.{absent, step_refusal, step, clash_count}
 use Rattle.room.proofs.Sound.{present_console, sound_facts}
 use Rattle.room.proofs.Steps.{common_self, step_sound, fresh_sound}
-use Rattle.store.specs.Layout.{header_size, store_size, board_place, encode}
-use Rattle.buffer.specs.Blocks.{block_at}
-use Rattle.update.proofs.HubRoom.{hub_size}
+use Rattle.store.specs.Layout.{store_size, board_at, encode}
 use Rattle.store.proofs.RoundTrip.{encode_length, room_encode, holds_encode}
 use Rattle.tape.specs.Tape.{tape_of}
 use Rattle.unit.specs.declared.Reply.{Reply}
@@ -48,22 +46,22 @@ use Rattle.cases.specs.Run.{answer_in, count_in, room_after, made, replies}
 use Rattle.cases.specs.Requests.{view_in, pane_in}
 use Rattle.cases.specs.Called.{head_reply, Called}
 
--- the bytes of a sound room, written over those of another whose store is as large
-replaced : (r n : Room) (rest : List ℕ) → sound_room r ≡ true → sound_room n ≡ true → store_size n.settings ≡ store_size r.settings
+-- the bytes of a sound room, written over those of another of the same capacity
+replaced : (r n : Room) (rest : List ℕ) → sound_room r ≡ true → sound_room n ≡ true → n.settings.capacity ≡ r.settings.capacity
     → overwrite (encode n) (encode r ++ rest) ≡ encode n ++ rest
 replaced r n rest s t e =
     ap (λ (tail : List ℕ). encode n ++ tail)
-    (drop_at (encode r) rest (length (encode n)) (encode_length r s ∙ sym (encode_length n t ∙ e)))
+    (drop_at (encode r) rest (length (encode n)) (encode_length r s ∙ sym (encode_length n t ∙ ap store_size e)))
 
--- no command changes the size of a store
-step_size : (r : Room) (c : Command) → store_size (step r c).settings ≡ store_size r.settings
+-- no command changes the capacity
+step_capacity : (r : Room) (c : Command) → (step r c).settings.capacity ≡ r.settings.capacity
 unfolding step
-step_size r (Fork new old) = refl
-step_size r (Entry console code strip operand) = refl
-step_size r (Merge receiver giver) = refl
-step_size r (FastForward receiver giver) = refl
-step_size r (Leave console) = refl
-step_size r MakeHub = ap (λ (size : ℕ). header_size + block_at size r.settings.capacity) (hub_size r.settings)
+step_capacity r (Fork new old) = refl
+step_capacity r (Entry console code strip operand) = refl
+step_capacity r (Merge receiver giver) = refl
+step_capacity r (FastForward receiver giver) = refl
+step_capacity r (Leave console) = refl
+step_capacity r MakeHub = refl
 
 -- and each leaves a sound room
 after_sound : (r : Room) (c : List ℕ) (d : Decoded) → decode c ≡ d → sound_room r ≡ true → sound_room (room_after r d) ≡ true
@@ -87,7 +85,7 @@ module _ (r : Room) (rest : List ℕ) (s : sound_room r ≡ true) where
     where
       go : (b : Bool) → (b ≡ true → sound_room (step r k) ≡ true)
           → cond b (overwrite (encode (step r k)) (encode r ++ rest)) (encode r ++ rest) ≡ encode (cond b (step r k) r) ++ rest
-      go true f = replaced r (step r k) rest s (f refl) (step_size r k)
+      go true f = replaced r (step r k) rest s (f refl) (step_capacity r k)
       go false f = refl
 
   -- a command: its reply, and the buffer afterwards
@@ -136,7 +134,7 @@ module _ (r : Room) (rest : List ℕ) (s : sound_room r ≡ true) where
       → (view_of (encode r ++ rest) other c 0 ≡ view_in r c) × (view_of other (encode r ++ rest) c 1 ≡ view_in r c)
   unfolding view_part view_at_reply view_refusal_reply first_refusal
   view_called other c l =
-      let e = go (absent r c) (board_shown r c) (board_place r.settings (head r c)) in
+      let e = go (absent r c) (board_shown r c) (board_at (head r c)) in
       rw (holds_encode r rest s, room_encode r rest s, lt-ltb c console_count l) (e, e)
     where
       go : (b : Bool) (bytes : List ℕ) (at : ℕ) → let n : ℕ = cond b 12 0 in
@@ -189,7 +187,7 @@ called r rest commands s =
 
 -- an opening gives such a buffer
 pub opened_called : (capacity : ℕ) (buffer : List ℕ) → (open_outcome capacity buffer).reply.answer ≡ 0
-    → ((open_outcome capacity buffer).buffer ≡ encode (fresh capacity) ++ drop (store_size (open_settings capacity)) buffer) × (sound_room (fresh capacity) ≡ true)
+    → ((open_outcome capacity buffer).buffer ≡ encode (fresh capacity) ++ drop (store_size capacity) buffer) × (sound_room (fresh capacity) ≡ true)
 unfolding open_outcome
 opened_called capacity buffer h =
     let s = fresh_sound (open_settings capacity) (not-false _ (none_applies _ refl h).0) in

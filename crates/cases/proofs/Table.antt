@@ -4,8 +4,7 @@ use mathlib.Core.Path.{◌≡◌, refl, ap}
 use mathlib.Core.Bool.{true}
 use mathlib.Core.List.{List, [], ◌∷◌, map}
 use Rattle.board.specs.Board.{merge_flag, merge_strip, merge_strips, enter}
-use Rattle.buffer.specs.Blocks.{block_at, joined}
-use Rattle.board.specs.Pane.{student_strip}
+use Rattle.board.specs.Pane.{student_strip, strips}
 use Rattle.graph.specs.Below.{every_below, some_below, highest_below, first_nonzero}
 use Rattle.graph.specs.Graph.{ancestor, is_meet, meet, every_version}
 use Rattle.refusal.specs.Refusal.{first_refusal}
@@ -22,7 +21,7 @@ use Rattle.room.specs.Step.{state_tests, step_refusal, step, clash_count}
 use Rattle.room.specs.Unseen.{is_unseen, none, same, unseen, RoomsAgree}
 use Rattle.room.specs.Mergeable.{pair_number, first_pair, heads_agree, mergeable}
 use Rattle.room.specs.Gathering.{hub_takes, hub_gives, after_all, for_each, gathering}
-use Rattle.store.specs.Layout.{block_size, room_in, holds_store}
+use Rattle.store.specs.Layout.{holds_store}
 use Rattle.unit.specs.Calls.{command, origin_reply, view_part, view_at_reply, view_refusal_reply, mergeable_reply, pane_outcome, step_outcome, command_outcome, resumed, resume_outcome}
 use Rattle.claims.specs.Secrecy.{EntersUnseen, entries, ListsAgree, next}
 use Rattle.claims.specs.Secrecy as calls
@@ -48,11 +47,11 @@ starred_hold = rw (stuck_merges, stuck_forwards)
 
 -- those of the requests
 pub origins_hold : map (λ (c : Case). c.got) origin_cases ≡ map (λ (c : Case). c.due) origin_cases
-unfolding merge_flag merge_strip merge_strips enter every_below some_below highest_below ancestor is_meet meet first_refusal shape_of length_of number_at operands_of is_operand kind_of command_refusal decode common state_tests step_refusal step board_made board_of origin_of origin block_at block_size room_in holds_store origin_reply answer_in room_after made origin_cases
+unfolding merge_flag merge_strip merge_strips enter every_below some_below highest_below ancestor is_meet meet first_refusal shape_of length_of number_at operands_of is_operand kind_of command_refusal decode common state_tests step_refusal step board_made board_of origin_of origin holds_store origin_reply answer_in room_after made origin_cases
 origins_hold = refl
 
 pub leaves_hold : map (λ (c : Case). c.got) leave_cases ≡ map (λ (c : Case). c.due) leave_cases
-unfolding every_below some_below highest_below ancestor is_meet meet first_refusal shape_of length_of number_at operands_of is_operand kind_of command_refusal decode common state_tests step_refusal step block_at block_size room_in holds_store step_outcome command_outcome version_records head_records tape_of answer_in room_after made replies session leave_cases
+unfolding every_below some_below highest_below ancestor is_meet meet first_refusal shape_of length_of number_at operands_of is_operand kind_of command_refusal decode common state_tests step_refusal step holds_store step_outcome command_outcome version_records head_records tape_of answer_in room_after made replies session leave_cases
 leaves_hold = refl
 
 pub clashes_hold : map (λ (c : Case). c.got) clash_cases ≡ map (λ (c : Case). c.due) clash_cases
@@ -73,15 +72,15 @@ unfolding every_below some_below highest_below first_nonzero ancestor is_meet me
 agree_hold = refl
 
 pub pairs_hold : map (λ (c : Case). c.got) pair_cases ≡ map (λ (c : Case). c.due) pair_cases
-unfolding every_below some_below highest_below first_nonzero ancestor is_meet meet first_refusal shape_of length_of number_at operands_of is_operand kind_of command_refusal decode common state_tests step_refusal step pair_number first_pair heads_agree mergeable block_at block_size room_in holds_store mergeable_reply answer_in room_after made replies crossed pair_cases
+unfolding every_below some_below highest_below first_nonzero ancestor is_meet meet first_refusal shape_of length_of number_at operands_of is_operand kind_of command_refusal decode common state_tests step_refusal step pair_number first_pair heads_agree mergeable holds_store mergeable_reply answer_in room_after made replies crossed pair_cases
 pairs_hold = refl
 
 pub hub_holds : map (λ (c : Case). c.got) hub_cases ≡ map (λ (c : Case). c.due) hub_cases
-unfolding every_below some_below highest_below ancestor is_meet meet first_refusal shape_of length_of number_at operands_of is_operand kind_of command_refusal decode common can_make_hub state_tests step_refusal step block_at block_size room_in holds_store step_outcome command_outcome answer_in room_after made replies session hub_cases
+unfolding every_below some_below highest_below ancestor is_meet meet first_refusal shape_of length_of number_at operands_of is_operand kind_of command_refusal decode common can_make_hub state_tests step_refusal step holds_store step_outcome command_outcome answer_in room_after made replies session hub_cases
 hub_holds = refl
 
 pub hub_tapes_hold : map (λ (c : Case). c.got) hub_tape_cases ≡ map (λ (c : Case). c.due) hub_tape_cases
-unfolding every_below some_below highest_below ancestor is_meet meet every_version first_refusal shape_of length_of number_at operands_of is_operand kind_of command_refusal decode common heads_meet all_behind_heads can_make_hub sound_room state_tests step_refusal step record_from record_in version_records head_records tape_of after_record read_on content_of head_slots consoles_rise heads_named block_at block_size resumed resume_outcome answer_in room_after made hub_tape_cases
+unfolding every_below some_below highest_below ancestor is_meet meet every_version first_refusal shape_of length_of number_at operands_of is_operand kind_of command_refusal decode common heads_meet all_behind_heads can_make_hub sound_room state_tests step_refusal step record_from record_in version_records head_records tape_of after_record read_on content_of head_slots consoles_rise heads_named resumed resume_outcome answer_in room_after made hub_tape_cases
 hub_tapes_hold = refl
 
 pub stuck_hub_holds : map (λ (c : Case). c.got) stuck_hub_cases ≡ map (λ (c : Case). c.due) stuck_hub_cases
@@ -93,11 +92,11 @@ unfolding every_below some_below highest_below ancestor is_meet meet first_refus
 gathers_hold = refl
 
 pub views_hold : map (λ (c : Case). c.got) view_cases ≡ map (λ (c : Case). c.due) view_cases
-unfolding enter every_below some_below highest_below ancestor is_meet meet first_refusal shape_of length_of number_at operands_of is_operand kind_of command_refusal decode common state_tests step_refusal step board_made board_of block_at block_size room_in holds_store view_part view_at_reply view_refusal_reply answer_in room_after made view_cases
+unfolding enter every_below some_below highest_below ancestor is_meet meet first_refusal shape_of length_of number_at operands_of is_operand kind_of command_refusal decode common state_tests step_refusal step board_made board_of holds_store view_part view_at_reply view_refusal_reply answer_in room_after made view_cases
 views_hold = refl
 
 pub panes_hold : map (λ (c : Case). c.got) pane_cases ≡ map (λ (c : Case). c.due) pane_cases
-unfolding merge_flag merge_strip merge_strips enter student_strip joined every_below some_below highest_below ancestor is_meet meet first_refusal shape_of length_of number_at operands_of is_operand kind_of command_refusal decode common state_tests step_refusal step board_made board_of block_at block_size room_in holds_store pane_outcome answer_in room_after made pane_cases
+unfolding merge_flag merge_strip merge_strips enter student_strip strips every_below some_below highest_below ancestor is_meet meet first_refusal shape_of length_of number_at operands_of is_operand kind_of command_refusal decode common state_tests step_refusal step board_made board_of holds_store pane_outcome answer_in room_after made pane_cases
 panes_hold = refl
 
 -- the two sessions of these rows agree but for what a student does not see: `KeptFromStudents` speaks of them

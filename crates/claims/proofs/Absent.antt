@@ -18,7 +18,6 @@ use Rattle.room.specs.Room.{present}
 use Rattle.room.proofs.Sound.{present_console}
 use Rattle.room.proofs.Accepted.{fork_accepts}
 use Rattle.store.specs.Layout.{room_in, holds_store}
-use Rattle.store.proofs.RoundTrip.{store_room}
 use Rattle.store.proofs.Whole.{whole_sound}
 use Rattle.unit.specs.Calls.{Outcome, replied, command_outcome, pane_outcome, heard_reply, common_reply, origin_reply, view_part, view_at_reply, view_refusal_reply}
 use Rattle.unit.specs.View.{view_of, refused_view}
@@ -54,7 +53,7 @@ module _ (store : List ℕ) (held : holds_store store ≡ true) (c : ℕ) (cl : 
       → (command_outcome store (fork_command ∷ c ∷ old ∷ [])).reply ≡ replied 0 0
   unfolding command_bytes clash_count
   forkable old here hub =
-      let range : InRange (Fork (record { 0 = c }) (record { 0 = old })) = (cl, present_console (room_in store) old (whole_sound store (store_room store held)).sixteen here, λ e. clash (rw (sym e) at here) away) in
+      let range : InRange (Fork (record { 0 = c }) (record { 0 = old })) = (cl, present_console (room_in store) old (whole_sound store held).sixteen here, λ e. clash (rw (sym e) at here) away) in
       ap (λ (o : Outcome). o.reply)
       (carried_out store (Fork (record { 0 = c }) (record { 0 = old })) range held (fork_accepts (room_in store) (record { 0 = c }) (record { 0 = old }) away here hub))
 

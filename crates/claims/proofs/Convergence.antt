@@ -13,7 +13,7 @@ use lib.ListN.{length, length-map}
 use Rattle.laws.proofs.Logic.{and_l, and_r, and_both}
 use Rattle.buffer.specs.Field.{word_at}
 use Rattle.buffer.proofs.Fields.{word_at-left}
-use Rattle.board.specs.Board.{strip_count, calls_at, call_entry, cell_count, cell_of}
+use Rattle.board.specs.Board.{strip_count, board_size, calls_at, call_entry, cell_count, cell_of}
 use Rattle.board.specs.declared.Viewer.{Viewer}
 use Rattle.graph.specs.Below.{count_below}
 use Rattle.graph.specs.Graph.{version_count, ancestor, is_entry}
@@ -23,15 +23,15 @@ use Rattle.graph.proofs.Growth.{WellFormed, same_entries, meet_entries}
 use Rattle.refusal.specs.Refusal.{first_refusal}
 use Rattle.command.specs.Code.{console_count, is_console}
 use Rattle.room.specs.Room.{Room, head, heard_count}
-use Rattle.room.specs.Boards.{board_bytes, board_in}
+use Rattle.room.specs.Boards.{board_of}
 use Rattle.room.specs.Origin.{origin}
 use Rattle.room.proofs.Sound.{Sound, versions_small, present_console, present_head}
 use Rattle.room.proofs.Steps.{common_meet}
 use Rattle.room.proofs.Counters.{tally, calls_tally}
 use Rattle.room.proofs.Origins.{origin_heard, origin_wrote}
-use Rattle.room.proofs.Lengths.{board_of-length, rules_sized}
+use Rattle.room.proofs.Lengths.{board_of-length}
 use Rattle.store.specs.Layout.{room_in, holds_store}
-use Rattle.store.proofs.RoundTrip.{store_sound, store_room}
+use Rattle.store.proofs.RoundTrip.{holds_sound}
 use Rattle.store.proofs.Whole.{whole_sound}
 use Rattle.unit.specs.Calls.{replied, written, board_shown, pane_outcome, board_outcome, heard_reply}
 use Rattle.claims.specs.Journal.{Journal, Made, entered, merged, made_by, is_present, head_number, leads, made_as, was_entered, holds, has_heard, entries_heard, call_of, calls_heard}
@@ -72,7 +72,7 @@ journal_in store = journal_of (room_in store)
 
 module _ (store : List ℕ) (h : holds_store store ≡ true) where
   s : Sound (room_in store)
-  s = whole_sound store (store_room store h)
+  s = whole_sound store h
 
   well_formed : WellFormed (room_in store).versions
   well_formed = record { lower = s.lower; based = s.based }
@@ -122,13 +122,10 @@ module _ (store : List ℕ) (h : holds_store store ≡ true) where
         )
 
   module _ (c : ℕ) (p : is_present (journal_in store) c ≡ true) where
-    abbrev size : ℕ
-    size = board_bytes (room_in store).settings
-
-    pub board_shown_lem : (output : List ℕ) → board_bytes (room_in store).settings ≤ length output
-        → board_outcome store c output ≡ written 0 (board_bytes (room_in store).settings) (board_shown (room_in store) c) output
+    pub board_shown_lem : (output : List ℕ) → board_size ≤ length output
+        → board_outcome store c output ≡ written 0 board_size (board_shown (room_in store) c) output
     unfolding pane_outcome first_refusal
-    board_shown_lem output fits = cc (h, console c p, le-ltb (length output) size fits)
+    board_shown_lem output fits = cc (h, console c p, le-ltb (length output) board_size fits)
 
     heard_count_lem : heard_reply store c ≡ replied 0 (entries_heard (journal_in store) c)
     unfolding heard_reply first_refusal
@@ -137,7 +134,7 @@ module _ (store : List ℕ) (h : holds_store store ≡ true) where
     origin_told : (k cell : ℕ) → k < strip_count → cell < cell_count → (v : ℕ) × Origin store (journal_in store) c k cell v
     origin_told k cell is_strip_lem is_cell_lem =
         let r = room_in store in
-        let sound = store_sound store h in
+        let sound = holds_sound store h in
         let asked : Askable store c k cell = record { is_console_lem = present_console r c s.sixteen p; is_strip_lem = is_strip_lem; is_cell_lem = is_cell_lem; held = h; here = p } in (
           origin r c k (cell_of cell),
           record {
@@ -149,8 +146,8 @@ module _ (store : List ℕ) (h : holds_store store ≡ true) where
           },
         )
 
-    calls_counted : (k : ℕ) → k < strip_count → (output : List ℕ) → size ≤ length output
-        → ((board_outcome store c output).reply ≡ replied 0 size)
+    calls_counted : (k : ℕ) → k < strip_count → (output : List ℕ) → board_size ≤ length output
+        → ((board_outcome store c output).reply ≡ replied 0 board_size)
         × (word_at (board_outcome store c output).buffer (calls_at k) ≡ calls_heard (journal_in store) c k)
     calls_counted k l output fits =
         let r = room_in store in
@@ -158,8 +155,8 @@ module _ (store : List ℕ) (h : holds_store store ≡ true) where
         let v = head r c in
         let named : v < version_count g = s.named c v (present_head r c p) in
         let small : length g < 65535 = omega (arith, versions_small r s) in
-        let front = word_at-left (board_in r v) _ (calls_at k) (omega (arith, board_of-length (rules_sized r.settings) g v)) in
-        rw (board_shown_lem output fits) (refl, front ∙ calls_tally r.settings g v k well_formed small named l ∙ sym (calls_count r c k))
+        let front = word_at-left (board_of g v) _ (calls_at k) (omega (arith, board_of-length g v)) in
+        rw (board_shown_lem output fits) (refl, front ∙ calls_tally g v k well_formed small named l ∙ sym (calls_count r c k))
 
   converged : Converged store (journal_in store)
   converged = record {

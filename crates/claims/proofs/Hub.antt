@@ -6,12 +6,11 @@ use mathlib.Core.Path.{◌≡◌, refl, sym, ◌∙◌, ap}
 use mathlib.Core.Logic.{◌⊎◌}
 use mathlib.Core.Bool.{Bool, true, false, cond, not, ◌&&◌}
 use mathlib.Core.List.{List, [], ◌∷◌, ◌++◌}
-use native.Mathlib.Omega.{arith}
 use borrow.Author.Tests.{eqb-true}
 use lib.Dec.{eqb}
 use lib.ListN.{length, length-map, drop}
 use Rattle.laws.proofs.Logic.{clash, either, refuted, and_l, and_r, and_i, not_e}
-use Rattle.buffer.specs.Field.{put_word, overwrite}
+use Rattle.buffer.specs.Field.{overwrite}
 use Rattle.graph.proofs.Ancestor.{ancestor_trans}
 use Rattle.refusal.specs.Refusal.{◌when◌, first_refusal}
 use Rattle.refusal.proofs.Refusals.{lacks, not_given}
@@ -36,11 +35,10 @@ use Rattle.room.proofs.Accepted.{through_hub, is_hub, fork_from, forward_accepte
 use Rattle.room.proofs.Steps.{common_meet, common_self, step_sound}
 use Rattle.room.proofs.Hub.{never_17, hub_kept, hub_again, hub_can, never_stuck_lem}
 use Rattle.room.proofs.Gathering.{AllInRange, gathering_ranged, hub_gathers}
-use Rattle.store.specs.Layout.{hub_at, encode, room_in, holds_store}
-use Rattle.store.proofs.RoundTrip.{encode_length, room_over, holds_over, store_sound, store_front, store_room}
+use Rattle.store.specs.Layout.{encode, room_in, holds_store}
+use Rattle.store.proofs.RoundTrip.{encode_length, room_over, holds_over, holds_sound, holds_front}
 use Rattle.store.proofs.Whole.{whole_sound}
-use Rattle.store.proofs.Overwritten as front
-use Rattle.update.proofs.HubRoom.{hub_size, hub_room}
+use Rattle.update.proofs.HubStore.{hub_store}
 use Rattle.unit.specs.declared.Reply.{Reply}
 use Rattle.unit.specs.Calls.{Outcome, Call, opening, command, resume, question, replied, written, command_tests, step_outcome, command_outcome, common_reply, mergeable_reply, pause_outcome, paused_tape, resume_outcome, reply_to, store_after, store_after_all}
 use Rattle.claims.specs.Journal.{Journal, after_command, after_accepted, feed}
@@ -68,7 +66,7 @@ ran [] store held range all = record { answered = refl; held = held; room = refl
 ran (c ∷ commands) store held range all =
     let r = room_in store in
     let accepted = eqb-true (step_refusal r c) 0 (and_l _ _ all) in
-    let sound = step_sound r c (store_sound store held) range.0 accepted in
+    let sound = step_sound r c (holds_sound store held) range.0 accepted in
     let next : List ℕ = overwrite (encode (step r c)) store in
     let at = room_over (step r c) store sound in
     let rest = ran commands next (holds_over (step r c) store sound) range.1 (rw at (and_r (eqb (step_refusal r c) 0) _ all)) in
@@ -110,7 +108,7 @@ module _ (store : List ℕ) (h : has_hub store ≡ true) where
   hub = and_r (holds_store store) _ h
 
   sound : sound_room r ≡ true
-  sound = store_sound store held
+  sound = holds_sound store held
 
   -- a command keeps it
   command_keeps : (bytes : List ℕ) (d : Decoded) → decode bytes ≡ d → has_hub (step_outcome store d).buffer ≡ true
@@ -131,7 +129,7 @@ module _ (store : List ℕ) (h : has_hub store ≡ true) where
   call_keeps (question q) b = h
 
   same_bytes : overwrite (encode r) store ≡ store
-  same_bytes = ap (λ (n : ℕ). encode r ++ drop n store) (encode_length r sound) ∙ sym (store_front store held)
+  same_bytes = ap (λ (n : ℕ). encode r ++ drop n store) (encode_length r sound) ∙ sym (holds_front store held)
 
   again : hub_outcome store ≡ record { reply = replied 0 0; buffer = store }
   unfolding command_bytes step clash_count
@@ -206,13 +204,13 @@ module _ (store : List ℕ) where
   -- a console that is answered about is asked about again
   both_asked : holds_store store ≡ true → (c d : ℕ) → present (room_in store) c ≡ true → present (room_in store) d ≡ true → Allowed store c d
   both_asked held c d p q =
-      let sixteen = (whole_sound store (store_room store held)).sixteen in
+      let sixteen = (whole_sound store held).sixteen in
       record { first = present_console (room_in store) c sixteen p; second = present_console (room_in store) d sixteen q; held = held; here = p; there = q }
 
   may_can : MayMakeHub store → can_make_hub (room_in store) ≡ true
   may_can may =
       let r = room_in store in
-      let s = whole_sound store (store_room store may.sound) in
+      let s = whole_sound store may.sound in
       behind_can r s.sixteen s.meets (λ c d w two p q a b.
       let m = s.meets c d p q in
       let own = pair_answered store 0 0 (both_asked may.sound 0 0 s.first s.first) ∙ ap (replied 0) (common_self r s 0 s.first) in
@@ -222,7 +220,7 @@ module _ (store : List ℕ) where
   can_may : holds_store store ≡ true → can_make_hub (room_in store) ≡ true → MayMakeHub store
   can_may held can =
       let r = room_in store in
-      let s = whole_sound store (store_room store held) in
+      let s = whole_sound store held in
       record {
         sound = held;
         behind_hub = λ c d v h two said own.
@@ -260,15 +258,7 @@ module _ (store : List ℕ) where
       let may = allowed accepted in
       let can = may_can may in
       rw (accepted_is may.sound can)
-      (over_hub (hub_made (room_in store)) store (step_sound (room_in store) MakeHub (store_sound store may.sound) tt (hub_accepts (room_in store) can)) refl)
-
-  -- one field was written
-  hub_written : holds_store store ≡ true → can_make_hub (room_in store) ≡ true → put_word store hub_at 1 ≡ overwrite (encode (hub_made (room_in store))) store
-  unfolding step
-  hub_written held can =
-      hub_room store (store_room store held)
-      ∙ front.store_over store held (hub_made (room_in store)) (step_sound (room_in store) MakeHub (store_sound store held) tt (hub_accepts (room_in store) can))
-      (hub_size (room_in store).settings) refl (omega arith)
+      (over_hub (hub_made (room_in store)) store (step_sound (room_in store) MakeHub (holds_sound store may.sound) tt (hub_accepts (room_in store) can)) refl)
 
   pub making_hub : MakingHub store
   making_hub = record {
@@ -279,7 +269,7 @@ module _ (store : List ℕ) where
     written = λ accepted.
         let may = allowed accepted in
         let can = may_can may in
-        ap (λ (o : Outcome). o.buffer) (accepted_is may.sound can) ∙ sym (hub_written may.sound can);
+        ap (λ (o : Outcome). o.buffer) (accepted_is may.sound can) ∙ sym (hub_store store may.sound can);
     journal_kept = journal_kept_lem;
     through = λ h.
         record {

@@ -1,22 +1,18 @@
 -- A leave is accepted exactly where the console may leave, and then the console is gone: its row and column are cleared, it is absent, and
 -- whoever remains is shown what it was shown, and can merge and fast-forward as it could.
 -- Assumes nothing.
-use Prim.Native.Nat.{ℕ, ◌+◌, ◌-◌, ◌≤◌, ◌<◌}
+use Prim.Native.Nat.{ℕ, ◌+◌, ◌<◌}
 use mathlib.Core.Path.{◌≡◌, refl, sym, ◌∙◌, ap}
 use mathlib.Core.Bool.{true, false, cond, ◌&&◌, ◌||◌}
 use mathlib.Core.List.{List, [], ◌∷◌}
 use mathlib.Core.Option.{none}
 use mathlib.Core.Logic.{inl, inr}
-use native.Mathlib.Decide.{dec_lt}
 use native.Mathlib.Omega.{arith}
 use lib.Dec.{eqb}
 use lib.ListN.{length, get_or}
 use borrow.Author.Tests.{eqb-true, eqb-false, ne_eqb}
 use Rattle.laws.proofs.Logic.{clash, decide, refuted, and_i, not_i, or_split, or_none_l, or_none_r}
-use Rattle.laws.proofs.Lists.{part_at}
-use Rattle.buffer.specs.Field.{word, with_part, overwrite}
-use Rattle.buffer.proofs.Fields.{part_length}
-use Rattle.buffer.proofs.Patches.{with_length, with_outside, with_stands}
+use Rattle.buffer.specs.Field.{word, overwrite}
 use Rattle.board.specs.declared.Viewer.{Viewer}
 use Rattle.graph.specs.Below.{count_below}
 use Rattle.graph.specs.Graph.{version_count, ancestor, is_entry}
@@ -39,15 +35,14 @@ use Rattle.room.proofs.Moves.{number, slot_other, left_absent, left_sound}
 use Rattle.room.proofs.Accepted.{some_descends, leave_accepted, leave_accepts}
 use Rattle.room.proofs.Steps.{common_meet, common_self}
 use Rattle.room.proofs.Leaving.{left_merge, left_clashes, left_forward}
-use Rattle.store.specs.Layout.{header_size, commons_at, commons_size, common_at, common_field, encode, table_in, room_in, holds_store}
-use Rattle.store.proofs.RoundTrip.{room_over, holds_over, store_room}
-use Rattle.store.proofs.Blocks.{table_field}
+use Rattle.store.specs.Layout.{common_at, common_field, encode, room_in, holds_store}
+use Rattle.store.proofs.RoundTrip.{room_over, holds_over}
+use Rattle.store.proofs.Joined.{placed}
 use Rattle.store.proofs.Moved.{left_row, left_column}
-use Rattle.store.proofs.Whole.{whole_sound, whole_header, whole_placed}
-use Rattle.update.specs.Commons.{left_table}
-use Rattle.update.proofs.CommonsTable.{Clear, table_length, table_kept}
-use Rattle.store.proofs.Overwritten.{store_over}
-use Rattle.update.proofs.MovedRoom.{left_room}
+use Rattle.store.proofs.Whole.{whole_sound, whole_front}
+use Rattle.update.specs.Commons.{put_others, put_head}
+use Rattle.update.proofs.CommonsTable.{table_length, table_kept}
+use Rattle.update.proofs.MovedStore.{left_store}
 use Rattle.unit.specs.declared.Reply.{Reply}
 use Rattle.unit.specs.Calls.{Outcome, replied, written, step_outcome, command_outcome, pane_outcome, heard_reply, common_reply, origin_reply, command}
 use Rattle.claims.specs.Journal.{Journal, move_to, after_command, after_accepted, feed}
@@ -83,7 +78,7 @@ module _ (store : List ℕ) (c : ℕ) where
   may_leave : Accepted store c → MayLeave store c
   may_leave a =
       let r = room_in store in
-      let s = whole_sound store (store_room store a.held) in
+      let s = whole_sound store a.held in
       let d = some_descends r c a.other in
       let asked : (k : ℕ) → present r k ≡ true → Allowed store c k =
       λ k p. record { first = a.range.0; second = present_console r k s.sixteen p; held = a.held; here = a.here; there = p } in
@@ -104,7 +99,7 @@ module _ (store : List ℕ) (c : ℕ) where
       let r = room_in store in
       let d = m.other in
       let own = pair_allowed store c c refl m.here in
-      let s = whole_sound store (store_room store own.held) in
+      let s = whole_sound store own.held in
       let two = pair_told store c d (common r c c) (m.in_common ∙ pair_answered store c c own) in
       let there = two.0.there in
       let found = s.meets c d own.here there in
@@ -117,8 +112,8 @@ module _ (store : List ℕ) (c : ℕ) where
             (and_i _ _ (and_i _ _ there (not_i _ (ne_eqb d c m.another))) (rw same at found.1.second));
       }
 
-outside_field : (c d i : ℕ) → in_field c d i ≡ false → (i ≡ commons_at + common_at c d → ⊥) × (i ≡ commons_at + common_at c d + 1 → ⊥)
-outside_field c d i f = (eqb-false i _ (or_none_l _ _ f), eqb-false i _ (or_none_r (eqb i (commons_at + common_at c d)) _ f))
+outside_field : (c d i : ℕ) → in_field c d i ≡ false → (i ≡ common_at c d → ⊥) × (i ≡ common_at c d + 1 → ⊥)
+outside_field c d i f = (eqb-false i _ (or_none_l _ _ f), eqb-false i _ (or_none_r (eqb i (common_at c d)) _ f))
 
 -- the store that an accepted leave gives
 module _ (store : List ℕ) (c : ℕ) (a : Accepted store c) where
@@ -132,7 +127,7 @@ module _ (store : List ℕ) (c : ℕ) (a : Accepted store c) where
   after = overwrite (encode next) store
 
   s : Sound r
-  s = whole_sound store (store_room store a.held)
+  s = whole_sound store a.held
 
   next_sound : sound_room next ≡ true
   next_sound = facts_sound next (left_sound r s c a.range.0 a.range.1 a.other)
@@ -144,30 +139,17 @@ module _ (store : List ℕ) (c : ℕ) (a : Accepted store c) where
   after_room = room_over next store next_sound
 
   -- it is the old one with the console's fields cleared
-  abbrev table : List ℕ
-  table = left_table (table_in store) c
-
-  long : header_size ≤ length store
-  long = whole_header store (store_room store a.held)
-
-  table_long : length table ≡ commons_size
-  unfolding left_table
-  table_long = table_length (table_in store) c (λ k. 0) 0 ∙ part_length store commons_at commons_size (omega (arith, long))
-
-  cleared : with_part store commons_at table ≡ after
-  cleared =
-      left_room store (store_room store a.held) c a.range.0
-      ∙ store_over store a.held next next_sound refl refl (omega arith)
+  cleared : put_head (put_others store c (λ k. 0) console_count) c 0 ≡ after
+  cleared = left_store store a.held c a.range.0 a.range.1 a.other
 
   field_cleared : (j k i : ℕ) → j < console_count → k < console_count → common_field next j k ≡ 0 → in_field j k i ≡ true → get_or after i 0 ≡ 0
   field_cleared j k i jl kl none-common h =
-      let placed = rw after_room at (whole_placed after (store_room after after_held)) in
-      let stands = rw none-common at (table_field next commons_at placed.table j k jl kl) in
-      let at : (n : ℕ) → n < 2 → i ≡ commons_at + common_at j k + n → get_or after i 0 ≡ get_or (word 0) n 0 =
+      let stands = rw none-common at ((placed next (rw after_room at (whole_front after after_held))).commons j k jl kl) in
+      let at : (n : ℕ) → n < 2 → i ≡ common_at j k + n → get_or after i 0 ≡ get_or (word 0) n 0 =
       λ n l e. ap (λ (m : ℕ). get_or after m 0) e ∙ stands.read n l in
-      elim (or_split (eqb i (commons_at + common_at j k)) _ h) [
-        | inl e ↦ at 0 (omega arith) (omega (arith, eqb-true i (commons_at + common_at j k) e))
-        | inr e ↦ at 1 (omega arith) (eqb-true i (commons_at + common_at j k + 1) e)
+      elim (or_split (eqb i (common_at j k)) _ h) [
+        | inl e ↦ at 0 (omega arith) (omega (arith, eqb-true i (common_at j k) e))
+        | inr e ↦ at 1 (omega arith) (eqb-true i (common_at j k + 1) e)
       ]
 
   row_column_cleared : (i : ℕ) → in_row_or_column c i ≡ true → get_or after i 0 ≡ 0
@@ -179,33 +161,16 @@ module _ (store : List ℕ) (c : ℕ) (a : Accepted store c) where
         | inr e ↦ field_cleared d c i found.1 a.range.0 (left_column r s c a.range.0 d) e
       ]
 
-  -- in the table, by its own places
-  table_stays : (i : ℕ) → i < commons_size → ((d : ℕ) → d < console_count → Clear c d i) → get_or table i 0 ≡ get_or store (commons_at + i) 0
-  unfolding left_table
-  table_stays i l clear = table_kept (table_in store) c (λ k. 0) 0 a.range.0 i clear ∙ part_at store commons_at commons_size i l
-
   others_stay : (i : ℕ) → in_row_or_column c i ≡ false → get_or after i 0 ≡ get_or store i 0
   others_stay i f =
       let none_of : (d : ℕ) → d < console_count → in_field c d i || in_field d c i ≡ false =
       λ d l. refuted _ (λ t. clash (some_of console_count (λ d. in_field c d i || in_field d c i) d l t) f) in
-      let fits : commons_at + length table ≤ length store = omega (arith, table_long, long) in
       ap (λ (t : List ℕ). get_or t i 0) (sym cleared)
-      ∙ elim (dec_lt i commons_at) [
-        | yes b ↦ with_outside store table commons_at fits i (λ x y. omega arith)
-        | no b ↦
-            elim (dec_lt i (commons_at + commons_size)) [
-              | yes m ↦
-                  let there : commons_at + (i - commons_at) ≡ i = omega arith in
-                  rw there at
-                  ((with_stands store table commons_at fits).read (i - commons_at) (omega (arith, table_long))
-                  ∙ table_stays (i - commons_at) (omega arith)
-                  (λ d l.
-                  let row = outside_field c d i (or_none_l _ _ (none_of d l)) in
-                  let column = outside_field d c i (or_none_r (in_field c d i) _ (none_of d l)) in
-                  (λ e. row.0 (omega arith), λ e. row.1 (omega arith), λ e. column.0 (omega arith), λ e. column.1 (omega arith))))
-              | no m ↦ with_outside store table commons_at fits i (λ x y. omega (arith, table_long))
-            ]
-      ]
+      ∙ table_kept store c (λ k. 0) 0 a.range.0 i
+      (λ d l.
+      let row = outside_field c d i (or_none_l _ _ (none_of d l)) in
+      let column = outside_field d c i (or_none_r (in_field c d i) _ (none_of d l)) in
+      (row.0, row.1, column.0, column.1))
 
   bytes_after : (i : ℕ) → get_or after i 0 ≡ cond (in_row_or_column c i) 0 (get_or store i 0)
   bytes_after i =
@@ -247,7 +212,7 @@ module _ (store : List ℕ) (c : ℕ) (a : Accepted store c) where
   unfolding kind_of shape_of operands_of number_at clash_count
   gone = record {
     sound = after_held;
-    same_length = ap length (sym cleared) ∙ with_length store table commons_at (omega (arith, table_long, long));
+    same_length = ap length (sym cleared) ∙ table_length store c (λ k. 0) 0;
     bytes = bytes_after;
     absent = absent_console after after_held c a.range.0 (rw after_room (left_absent r s c a.range.0));
     panes = panes_stay;

@@ -25,7 +25,7 @@ use Rattle.room.specs.Sound.{sound_room}
 use Rattle.room.specs.Step.{step}
 use Rattle.room.proofs.Steps.{step_sound, fresh_sound}
 use Rattle.store.specs.Layout.{encode, room_in, holds_store}
-use Rattle.store.proofs.RoundTrip.{room_over, holds_over, store_sound}
+use Rattle.store.proofs.RoundTrip.{room_over, holds_over, holds_sound}
 use Rattle.tape.specs.Tape.{Content, content_of, room_of}
 use Rattle.unit.specs.Calls.{open_outcome, command_tests, step_outcome, command_outcome, resume_tests, resumed, resume_outcome, Call, opening, command, resume, question, answer_to, reply_to, store_after}
 use Rattle.claims.specs.Journal.{Journal, made_by, opened, after_command, after_tape, after_accepted, feed}
@@ -93,7 +93,7 @@ module _ (store : List ℕ) (j : Journal) (m : Matched store j) where
   command_matched s c e h =
       let r = room_in store in
       let accepted = sym (held_refused store c m.holds) ∙ h in
-      written_matched (step r c) store (step_sound r c (store_sound store m.holds) (decode_range s c e) accepted)
+      written_matched (step r c) store (step_sound r c (holds_sound store m.holds) (decode_range s c e) accepted)
       (step_journal r c ∙ ap (λ (k : Journal). after_command k (Whole c)) m.journal)
 
   command_kept : (s : List ℕ) (d : Decoded) → decode s ≡ d

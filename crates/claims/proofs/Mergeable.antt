@@ -23,7 +23,6 @@ use Rattle.room.proofs.Sound.{Sound}
 use Rattle.room.proofs.Steps.{common_self}
 use Rattle.room.proofs.Mergeable.{eighteen_last, one_kind_lem, merge_number, forward_number, neither_number, same_number, numbered_by, no_pair_lem, none_paired, pair_first, pair_found, pair_answered, none_answered, agree_heads, heads_agree_lem, other_head, agree_none}
 use Rattle.store.specs.Layout.{room_in, holds_store}
-use Rattle.store.proofs.RoundTrip.{store_room}
 use Rattle.store.proofs.Whole.{whole_sound}
 use Rattle.unit.specs.declared.Reply.{Reply}
 use Rattle.unit.specs.Calls.{replied, holds_no_store, common_reply, mergeable_reply}
@@ -134,7 +133,7 @@ module _ (store : List ℕ) (held : holds_store store ≡ true) where
   r = room_in store
 
   s : Sound r
-  s = whole_sound store (store_room store held)
+  s = whole_sound store held
 
   pub told : mergeable_reply store ≡ replied 0 (mergeable (room_in store))
   unfolding mergeable_reply first_refusal

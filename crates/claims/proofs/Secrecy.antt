@@ -31,7 +31,7 @@ use Rattle.room.specs.Unseen.{RoomsAgree}
 use Rattle.room.proofs.Steps.{step_sound, fresh_sound}
 use Rattle.room.proofs.Unseen.{same_panes, rooms_same, same_shown, entries_agree, step_agree}
 use Rattle.store.specs.Layout.{encode, room_in, holds_store}
-use Rattle.store.proofs.RoundTrip.{room_over, holds_over, store_sound}
+use Rattle.store.proofs.RoundTrip.{room_over, holds_over, holds_sound}
 use Rattle.tape.specs.Tape.{Content, content_of, room_of}
 use Rattle.tape.proofs.RoundTrip.{content_from, tape_content, tape_room}
 use Rattle.unit.specs.Calls.{Call, opening, command, resume, question, written, buffer_tests, open_tests, resume_tests, open_outcome, step_outcome, command_outcome, resumed, resume_outcome, pane_outcome, pause_outcome, paused_tape, reply_to, store_after, store_after_all, replies_to, answers_of}
@@ -101,8 +101,8 @@ module _ {store other : List ℕ} (a : StoresAgree store other) where
       let held = not-false _ (none_given 11 _ _ (omega arith) h).0 in
       let held' = sym a.held ∙ held in
       over_agree (step (room_in store) c) (step (room_in other) d) store other
-      (step_sound (room_in store) c (store_sound store held) (decode_range bytes c p) (sym (held_refused store c held) ∙ h))
-      (step_sound (room_in other) d (store_sound other held') (decode_range others d q) (sym (held_refused other d held') ∙ k))
+      (step_sound (room_in store) c (holds_sound store held) (decode_range bytes c p) (sym (held_refused store c held) ∙ h))
+      (step_sound (room_in other) d (holds_sound other held') (decode_range others d q) (sym (held_refused other d held') ∙ k))
       (steps (a.agree held)))
 
   entered_agree : {console : Console} {bytes others : List ℕ} → EntersUnseen console bytes → EntersUnseen console others
@@ -194,14 +194,14 @@ paused_agree store other output lent a h k =
     record {
       content = content_from r;
       other_content = content_from s;
-      read = ap content_of p.1 ∙ tape_content r (store_sound store p.0);
-      other_read = ap content_of q.1 ∙ tape_content s (store_sound other q.0);
-      agree = rw (tape_room r (store_sound store p.0), tape_room s (store_sound other q.0)) (a.agree p.0);
+      read = ap content_of p.1 ∙ tape_content r (holds_sound store p.0);
+      other_read = ap content_of q.1 ∙ tape_content s (holds_sound other q.0);
+      agree = rw (tape_room r (holds_sound store p.0), tape_room s (holds_sound other q.0)) (a.agree p.0);
     }
 
 pub kept_from_students : KeptFromStudents
 kept_from_students = record {
-  versions = λ settings g h a v. same_panes settings a v;
+  versions = λ g h a v. same_panes a v;
   rooms = λ r s a console. same_shown a console;
   stores = panes_same;
   itself = λ store. record { held = refl; agree = λ _. rooms_same (room_in store) };

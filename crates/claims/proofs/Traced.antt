@@ -7,15 +7,14 @@ use mathlib.Core.List.{List}
 use native.Mathlib.Omega.{arith}
 use lib.ListN.{length}
 use Rattle.buffer.proofs.Fields.{word_at-left}
-use Rattle.board.specs.Board.{cell_of, cell_at}
+use Rattle.board.specs.Board.{board_size, cell_of, cell_at}
 use Rattle.board.proofs.Cells.{cell_inside}
 use Rattle.room.specs.Room.{head}
 use Rattle.room.specs.Origin.{origin, value_shown}
-use Rattle.room.specs.Boards.{board_bytes}
-use Rattle.room.proofs.Lengths.{board_of-length, rules_sized}
+use Rattle.room.proofs.Lengths.{board_of-length}
 use Rattle.room.proofs.Origins.{origin_none, origin_heard, origin_wrote}
 use Rattle.store.specs.Layout.{room_in}
-use Rattle.store.proofs.RoundTrip.{store_sound}
+use Rattle.store.proofs.RoundTrip.{holds_sound}
 use Rattle.unit.specs.declared.Reply.{Reply}
 use Rattle.unit.specs.Calls.{replied, board_shown, origin_reply}
 use Rattle.claims.specs.Traced.{shown_by, OriginsTraced}
@@ -30,21 +29,20 @@ accepted store c k cell v told =
     (origin_allowed store c k cell refl none, sym (rw none at (ap (λ (r : Reply). r.count) told)))
 
 -- the copied board shows the value of the head's board
-shown_is : (store : List ℕ) (c k cell : ℕ) → Askable store c k cell → (output : List ℕ) → board_bytes (room_in store).settings ≤ length output
+shown_is : (store : List ℕ) (c k cell : ℕ) → Askable store c k cell → (output : List ℕ) → board_size ≤ length output
     → shown_by store c k cell output ≡ value_shown (room_in store) c k (cell_of cell)
 shown_is store c k cell asked output fits =
     let r = room_in store in
     let board = board_shown r c in
-    let long = board_of-length (rules_sized r.settings) r.versions (head r c) in
     rw (board_shown_lem store asked.held c asked.here output fits)
-    (word_at-left board _ (cell_at (cell_of cell) k) (omega (arith, cell_inside (cell_of cell) k asked.is_strip_lem)))
+    (word_at-left board _ (cell_at (cell_of cell) k) (omega (arith, cell_inside (cell_of cell) k asked.is_strip_lem, board_of-length r.versions (head r c))))
 
 pub origins_traced : OriginsTraced
 origins_traced store c k cell v told output fits =
     let answer = accepted store c k cell v told in
     let asked = answer.0 in
     let r = room_in store in
-    let sound = store_sound store asked.held in
+    let sound = holds_sound store asked.held in
     rw (answer.1, shown_is store c k cell asked output fits)
     record {
       unwritten = origin_none r c k (cell_of cell) sound asked.here asked.is_strip_lem;

@@ -7,8 +7,8 @@ use Rattle.board.specs.Board.{strip_count, merge_cell}
 use Rattle.graph.specs.Below.{count_below}
 use Rattle.command.specs.Code.{merge_command}
 use Rattle.command.specs.Decode.{code_in}
-use Rattle.room.specs.Room.{Room, head, common}
-use Rattle.room.specs.Boards.{board_in}
+use Rattle.room.specs.Room.{head, common}
+use Rattle.room.specs.Boards.{board_of}
 use Rattle.store.specs.Layout.{room_in}
 use Rattle.unit.specs.declared.Reply.{Reply}
 use Rattle.unit.specs.Calls.{command_outcome, resume_outcome}
@@ -17,13 +17,16 @@ use Rattle.unit.specs.Calls.{command_outcome, resume_outcome}
 abbrev pub strips_that_clash : Cell → List ℕ → List ℕ → List ℕ → ℕ
 strips_that_clash cell l a b = count_below strip_count (λ k. (merge_cell cell k l a b).clash)
 
+-- the board of version v of the room in a store
+abbrev pub board_in : List ℕ → ℕ → List ℕ
+board_in store v = board_of (room_in store).versions v
+
 -- "how many levels and headings disagreed" between consoles c and d, over their common version
 abbrev pub clashes_between : List ℕ → ℕ → ℕ → ℕ
 clashes_between store c d =
-    let room : Room = room_in store in
-    let base : List ℕ = board_in room (common room c d) in
-    let mine : List ℕ = board_in room (head room c) in
-    let given : List ℕ = board_in room (head room d) in
+    let base : List ℕ = board_in store (common (room_in store) c d) in
+    let mine : List ℕ = board_in store (head (room_in store) c) in
+    let given : List ℕ = board_in store (head (room_in store) d) in
     strips_that_clash Level base mine given + strips_that_clash Heading base mine given
 
 abbrev pub command_reply : List ℕ → List ℕ → Reply

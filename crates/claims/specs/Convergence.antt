@@ -4,10 +4,9 @@
 use Rattle.std.specs.Prelude.{ℕ, ◌≤◌, ◌<◌, ◌≡◌, Bool, true, false, ◌&&◌, List, [], ◌∷◌, length}
 use Rattle.std.proofs.Math.Option.{some}
 use Rattle.buffer.specs.Field.{word_at}
-use Rattle.board.specs.Board.{strip_count, calls_at, cell_count, cell_of, writing_code}
+use Rattle.board.specs.Board.{strip_count, board_size, calls_at, cell_count, cell_of, writing_code}
 use Rattle.board.specs.declared.Viewer.{Viewer}
 use Rattle.command.specs.Code.{console_count}
-use Rattle.room.specs.Boards.{board_bytes}
 use Rattle.store.specs.Layout.{room_in, holds_store}
 use Rattle.unit.specs.Calls.{Call, opening, command, resume, question, replied, reply_to, store_after, pane_outcome, board_outcome, heard_reply, common_reply, origin_reply}
 use Rattle.claims.specs.Journal.{Journal, entered, is_present, head_number, feed, leads, made_as, holds, has_heard, common_to, entries_heard, calls_heard}
@@ -48,8 +47,8 @@ pub record Converged (store : List ℕ) (j : Journal) : Type 0 where
       → (head_number j c ≡ head_number j d) × ((viewer : Viewer) (output : List ℕ) → pane_outcome viewer store c output ≡ pane_outcome viewer store d output)
   pub commons : (c d : ℕ) → is_present j c ≡ true → is_present j d ≡ true → (m : ℕ) × Common store j c d m
   -- "The call counter is the strip's 16 bits at offset 6": it is the number of call entries heard for that strip
-  pub calls : (c k : ℕ) → is_present j c ≡ true → k < strip_count → (output : List ℕ) → board_bytes (room_in store).settings ≤ length output
-      → ((board_outcome store c output).reply ≡ replied 0 (board_bytes (room_in store).settings)) × (word_at (board_outcome store c output).buffer (calls_at k) ≡ calls_heard j c k)
+  pub calls : (c k : ℕ) → is_present j c ≡ true → k < strip_count → (output : List ℕ) → board_size ≤ length output
+      → ((board_outcome store c output).reply ≡ replied 0 board_size) × (word_at (board_outcome store c output).buffer (calls_at k) ≡ calls_heard j c k)
   -- heard counts are the number of entries heard
   pub heard : (c : ℕ) → is_present j c ≡ true → heard_reply store c ≡ replied 0 (entries_heard j c)
   -- where a level or heading comes from is answered; above 0 it is an entry that the console has heard, on that strip, with the code that

@@ -67,7 +67,7 @@ pub record ThroughHub (store : List ℕ) : Type 0 where
   pub gathers : pred (consoles_in (room_in store)) ≤ versions_free (room_in store) → Gathered store (store_after_all store (gather_calls store))
   -- a pause and a resume keep the hub
   pub resumes : (output buffer : List ℕ) → (pause_outcome store output).reply.answer ≡ 0
-      → store_size (room_in store).settings ≤ length buffer
+      → store_size (room_in store).settings.capacity ≤ length buffer
       → ((resume_outcome (paused_tape store output) buffer).reply ≡ replied 0 0) × (has_hub (resume_outcome (paused_tape store output) buffer).buffer ≡ true)
 
 -- "accepted when the common version of every two consoles is an ancestor of console 0's head"

@@ -6,7 +6,7 @@ use Rattle.std.proofs.Math.Option.{none}
 use Rattle.board.specs.declared.Viewer.{Viewer}
 use Rattle.graph.specs.Below.{some_below}
 use Rattle.command.specs.Code.{console_count, merge_command, fast_forward_command, leave_command}
-use Rattle.store.specs.Layout.{commons_at, common_at, holds_store}
+use Rattle.store.specs.Layout.{common_at, holds_store}
 use Rattle.unit.specs.Calls.{Outcome, replied, command_outcome, pane_outcome, heard_reply, common_reply, origin_reply, command}
 use Rattle.claims.specs.Absent.{Absent}
 use Rattle.claims.specs.Journal.{Journal, move_to, feed}
@@ -28,7 +28,7 @@ pub record MayLeave (store : List ℕ) (c : ℕ) : Type 0 where
 
 -- byte i is one of the two bytes of the field of consoles c and d
 abbrev pub in_field : ℕ → ℕ → ℕ → Bool
-in_field c d i = eqb i (commons_at + common_at c d) || eqb i (commons_at + common_at c d + 1)
+in_field c d i = eqb i (common_at c d) || eqb i (common_at c d + 1)
 
 -- byte i is in console c's row or column of the table of common versions; its head stands where the two cross
 abbrev pub in_row_or_column : ℕ → ℕ → Bool

@@ -10,9 +10,8 @@ use Rattle.graph.specs.Graph.{Graph}
 use Rattle.command.specs.declared.Command.TheVariants.{Entry}
 use Rattle.command.specs.declared.Decoded.TheVariants.{Whole}
 use Rattle.command.specs.Decode.{decode}
-use Rattle.room.specs.declared.Settings.{Settings}
 use Rattle.room.specs.Room.{Room}
-use Rattle.room.specs.Boards.{board_of, rules_of}
+use Rattle.room.specs.Boards.{board_of}
 use Rattle.room.specs.Unseen.{is_unseen, GraphsAgree, RoomsAgree}
 use Rattle.store.specs.Layout.{room_in, holds_store}
 use Rattle.tape.specs.Tape.{Content, content_of, room_of}
@@ -56,8 +55,7 @@ pub record StoresAgree (store other : List ℕ) : Type 0 where
 -- the claim
 pub record KeptFromStudents : Type 0 where
   -- of graphs: the student's pane of each version
-  pub versions : (settings : Settings) (g h : Graph) → GraphsAgree g h → (v : ℕ)
-      → student_pane (board_of (rules_of settings) g v) ≡ student_pane (board_of (rules_of settings) h v)
+  pub versions : (g h : Graph) → GraphsAgree g h → (v : ℕ) → student_pane (board_of g v) ≡ student_pane (board_of h v)
   -- of rooms: that of each console
   pub rooms : (r s : Room) → RoomsAgree r s → (console : ℕ) → student_pane (board_shown r console) ≡ student_pane (board_shown s console)
   -- of the exported call: its reply, and the lent pane to the byte

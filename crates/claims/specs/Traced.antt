@@ -2,10 +2,9 @@
 -- and must have written the value shown." For any bytes, wherever the question is accepted.
 use Rattle.std.specs.Prelude.{ℕ, ◌≤◌, ◌<◌, ◌≡◌, true, List, length}
 use Rattle.std.proofs.Math.Option.{some}
-use Rattle.board.specs.Board.{cell_of, value_in, writing_code}
+use Rattle.board.specs.Board.{board_size, cell_of, value_in, writing_code}
 use Rattle.graph.specs.Graph.{entry, node_of}
 use Rattle.room.specs.Room.{hears}
-use Rattle.room.specs.Boards.{board_bytes}
 use Rattle.store.specs.Layout.{room_in}
 use Rattle.unit.specs.Calls.{replied, board_outcome, origin_reply}
 
@@ -22,4 +21,4 @@ pub record Traced (store : List ℕ) (console strip cell version shown : ℕ) : 
 -- the claim: the version that an accepted question counts, against a board copied out into any output that is long enough
 abbrev pub OriginsTraced : Type 0
 OriginsTraced = (store : List ℕ) (console strip cell version : ℕ) → origin_reply store console strip cell ≡ replied 0 version
-    → (output : List ℕ) → board_bytes (room_in store).settings ≤ length output → Traced store console strip cell version (shown_by store console strip cell output)
+    → (output : List ℕ) → board_size ≤ length output → Traced store console strip cell version (shown_by store console strip cell output)

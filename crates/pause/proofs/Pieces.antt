@@ -1,4 +1,4 @@
--- The records of a room's versions and heads are pieces one behind the other, and what a head's piece and the hub's is.
+-- The records of a store's versions and heads are pieces one behind the other, and what a head's piece and the hub's is.
 -- Assumes nothing.
 use mathlib.Core.Path.{◌≡◌, refl, sym, ap, ◌∙◌}
 use mathlib.Core.Bool.{true, false}

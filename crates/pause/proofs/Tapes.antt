@@ -1,4 +1,4 @@
--- The tape of the room that bytes begin with is its records one behind the other: how long it is, and that it stands at the front of a buffer where
+-- The tape of the room in a store is its records one behind the other: how long it is, and that it stands at the front of a buffer where
 -- they were written there.
 -- Assumes nothing.
 use mathlib.Core.Path.{◌≡◌, sym, ap, ◌∙◌}

@@ -1,11 +1,11 @@
-// Pause: the tape of a room, its length and its bytes. A room's bytes are read version by version and console by console, and each record is
+// Pause: the tape of a store, its length and its bytes. A store is read version by version and console by console, and each record is
 // written behind the one before.
 mod measure;
 mod write;
 
 ghost use Rattle.std.specs.Prelude.{◌≡◌, true, ◌≤◌, length};
 ghost use Rattle.buffer.specs.Field.{overwrite};
-ghost use Rattle.store.specs.Layout.{room_in, holds_room};
+ghost use Rattle.store.specs.Layout.{room_in, holds_store};
 ghost use Rattle.tape.specs.Tape.{tape_of};
 ghost use Rattle.pause.specs.Pieces.{longest_tape};
 
@@ -13,9 +13,9 @@ use query::{settings_of, version_count};
 use tape::lengths::{end_length, start_length};
 use tape::writer::{put_end_record, put_start_record};
 
-// How many bytes the tape of a room takes.
+// How many bytes the tape of a store takes.
 pub fn tape_length(s: &[u8]) -> usize
-    requires { holds_room s.now ≡ true }
+    requires { holds_store s.now ≡ true }
     ensures { (result ≡ length (tape_of (room_in s.now))) × (result ≤ longest_tape) }
 {
     start_length()
@@ -25,9 +25,9 @@ pub fn tape_length(s: &[u8]) -> usize
         + end_length()
 }
 
-// Writes the tape of a room over the front of an output buffer.
+// Writes the tape of a store over the front of an output buffer.
 pub fn write_tape(s: &[u8], tape: &mut [u8])
-    requires s_value { holds_room s.now ≡ true }
+    requires s_value { holds_store s.now ≡ true }
     requires s_in_bounds { length (tape_of (room_in s.now)) ≤ length tape.old }
     ensures { tape.new ≡ overwrite (tape_of (room_in s.now)) tape.old }
 {

@@ -16,10 +16,10 @@ use Rattle.graph.specs.Graph.{version_count, is_entry, ancestor}
 use Rattle.graph.proofs.Below.{count_past}
 use Rattle.room.specs.Room.{head, heard_count}
 use Rattle.room.specs.Sound.{max_capacity}
-use Rattle.store.specs.Layout.{row_size, entries_in, block_of, room_in, holds_room}
-use Rattle.store.specs.Check.{row_part}
+use Rattle.store.specs.Layout.{row_size, room_in, holds_store}
+use Rattle.store.specs.Check.{row_part, entries_part}
 use Rattle.store.proofs.Shown.{no_entry}
-use Rattle.store.proofs.Whole.{whole_small, whole_entries, whole_row}
+use Rattle.store.proofs.Whole.{whole_small, whole_entries, whole_held}
 
 one_more : (f : ℕ → Bool) (v n : ℕ) → n ≡ suc v → count_below n f ≡ count_below v f + bit (f v)
 unfolding count_below
@@ -55,14 +55,14 @@ row_members : (f : ℕ → Bool) (n : ℕ) → member_count (row f n) ≡ count_
 unfolding count_below
 row_members f n = omega (arith, rw (zero-add (8 * n)) at (members_from f 0 n))
 
-module _ (s : List ℕ) (t : holds_room s ≡ true) where
+module _ (s : List ℕ) (t : holds_store s ≡ true) where
   pub heard_answer : (c v : ℕ) → v ≡ head (room_in s) c → v < version_count (room_in s).versions
-      → member_count (intersection (entries_in s) (row_part (block_of s v))) ≡ heard_count (room_in s) c
+      → member_count (intersection (entries_part s) (row_part s v)) ≡ heard_count (room_in s) c
   unfolding heard_count
   heard_answer c v e l =
       let g = (room_in s).versions in
       ap member_count
-      (ap₂ intersection (whole_entries s t) (whole_row s t v l)
+      (ap₂ intersection (whole_entries s t) ((whole_held s t).told v l).line
       ∙ row_intersection (is_entry g) (λ u. ancestor g u v) row_size)
       ∙ row_members (λ u. is_entry g u && ancestor g u v) row_size
       ∙ count_past (version_count g) max_capacity (λ u. is_entry g u && ancestor g u v) (whole_small s t) (λ u k. rw (no_entry g u k))

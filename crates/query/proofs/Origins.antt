@@ -12,29 +12,25 @@ use Rattle.graph.specs.Graph.{merge, version_count, node_of, base_of}
 use Rattle.graph.proofs.Ancestor.{node_of-named, parent_named}
 use Rattle.graph.proofs.Meet.{meet_number-below}
 use Rattle.graph.proofs.Parent.{receiver, giver}
-use Rattle.room.specs.Boards.{Rules, rules_of}
 use Rattle.room.specs.Origin.{writes_cell, leads_to, origin_of}
 use Rattle.room.proofs.Origins.{leads_lower, origin_step}
-use Rattle.store.specs.Layout.{node_base_at, node_in, block_of, room_in, holds_room}
+use Rattle.store.specs.Layout.{node_base_at, node_in, room_in, holds_store}
 use Rattle.store.proofs.NodeBytes.{merge_base_read}
-use Rattle.store.proofs.Whole.{whole_sound, whole_small, whole_node}
+use Rattle.store.proofs.Whole.{whole_sound, whole_small, whole_held}
 use Rattle.query.proofs.Answers.{node_answer}
 
-module _ (s : List ℕ) (t : holds_room s ≡ true) where
-  abbrev rules : Rules
-  rules = rules_of (room_in s).settings
-
+module _ (s : List ℕ) (t : holds_store s ≡ true) where
   -- by the node
-  module _ (v : ℕ) (n : Node) (e : n ≡ node_in (block_of s v)) (later : 0 < v) (l : v < version_count (room_in s).versions) where
+  module _ (v : ℕ) (n : Node) (e : n ≡ node_in s v) (later : 0 < v) (l : v < version_count (room_in s).versions) where
     pub node_there : node_of (room_in s).versions v ≡ some n
     node_there = node_answer s t v later l ∙ ap some (sym e)
 
-    pub walk_falls : (cell : Cell) (k : ℕ) → leads_to rules cell k (room_in s).versions n < v
-    walk_falls cell k = leads_lower rules cell k (room_in s).versions v n (whole_sound s t).lower node_there
+    pub walk_falls : (cell : Cell) (k : ℕ) → leads_to cell k (room_in s).versions n < v
+    walk_falls cell k = leads_lower cell k (room_in s).versions v n (whole_sound s t).lower node_there
 
     pub walk_step : (cell : Cell) (k : ℕ)
-        → origin_of rules cell k (room_in s).versions v ≡ cond (writes_cell cell k n) v (origin_of rules cell k (room_in s).versions (leads_to rules cell k (room_in s).versions n))
-    walk_step cell k = origin_step rules cell k (room_in s).versions v n (whole_sound s t).lower node_there
+        → origin_of cell k (room_in s).versions v ≡ cond (writes_cell cell k n) v (origin_of cell k (room_in s).versions (leads_to cell k (room_in s).versions n))
+    walk_step cell k = origin_step cell k (room_in s).versions v n (whole_sound s t).lower node_there
 
   -- at a merge: it, its parents and its base are versions, and the base stands in its node
   module _ (v p q : ℕ) (e : node_of (room_in s).versions v ≡ some (merge p q)) where
@@ -47,8 +43,8 @@ module _ (s : List ℕ) (t : holds_room s ≡ true) where
     pub giver_named : q < version_count (room_in s).versions
     giver_named = parent_named (room_in s).versions (merge p q) q v (whole_sound s t).lower e giver
 
-    pub base_answer : word_at (block_of s v) node_base_at ≡ base_of (room_in s).versions p q
-    base_answer = merge_base_read (block_of s v) (room_in s).versions p q (rw e at (whole_node s t v merge_named)) (whole_small s t)
+    pub base_answer : word_at s (node_base_at v) ≡ base_of (room_in s).versions p q
+    base_answer = merge_base_read s v (room_in s).versions p q (rw e at ((whole_held s t).told v merge_named).node) (whole_small s t)
 
-    pub base_named : word_at (block_of s v) node_base_at < version_count (room_in s).versions
+    pub base_named : word_at s (node_base_at v) < version_count (room_in s).versions
     base_named = rw base_answer (meet_number-below (room_in s).versions p q)

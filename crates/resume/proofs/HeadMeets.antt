@@ -1,5 +1,5 @@
 -- Every two heads of a room have a meet exactly when each pair of consoles in the table is found to have one, and then the table that is
--- written is the room's table of common versions.
+-- written is the store's table of common versions.
 -- Assumes nothing.
 use mathlib.Core.Path.{◌≡◌, refl, sym, ap, ap₂, ◌∙◌}
 use mathlib.Core.Bool.{true, not, ◌&&◌, ◌||◌}
@@ -12,8 +12,9 @@ use native.Mathlib.Omega.{arith}
 use lib.Dec.{eqb, eqb-suc-zero}
 use lib.ListN.{length, get_or}
 use Rattle.laws.proofs.Logic.{clash, bool_ext}
-use Rattle.buffer.specs.Field.{word}
+use Rattle.buffer.specs.Field.{word, part}
 use Rattle.buffer.proofs.Stands.{Stands, stands_kept}
+use Rattle.buffer.proofs.Parts.{stands_part, part_stands}
 use Rattle.graph.specs.Below.{every_below}
 use Rattle.graph.specs.Graph.{version_count, meet, is_some}
 use Rattle.graph.proofs.Below.{at, of}
@@ -22,13 +23,13 @@ use Rattle.command.specs.Code.{console_count}
 use Rattle.room.specs.Room.{Room, head_of, head, common}
 use Rattle.room.specs.Sound.{two_meet, heads_meet, max_capacity}
 use Rattle.room.proofs.Sound.{two_met, met_two}
-use Rattle.store.specs.Layout.{commons_size, common_at, head_from, common_field, common_table}
+use Rattle.store.specs.Layout.{header_size, commons_at, commons_size, common_at, head_from, common_field, common_table}
 use Rattle.store.specs.Check.{common_in}
-use Rattle.store.proofs.Blocks.{common_table-length}
+use Rattle.store.proofs.Blocks.{common_table-length, table_field}
 use Rattle.store.proofs.Commons.{field_is, field_of, field_sym}
+use Rattle.store.proofs.Joined.{join_commons_lem}
 use Rattle.update.specs.Commons.{put_common}
 use Rattle.update.proofs.CommonsTable.{common_length, put_kept, put_row_lem, put_column}
-use Rattle.update.proofs.Tables.{table_is, field_stands}
 use Rattle.resume.specs.Rows.{RowsOf, meet_field}
 use Rattle.resume.specs.Heads.{pair_field, pair_meets, with_pairs, console_meets, with_consoles, table_meets}
 use Rattle.resume.proofs.Meets.{meet_shown}
@@ -79,11 +80,15 @@ module _ (r : Room) (named : (c : ℕ) → c < console_count → head_field (hea
       go none e = rw e
       go (some v) e = rw e (rw e (ap suc (sym (meet_number-self r.versions v (rw e at (named c l))))))
 
-  -- so the room's table has the heads on its diagonal
-  pub table_diagonal : {t : List ℕ} → t ≡ common_table r 0 console_count → Diagonal r t
-  table_diagonal written =
-      rw written
-      record { long = common_table-length r 0 console_count; slot = λ c l. rw (self_field c l) (field_stands r c c l l); named = named }
+  -- so the store's table has the heads on its diagonal
+  pub table_diagonal : (t : List ℕ) → length t ≡ header_size → part t commons_at commons_size ≡ common_table r 0 console_count → Diagonal r t
+  table_diagonal t long written =
+      let stands = table_field r commons_at (part_stands commons_size written (common_table-length r 0 console_count)) in
+      record {
+        long = long;
+        slot = λ c l. rw (self_field c l) (stands c c l l);
+        named = named;
+      }
 
 module _ (r : Room) (rows : List ℕ) (shown : RowsOf rows r.versions) (small : version_count r.versions ≤ max_capacity) where
   -- the fields of two consoles by their rows
@@ -140,7 +145,7 @@ module _ (r : Room) (rows : List ℕ) (shown : RowsOf rows r.versions) (small : 
 
   -- what stands in the table after the pairs before a number were written; pair c, d has the number 16 c + d
   record Filled (t : List ℕ) (n : ℕ) : Type 0 where
-    long : length t ≡ commons_size
+    long : length t ≡ header_size
     slot : (c : ℕ) → c < console_count → Stands t (common_at c c) (word (head_field (head_of r c)))
     lower : (a b : ℕ) → a < console_count → b < a → console_count * a + b < n → Stands t (common_at a b) (word (common_field r a b))
     upper : (a b : ℕ) → a < console_count → b < a → console_count * a + b < n → Stands t (common_at b a) (word (common_field r a b))
@@ -205,13 +210,14 @@ module _ (r : Room) (rows : List ℕ) (shown : RowsOf rows r.versions) (small : 
           upper = λ a b l m n. f.upper a b l m (omega arith);
         }
 
-    -- the table is the room's
-    pub table_filled : with_consoles rows t console_count ≡ common_table r 0 console_count
+    -- the table is the store's
+    pub table_filled : part (with_consoles rows t console_count) commons_at commons_size ≡ common_table r 0 console_count
     table_filled =
         let u : List ℕ = with_consoles rows t console_count in
         let f = filled_consoles console_count (omega arith) in
-        table_is u r f.long
-        (λ c d l m.
+        let size = f.long in
+        let all : (c d : ℕ) → c < console_count → d < console_count → Stands u (common_at c d) (word (common_field r c d)) =
+        λ c d l m.
         elim (dec_lt d c) [
           | yes a ↦ f.lower c d l a (omega arith)
           | no a ↦
@@ -221,4 +227,6 @@ module _ (r : Room) (rows : List ℕ) (shown : RowsOf rows r.versions) (small : 
                     rw e at (f.upper d c m b (omega arith))
                 | no b ↦ let e : d ≡ c = omega arith in rw e (rw (self_field r diagonal.named c l) at (f.slot c l))
               ]
-        ])
+        ]
+        in
+        stands_part commons_size (join_commons_lem {s = u} r commons_at all) (common_table-length r 0 console_count) (omega arith)

@@ -21,7 +21,7 @@ use Rattle.buffer.proofs.Writes.{put_length, put_other_lem}
 use Rattle.graph.specs.Graph.{Graph, version_count}
 use Rattle.command.specs.Code.{console_count, is_console}
 use Rattle.room.specs.Room.{Room, head_of}
-use Rattle.store.specs.Layout.{commons_size, common_at, head_from}
+use Rattle.store.specs.Layout.{header_size, common_at, head_from}
 use Rattle.store.specs.Check.{common_in}
 use Rattle.tape.specs.Tape.{Content, head_slots, room_of, consoles_rise, heads_named}
 use Rattle.tape.proofs.Heads.{length_slots}
@@ -43,7 +43,7 @@ field_head (some v) = refl
 
 -- the heads of a room stand on the diagonal, and name versions
 pub record Diagonal (r : Room) (t : List ℕ) : Type 0 where
-  pub long : length t ≡ commons_size
+  pub long : length t ≡ header_size
   pub slot : (c : ℕ) → c < console_count → Stands t (common_at c c) (word (head_field (head_of r c)))
   pub named : (c : ℕ) → c < console_count → head_field (head_of r c) ≤ version_count r.versions
 
@@ -67,9 +67,9 @@ heads_listed g (h ∷ (b ∷ rest)) c n =
     (ltb-true h.1 (version_count g) (and_l (ltb h.1 (version_count g)) _ n))
     (heads_listed g (b ∷ rest) (and_r (ltb b.0 h.0 && is_console h.0) _ c) (and_r (ltb h.1 (version_count g)) _ n))
 
-table_length : (heads : List (ℕ × ℕ)) → length (head_table heads) ≡ commons_size
+table_length : (heads : List (ℕ × ℕ)) → length (head_table heads) ≡ header_size
 unfolding head_table
-table_length [] = zeros_length commons_size
+table_length [] = zeros_length header_size
 table_length (h ∷ before) = put_length (head_table before) (common_at h.0 h.0) (suc h.1) ∙ table_length before
 
 module _ {n : ℕ} where
@@ -79,8 +79,8 @@ module _ {n : ℕ} where
   table_slot no_heads c l =
       rw (get_or-replicate {A = Option ℕ} console_count c none none l)
       (stands_join (0 ∷ []) (0 ∷ [])
-      (stands_one (get_or-replicate commons_size (common_at c c) 0 0 (omega arith)))
-      (stands_one {at = common_at c c + 1} (get_or-replicate commons_size (common_at c c + 1) 0 0 (omega arith))) refl)
+      (stands_one (get_or-replicate header_size (common_at c c) 0 0 (omega arith)))
+      (stands_one {at = common_at c c + 1} (get_or-replicate header_size (common_at c c + 1) 0 0 (omega arith))) refl)
   table_slot (one_head_lem {h = h} {before = before} a b rest) c l =
       let size = table_length before in
       elim (ℕ_discrete c h.0) [

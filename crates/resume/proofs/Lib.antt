@@ -3,7 +3,6 @@ pub mod Along
 pub mod Passed
 pub mod Highest
 pub mod Meets
-pub mod OwnRows
 pub mod Grown
 pub mod VersionsWritten
 pub mod StoreWritten

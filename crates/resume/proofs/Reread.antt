@@ -1,4 +1,4 @@
--- The rows of a whole tape's versions, made one after the other while it is read, and the heads that are put into a table.
+-- The rows of a whole tape's versions, made one after the other while it is read, and the heads that are put into a header.
 -- Assumes nothing.
 use mathlib.Core.Path.{◌≡◌, refl, ap, subst, ◌∙◌}
 use mathlib.Core.Bool.{Bool, true, ◌&&◌}
@@ -18,7 +18,7 @@ use Rattle.graph.proofs.Parent.{parent_lower, receiver, giver}
 use Rattle.graph.proofs.Ancestor.{every_new}
 use Rattle.command.specs.Code.{console_count}
 use Rattle.room.specs.Sound.{entry_in_range, max_capacity}
-use Rattle.store.specs.Layout.{commons_size, common_at}
+use Rattle.store.specs.Layout.{header_size, common_at}
 use Rattle.store.specs.Rules.{node_in_range}
 use Rattle.update.specs.Commons.{put_head}
 use Rattle.tape.specs.Record.{record_in}
@@ -92,28 +92,28 @@ listed_drop (suc m) (one_head_lem a b rest) = listed_drop m rest
 listed_first : {n : ℕ} {h : ℕ × ℕ} {before : List (ℕ × ℕ)} → Listed n (h ∷ before) → (h.0 < console_count) × (h.1 < n)
 listed_first (one_head_lem a b rest) = (a, b)
 
--- the heads read so far stand in a table
+-- the heads read so far stand in a header
 abbrev pub Headed : List ℕ → List (ℕ × ℕ) → Type 0
-Headed table heads = (length table ≡ commons_size) × (table ≡ head_table heads)
+Headed header heads = (length header ≡ header_size) × (header ≡ head_table heads)
 
-pub headed_none : (t : Content) {at : ℕ} {table : List ℕ} → at ≡ head_place t 0 → length table ≡ commons_size → table ≡ zeros commons_size
-    → Heads t (Headed table) 0 at
+pub headed_none : (t : Content) {at : ℕ} {header : List ℕ} → at ≡ head_place t 0 → length header ≡ header_size → header ≡ zeros header_size
+    → Heads t (Headed header) 0 at
 unfolding head_table
-headed_none t {table = table} e long z = along_none t.heads (head_place t) (Headed table) e (long, z)
+headed_none t {header = header} e long z = along_none t.heads (head_place t) (Headed header) e (long, z)
 
-pub headed_all : (t : Content) {j at : ℕ} {table : List ℕ} → Heads t (Headed table) j at → length t.heads ≤ j → table ≡ head_table t.heads
+pub headed_all : (t : Content) {j at : ℕ} {header : List ℕ} → Heads t (Headed header) j at → length t.heads ≤ j → header ≡ head_table t.heads
 headed_all t a l = (along_all _ _ a l).0.1
 
-module _ (tape : List ℕ) (t : Content) (bytes : Bytes tape) (says : content_of tape ≡ some t) {j at : ℕ} {table : List ℕ}
-    (a : Heads t (Headed table) j at) (l : j < length t.heads) {c v : ℕ} (console : c ≡ (head_on (record_in (drop at tape))).0) (version : v ≡ (head_on (record_in (drop at tape))).1) where
+module _ (tape : List ℕ) (t : Content) (bytes : Bytes tape) (says : content_of tape ≡ some t) {j at : ℕ} {header : List ℕ}
+    (a : Heads t (Headed header) j at) (l : j < length t.heads) {c v : ℕ} (console : c ≡ (head_on (record_in (drop at tape))).0) (version : v ≡ (head_on (record_in (drop at tape))).1) where
   pub head_bounds : consoles_rise t.heads ≡ true → heads_named t.versions t.heads ≡ true → (c < console_count) × (v < version_count t.versions)
   head_bounds rise named =
       listed_first
       (subst (Listed (version_count t.versions)) (head_first tape t bytes says a l console version)
       (listed_drop (length t.heads - suc j) (heads_listed t.versions t.heads rise named)))
 
-  pub headed_more : {next : ℕ} {after : List ℕ} → after ≡ put_head table c (suc v) → next ≡ place_after tape at → Heads t (Headed after) (j + 1) next
+  pub headed_more : {next : ℕ} {after : List ℕ} → after ≡ put_head header c (suc v) → next ≡ place_after tape at → Heads t (Headed after) (j + 1) next
   unfolding head_table
   headed_more {after = after} made moved =
       head_more tape t bytes says a l console version (Headed after) moved
-      (ap length made ∙ put_length table (common_at c c) (suc v) ∙ a.built.0, made ∙ ap (λ (u : List ℕ). put_head u c (suc v)) a.built.1)
+      (ap length made ∙ put_length header (common_at c c) (suc v) ∙ a.built.0, made ∙ ap (λ (u : List ℕ). put_head u c (suc v)) a.built.1)

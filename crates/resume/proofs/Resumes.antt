@@ -53,7 +53,7 @@ module _ (t : Content) (old : List ℕ) where
     out_of_range b = refused (some t) old 9 (omega arith) (rw (a, b))
 
     -- the last two tests, made of a tape in range
-    module _ (b : in_range t ≡ true) {sound short : Bool} (c : sound ≡ sound_room (room_of t)) (d : short ≡ ltb (length old) (store_size t.settings)) {n : ℕ} (e : n ≡ first_refusal (10 when not sound ∷ 19 when short ∷ [])) where
+    module _ (b : in_range t ≡ true) {sound short : Bool} (c : sound ≡ sound_room (room_of t)) (d : short ≡ ltb (length old) (store_size t.settings.capacity)) {n : ℕ} (e : n ≡ first_refusal (10 when not sound ∷ 19 when short ∷ [])) where
       answer : n ≡ resume_refusal (some t) old
       unfolding first_refusal
       answer = rw (e, a, b, c, d)

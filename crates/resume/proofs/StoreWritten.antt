@@ -1,142 +1,130 @@
--- The bytes of a fresh room in which the versions of a tape were written, and then its count and its table of commons, are those of the tape's room;
--- with the tail behind them they are its store.
+-- A fresh store into which the versions of a tape were written, and then its count and its table of commons, is the store of the tape's room.
 -- Assumes nothing.
-use mathlib.Core.Path.{◌≡◌, sym, ap, subst, ◌∙◌}
+use mathlib.Core.Path.{◌≡◌, refl, ap, subst, ◌∙◌}
 use mathlib.Core.Bool.{true}
-use mathlib.Core.List.{List}
-use Prim.Native.Nat.{ℕ, suc, ◌+◌, ◌-◌, ◌≤◌, ◌<◌}
+use mathlib.Core.List.{List, []}
+use Prim.Native.Nat.{ℕ, ◌+◌, ◌≤◌, ◌<◌}
 use native.Mathlib.Omega.{arith}
 use lib.ListN.{length, get_or, drop, length-append, length-drop}
-use lib.Seq.{get_or-drop}
-use Rattle.buffer.specs.Field.{word, zeros, with_part, overwrite}
-use Rattle.buffer.specs.Blocks.{block_at, block_in}
+use Rattle.buffer.specs.Field.{put_word, part, overwrite, with_part}
 use Rattle.buffer.proofs.Rows.{row_from-length}
-use Rattle.buffer.proofs.Stands.{Stands, stands_kept}
-use Rattle.buffer.proofs.Parts.{part_stands, overwrite_behind}
-use Rattle.buffer.proofs.Patches.{with_length, with_outside, with_stands, word_part, behind}
-use Rattle.buffer.proofs.Blocks.{block_most}
+use Rattle.buffer.proofs.Stands.{Stands, stands_front, stands_kept}
+use Rattle.buffer.proofs.Parts.{put_stands, overwrite_behind}
+use Rattle.buffer.proofs.Patches.{with_length, with_outside, with_stands}
+use Rattle.buffer.proofs.Writes.{put_length, put_other_lem}
 use Rattle.graph.specs.Graph.{version_count, is_entry}
 use Rattle.command.specs.Code.{console_count}
 use Rattle.room.specs.declared.Settings.{Settings}
-use Rattle.room.specs.Room.{fresh_room}
-use Rattle.room.specs.Sound.{max_capacity, sound_room}
-use Rattle.room.proofs.Sound.{capacity_range, sound_facts}
-use Rattle.store.specs.Layout.{header_size, row_size, block_size, room_size, count_at, commons_at, commons_size, common_table, room_bytes, blocks_in, encode}
-use Rattle.store.proofs.Blocks.{common_table-length}
-use Rattle.store.proofs.Joined.{Placed, placed, room_length}
-use Rattle.store.proofs.Changed.{Changed, changed_placed}
-use Rattle.store.proofs.Overwritten.{overwritten, tail_written}
+use Rattle.room.specs.Room.{Room, fresh_room}
+use Rattle.room.specs.Sound.{sound_room}
+use Rattle.room.proofs.Sound.{sound_facts}
+use Rattle.room.proofs.Steps.{fresh_sound}
+use Rattle.store.specs.Layout.{header_size, row_size, store_size, count_at, commons_at, commons_size, commons_end, block_at, common_table, encode}
+use Rattle.store.proofs.Blocks.{common_table-length, block_length, table_field}
+use Rattle.store.proofs.Joined.{Placed, placed}
+use Rattle.store.proofs.Changed.{Changed, changed_store}
+use Rattle.store.proofs.RoundTrip.{encode_length}
+use Rattle.update.proofs.AppendedBlocks.{Standing}
 use Rattle.tape.specs.Tape.{Content, room_of}
-use Rattle.tape.specs.Reader.{start_length}
 use Rattle.resume.specs.Writing.{with_header}
-use Rattle.resume.proofs.Along.{Versions, along_all, versions_none}
-use Rattle.resume.proofs.VersionsWritten.{Built, built_none}
+use Rattle.resume.proofs.VersionsWritten.{Built}
 
--- where the bytes of a fresh room with the tape's settings were written over the old ones
-module _ (t : Content) (old : List ℕ) {settings : Settings} (set : settings ≡ t.settings) (fits : room_size settings (version_count t.versions) ≤ length old)
-    {s : List ℕ} (made : s ≡ overwrite (room_bytes (fresh_room settings)) old) where
+-- where the store of a fresh room of the tape's capacity was written over the old bytes
+module _ (t : Content) (sound : sound_room (room_of t) ≡ true) (old : List ℕ) (settings : Settings) (size : settings ≡ t.settings)
+    (room_for : store_size settings.capacity ≤ length old) {s : List ℕ} (made : s ≡ overwrite (encode (fresh_room settings)) old) where
+  abbrev r : Room
+  r = room_of t
+
   abbrev n : ℕ
   n = version_count t.versions
 
-  one_fits : room_size settings 1 ≤ room_size settings n
-  one_fits = omega (arith, block_most (block_size settings) 1 n (omega arith))
+  fits : store_size t.settings.capacity ≤ length old
+  fits = let e = ap (λ (x : Settings). x.capacity) size in omega arith
+
+  opened : s ≡ overwrite (encode (fresh_room t.settings)) old
+  opened = rw size at made
+
+  fresh_length : length (encode (fresh_room t.settings)) ≡ store_size t.settings.capacity
+  fresh_length = encode_length (fresh_room t.settings) (fresh_sound t.settings (sound_facts r sound).settings)
 
   opened_long : length s ≡ length old
-  opened_long = rw (made, length-append, length-drop) (omega (arith, one_fits, room_length (fresh_room settings)))
+  opened_long = let long = fresh_length in let f = fits in rw opened (simp (length-append, length-drop) (omega arith))
 
-  parts : Placed s (fresh_room settings)
-  parts = rw made (placed (fresh_room settings) (drop (length (room_bytes (fresh_room settings))) old))
+  opened_behind : (k : ℕ) → store_size t.settings.capacity ≤ k → get_or s k 0 ≡ get_or old k 0
+  opened_behind k l =
+      let long = fresh_length in
+      ap (λ (x : List ℕ). get_or x k 0) opened ∙ overwrite_behind (encode (fresh_room t.settings)) old k (omega arith)
 
-  opened_behind : (k : ℕ) → room_size settings 1 ≤ k → get_or s k 0 ≡ get_or old k 0
-  opened_behind k l = rw made (overwrite_behind (room_bytes (fresh_room settings)) old k (omega (arith, room_length (fresh_room settings))))
+  parts : Placed s (fresh_room t.settings)
+  parts = placed (fresh_room t.settings) (rw opened (stands_front (encode (fresh_room t.settings)) (drop (length (encode (fresh_room t.settings))) old)))
 
-  pub opened_fits : room_size settings (version_count t.versions) ≤ length s
-  opened_fits = omega (arith, opened_long)
+  pub opened_standing : Standing s []
+  opened_standing = record { versions = parts.versions; entries = parts.entries }
 
-  pub opened_built : {at : ℕ} → at ≡ start_length → Versions t (Built settings s s) 0 at
-  opened_built e = versions_none t e (Built settings s s) (built_none (omega (arith, opened_long)) parts)
+  pub opened_fits : block_at (version_count t.versions) ≤ length s
+  opened_fits = let k = sound_facts r sound in let long = opened_long in let f = fits in omega arith
 
-  module _ {now : List ℕ} {k at : ℕ} (all : Versions t (Built settings s now) k at) (done : length t.versions ≤ k) where
-    built : Built settings s now t.versions
-    built = (along_all _ _ all done).0
+  module _ {now : List ℕ} (built : Built s now t.versions) (header : List ℕ)
+      (common : part header commons_at commons_size ≡ common_table r 0 console_count) where
+    abbrev table : List ℕ
+    table = part header commons_at commons_size
+
+    abbrev counted : List ℕ
+    counted = put_word now count_at n
+
+    abbrev final : List ℕ
+    final = with_part counted commons_at table
+
+    table_long : length table ≡ commons_size
+    table_long = rw common (common_table-length r 0 console_count)
+
+    now_long : length now ≡ length old
+    now_long = built.long ∙ opened_long
+
+    counted_long : length counted ≡ length old
+    counted_long = put_length now count_at n ∙ now_long
+
+    large : header_size ≤ length old
+    large = let f = fits in omega arith
 
     pub header_fits : header_size ≤ length now
-    header_fits = omega (arith, built.long, opened_long)
+    header_fits = let h = large in let l = now_long in omega arith
 
-    -- the count, and then the table
-    module _ {table : List ℕ} (common : table ≡ common_table (room_of t) 0 console_count) where
-      abbrev counted : List ℕ
-      counted = with_part now count_at (word n)
+    -- behind and before the table, and but for the count
+    outside : (k : ℕ) → (commons_at ≤ k → k < commons_end → ⊥) → get_or final k 0 ≡ get_or counted k 0
+    outside k a =
+        let l = table_long in let c = counted_long in let h = large in
+        with_outside counted table commons_at (omega arith) k (λ x y. a x (omega arith))
 
-      abbrev final : List ℕ
-      final = with_part counted commons_at table
+    stays : (k : ℕ) → (commons_at ≤ k → k < commons_end → ⊥) → (count_at ≤ k → k < count_at + 2 → ⊥) → get_or final k 0 ≡ get_or now k 0
+    stays k a b = outside k a ∙ put_other_lem now count_at n k (λ e. b (omega arith) (omega arith)) (λ e. b (omega arith) (omega arith))
 
-      table_long : length table ≡ commons_size
-      table_long = rw common (common_table-length (room_of t) 0 console_count)
+    whole : Changed s final (fresh_room t.settings) r
+    whole =
+        let k = sound_facts r sound in
+        let l = table_long in
+        let long = counted_long in
+        let f = fits in
+        let wide = row_from-length (is_entry t.versions) 0 row_size in
+        let there = with_stands counted table commons_at (omega arith) in
+        record {
+          settings = refl;
+          more = omega arith;
+          fits = k.fits;
+          kept = λ i o. stays i (λ x y. o.1 (omega arith) y) o.0 ∙ built.kept i o.2 (λ x y. o.1 x (omega arith));
+          count = stands_kept (put_stands now count_at n (omega (arith, now_long))) (λ i x y. outside i (omega arith));
+          entries = stands_kept built.standing.entries (λ i x y. stays i (omega arith) (omega arith));
+          commons = table_field r commons_at (subst (Stands final commons_at) common there);
+          versions = λ v b. let long-block = block_length t.versions v in stands_kept (built.standing.versions v b) (λ i x y. stays i (omega arith) (omega arith));
+        }
 
-      count_fits : count_at + length (word n) ≤ length now
-      count_fits = omega (arith, header_fits)
-
-      counted_long : length counted ≡ length old
-      counted_long = with_length now (word n) count_at count_fits ∙ built.long ∙ opened_long
-
-      table_fits : commons_at + length table ≤ length counted
-      table_fits = omega (arith, counted_long, table_long)
-
-      blocks_same : blocks_in final ≡ blocks_in now
-      blocks_same =
-          behind counted table commons_at table_fits (header_size - (commons_at + commons_size)) header_size (omega (arith, table_long))
-          ∙ behind now (word n) count_at count_fits (header_size - (count_at + 2)) header_size (omega arith)
-
-      outside : (i : ℕ) → (commons_at ≤ i → i < commons_at + commons_size → ⊥) → get_or final i 0 ≡ get_or counted i 0
-      outside i o = with_outside counted table commons_at table_fits i (λ x y. o x (omega (arith, table_long)))
-
-      stays : (i : ℕ) → (commons_at ≤ i → i < commons_at + commons_size → ⊥) → (count_at ≤ i → i < count_at + 2 → ⊥) → get_or final i 0 ≡ get_or now i 0
-      stays i o c = outside i o ∙ with_outside now (word n) count_at count_fits i c
-
-      whole : Changed s final (fresh_room settings) (room_of t)
-      whole =
-          let wide = row_from-length (is_entry t.versions) 0 row_size in
-          record {
-            settings = sym set;
-            kept = λ i l o. stays i (λ x y. o.1 (omega arith) (omega arith)) o.0 ∙ built.kept i l (λ x y. o.1 x (omega arith));
-            count = stands_kept (with_stands now (word n) count_at count_fits) (λ i x y. outside i (omega arith));
-            entries = stands_kept (part_stands {s = now} row_size built.entries wide) (λ i x y. stays i (omega arith) (omega arith));
-            table = subst (Stands final commons_at) common (with_stands counted table commons_at table_fits);
-            versions = λ v l. ap (λ (b : List ℕ). block_in (block_size settings) b v) blocks_same ∙ built.blocks v l;
-          }
-
-      -- behind the last block nothing was written
-      final_behind : (i : ℕ) → room_size settings n ≤ i → get_or final i 0 ≡ get_or old i 0
-      final_behind i l =
-          let there : header_size + (i - header_size) ≡ i = omega arith in
-          stays i (omega arith) (omega arith) ∙ ap (λ (j : ℕ). get_or now j 0) (sym there) ∙ sym (get_or-drop header_size now (i - header_size) 0)
-          ∙ built.behind (i - header_size) (omega arith) ∙ get_or-drop header_size s (i - header_size) 0 ∙ ap (λ (j : ℕ). get_or s j 0) there
-          ∙ opened_behind i (omega (arith, one_fits))
-
-      pub room_whole : {versions : ℕ} {end : List ℕ} → versions ≡ length t.versions → end ≡ with_header now (versions + 1) table
-          → end ≡ overwrite (room_bytes (room_of t)) old
-      unfolding with_header
-      room_whole {versions} v e =
-          let count : versions + 1 ≡ n = omega arith in
-          let there = rw (count, word_part now count_at n (omega (arith, header_fits))) at e in
-          let size : room_size t.settings n ≡ room_size settings n = rw set in
-          there
-          ∙ overwritten old final (room_of t) (changed_placed parts whole) (omega arith) (with_length counted table commons_at table_fits ∙ counted_long)
-          (λ i l. final_behind i (omega arith))
-
--- the versions are no more than a store may hold
-pub versions_few : (t : Content) → sound_room (room_of t) ≡ true → {settings : Settings} {versions : ℕ} → settings ≡ t.settings
-    → versions ≡ length t.versions → (suc versions ≤ settings.capacity) × (settings.capacity ≤ max_capacity)
-versions_few t sound set v =
-    let k = sound_facts (room_of t) sound in
-    rw set (omega (arith, k.fits, capacity_range t.settings k.settings))
-
--- and the tail
-pub store_whole : (t : Content) (old : List ℕ) → sound_room (room_of t) ≡ true → {settings : Settings} {versions : ℕ} {room end : List ℕ}
-    → settings ≡ t.settings → versions ≡ length t.versions → room ≡ overwrite (room_bytes (room_of t)) old
-    → end ≡ with_part room (room_size settings (versions + 1)) (zeros (block_at (block_size settings) (settings.capacity - (versions + 1))))
-    → end ≡ overwrite (encode (room_of t)) old
-store_whole t old sound {versions = versions} set v made e =
-    let count : versions + 1 ≡ version_count t.versions = omega arith in
-    rw (made, set, count) at e ∙ tail_written old (room_of t) sound
+    pub store_whole : {versions : ℕ} {end : List ℕ} → versions ≡ length t.versions → end ≡ with_header now (versions + 1) header
+        → end ≡ overwrite (encode (room_of t)) old
+    unfolding with_header
+    store_whole {versions} {end} v e =
+        let count : versions + 1 ≡ n = omega arith in
+        let there : end ≡ final = rw count at e in
+        let l = table_long in
+        let c = counted_long in
+        let h = large in
+        there ∙ changed_store parts whole old sound fits (with_length counted table commons_at (omega arith) ∙ counted_long) opened_behind

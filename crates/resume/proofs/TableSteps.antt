@@ -9,7 +9,7 @@ use native.Mathlib.Omega.{arith}
 use lib.Dec.{eqb, eqb-suc-zero}
 use lib.ListN.{length, get_or}
 use Rattle.command.specs.Code.{console_count}
-use Rattle.store.specs.Layout.{commons_size, common_at}
+use Rattle.store.specs.Layout.{header_size, common_at}
 use Rattle.store.specs.Check.{common_in}
 use Rattle.update.specs.Commons.{put_common}
 use Rattle.update.proofs.CommonsTable.{Clear, common_length, put_kept}
@@ -56,27 +56,27 @@ module _ (rows t : List ℕ) where
   consoles_own (suc c) k cn kn = pairs_own rows (with_consoles rows t c) c c k (omega arith) cn kn ∙ consoles_own c k (omega arith) kn
 
 -- the pairs of console c with the consoles below d are written
-pub record Paired (rows t : List ℕ) (c d : ℕ) (table : List ℕ) (ok : Bool) : Type 0 where
+pub record Paired (rows t : List ℕ) (c d : ℕ) (header : List ℕ) (ok : Bool) : Type 0 where
   pub within : d ≤ c
-  pub long : length table ≡ commons_size
-  pub written : table ≡ with_pairs rows t c d
+  pub long : length header ≡ header_size
+  pub written : header ≡ with_pairs rows t c d
   pub met : ok ≡ console_meets rows t c d
 
-pub paired_none : (rows t : List ℕ) (c : ℕ) → length t ≡ commons_size → Paired rows t c 0 t true
+pub paired_none : (rows t : List ℕ) (c : ℕ) → length t ≡ header_size → Paired rows t c 0 t true
 unfolding with_pairs console_meets
 paired_none rows t c l = record { within = omega arith; long = l; written = refl; met = refl }
 
-pub paired_all : {rows t : List ℕ} {c d : ℕ} {table : List ℕ} {ok : Bool} → Paired rows t c d table ok → c ≤ d
-    → (ok ≡ console_meets rows t c c) × (table ≡ with_pairs rows t c c)
+pub paired_all : {rows t : List ℕ} {c d : ℕ} {header : List ℕ} {ok : Bool} → Paired rows t c d header ok → c ≤ d
+    → (ok ≡ console_meets rows t c c) × (header ≡ with_pairs rows t c c)
 paired_all {c = c} {d = d} p l = let w = p.within in let e : d ≡ c = omega arith in (rw e at p.met, rw e at p.written)
 
-module _ {rows t : List ℕ} {c d : ℕ} {table : List ℕ} {ok : Bool} (p : Paired rows t c d table ok) (cn : c < console_count) where
+module _ {rows t : List ℕ} {c d : ℕ} {header : List ℕ} {ok : Bool} (p : Paired rows t c d header ok) (cn : c < console_count) where
   -- the diagonal reads as at first
-  pub paired_own : (k : ℕ) → k < console_count → common_in table k k ≡ common_in t k k
+  pub paired_own : (k : ℕ) → k < console_count → common_in header k k ≡ common_in t k k
   paired_own k kn = ap (λ (u : List ℕ). common_in u k k) p.written ∙ pairs_own rows t c d k p.within cn kn
 
-  pub paired_more : {x y : ℕ} {after : List ℕ} {met : Bool} → d < c → x ≡ common_in table c c → y ≡ common_in table d d
-      → met ≡ pair_meets rows x y → after ≡ put_common table c d (pair_field rows x y) → Paired rows t c (d + 1) after (ok && met)
+  pub paired_more : {x y : ℕ} {after : List ℕ} {met : Bool} → d < c → x ≡ common_in header c c → y ≡ common_in header d d
+      → met ≡ pair_meets rows x y → after ≡ put_common header c d (pair_field rows x y) → Paired rows t c (d + 1) after (ok && met)
   unfolding with_pairs console_meets
   paired_more {x} {y} {after} {met} dc ex ey em ea =
       let own : x ≡ common_in t c c = ex ∙ paired_own c cn in
@@ -85,19 +85,19 @@ module _ {rows t : List ℕ} {c d : ℕ} {table : List ℕ} {ok : Bool} (p : Pai
       let told : ok && met ≡ console_meets rows t c (suc d) = rw (em, p.met, own, other) in
       record {
         within = omega arith;
-        long = rw ea (common_length table c d _ ∙ p.long);
+        long = rw ea (common_length header c d _ ∙ p.long);
         written = made ∙ ap (with_pairs rows t c) (sym (add-one d));
         met = told ∙ ap (console_meets rows t c) (sym (add-one d));
       }
 
 -- the pairs of all consoles below c are written
-pub record Tabled (rows t : List ℕ) (c : ℕ) (table : List ℕ) (ok : Bool) : Type 0 where
+pub record Tabled (rows t : List ℕ) (c : ℕ) (header : List ℕ) (ok : Bool) : Type 0 where
   pub within : c ≤ console_count
-  pub long : length table ≡ commons_size
-  pub written : table ≡ with_consoles rows t c
+  pub long : length header ≡ header_size
+  pub written : header ≡ with_consoles rows t c
   pub met : ok ≡ table_meets rows t c
 
-pub tabled_none : (rows t : List ℕ) → length t ≡ commons_size → Tabled rows t 0 t true
+pub tabled_none : (rows t : List ℕ) → length t ≡ header_size → Tabled rows t 0 t true
 unfolding with_consoles table_meets
 tabled_none rows t l = record { within = omega arith; long = l; written = refl; met = refl }
 
@@ -109,22 +109,22 @@ meets_own rows t u c zero dc cn h = refl
 meets_own rows t u c (suc d) dc cn h =
     ap₂ ◌&&◌ (meets_own rows t u c d (omega arith) cn h) (rw (h c cn, h d (omega arith)))
 
-module _ {rows t : List ℕ} {c : ℕ} {table : List ℕ} {ok : Bool} (p : Tabled rows t c table ok) where
-  pub tabled_own : (k : ℕ) → k < console_count → common_in table k k ≡ common_in t k k
+module _ {rows t : List ℕ} {c : ℕ} {header : List ℕ} {ok : Bool} (p : Tabled rows t c header ok) where
+  pub tabled_own : (k : ℕ) → k < console_count → common_in header k k ≡ common_in t k k
   tabled_own k kn = ap (λ (u : List ℕ). common_in u k k) p.written ∙ consoles_own rows t c k p.within kn
 
-  pub tabled_more : {after : List ℕ} {met : Bool} → c < console_count → met ≡ console_meets rows table c c → after ≡ with_pairs rows table c c
+  pub tabled_more : {after : List ℕ} {met : Bool} → c < console_count → met ≡ console_meets rows header c c → after ≡ with_pairs rows header c c
       → Tabled rows t (c + 1) after (ok && met)
   unfolding with_consoles table_meets
   tabled_more {after} {met} cn em ea =
       record {
         within = omega arith;
-        long = rw ea (pairs_length rows table c c ∙ p.long);
+        long = rw ea (pairs_length rows header c c ∙ p.long);
         written = rw (ea, add-one, p.written);
-        met = rw (em, add-one, p.met, meets_own rows t table c c (omega arith) cn tabled_own);
+        met = rw (em, add-one, p.met, meets_own rows t header c c (omega arith) cn tabled_own);
       }
 
-  pub tabled_all : console_count ≤ c → (ok ≡ table_meets rows t console_count) × (table ≡ with_consoles rows t console_count)
+  pub tabled_all : console_count ≤ c → (ok ≡ table_meets rows t console_count) × (header ≡ with_consoles rows t console_count)
   tabled_all l = let w = p.within in let e : c ≡ console_count = omega arith in (rw e at p.met, rw e at p.written)
 
 -- the answers of the functions for one pair

@@ -1,14 +1,14 @@
--- The table of common versions of a tape's heads, by itself, made from the heads on its diagonal and the rows of the versions.
+-- The table of common versions of a tape's heads, in a header of its own, made from the heads on its diagonal and the rows of the versions.
 use Rattle.std.specs.Prelude.{ℕ, zero, suc, Bool, true, not, ◌&&◌, List, [], ◌∷◌, eqb}
 use Rattle.buffer.specs.Field.{zeros}
-use Rattle.store.specs.Layout.{commons_size}
+use Rattle.store.specs.Layout.{header_size}
 use Rattle.store.specs.Check.{common_in}
 use Rattle.update.specs.Commons.{put_common, put_head}
 use Rattle.resume.specs.Rows.{meet_field}
 
--- a table that has the heads of a tape on its diagonal, each 1 more than the version
+-- a header whose table has the heads of a tape on its diagonal, each 1 more than the version
 unfoldable pub head_table : List (ℕ × ℕ) → List ℕ
-head_table [] = zeros commons_size
+head_table [] = zeros header_size
 head_table (h ∷ before) = put_head (head_table before) h.0 (suc h.1)
 
 -- the field of two consoles whose own fields are x and y: 0 where one is absent, else 1 more than the meet of their heads, if they have one

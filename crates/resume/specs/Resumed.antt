@@ -9,7 +9,7 @@ use Rattle.resume.specs.Content.{told}
 
 -- 7 to 10, and then "19 lent output or store buffer too short."
 abbrev pub resume_refusal : Option Content → List ℕ → ℕ
-resume_refusal o store = first_refusal (tape_tests o ++ (19 when ltb (length store) (store_size (told o).settings) ∷ []))
+resume_refusal o store = first_refusal (tape_tests o ++ (19 when ltb (length store) (store_size (told o).settings.capacity) ∷ []))
 
 -- "A refusal returns its number, counts 0, and changes no lent byte."
 unfoldable pub resumed_store : Option Content → List ℕ → List ℕ

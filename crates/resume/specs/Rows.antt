@@ -1,8 +1,7 @@
 -- The ancestry rows of a tape's versions in an array of their own, one behind the other, and what two rows have in common.
 use Rattle.std.specs.Prelude.{ℕ, suc, ◌*◌, ◌<◌, ◌≡◌, Bool, true, false, ◌&&◌, List, length}
 use Rattle.std.proofs.Math.Option.{get_or}
-use Rattle.buffer.specs.Field.{same}
-use Rattle.buffer.specs.Blocks.{block_in}
+use Rattle.buffer.specs.Field.{part, same}
 use Rattle.buffer.specs.Row.{row, member, intersection}
 use Rattle.graph.specs.Below.{highest_below}
 use Rattle.graph.specs.Graph.{Graph, version_count, ancestor}
@@ -19,7 +18,7 @@ rows_size = row_size * max_capacity
 
 -- row v
 abbrev pub own_row : List ℕ → ℕ → List ℕ
-own_row t v = block_in row_size t v
+own_row t v = part t (row_size * v) row_size
 
 -- the rows of all versions of a graph stand in t; the bytes past the last are left free
 pub record RowsOf (t : List ℕ) (g : Graph) : Type 0 where

@@ -1,6 +1,6 @@
 -- The rows of a tape's versions as they are made one after the other, and the base of a merge by them.
-use Rattle.std.specs.Prelude.{ℕ, Bool, true, List}
-use Rattle.buffer.specs.Blocks.{with_block}
+use Rattle.std.specs.Prelude.{ℕ, ◌*◌, Bool, true, List}
+use Rattle.buffer.specs.Field.{with_part}
 use Rattle.buffer.specs.Row.{with_member, union}
 use Rattle.graph.specs.declared.Node.{Node}
 use Rattle.graph.specs.declared.Node.TheVariants.{Entry, Merge}
@@ -10,8 +10,8 @@ use Rattle.resume.specs.Rows.{highest_common, own_row, meet_field}
 
 -- the rows with that of version v
 abbrev pub rows_with : List ℕ → ℕ → Node → List ℕ
-rows_with rows v (Entry p code strip operand) = with_block row_size rows v (with_member (own_row rows p.0) v)
-rows_with rows v (Merge p q) = with_block row_size rows v (with_member (union (own_row rows p.0) (own_row rows q.0)) v)
+rows_with rows v (Entry p code strip operand) = with_part rows (row_size * v) (with_member (own_row rows p.0) v)
+rows_with rows v (Merge p q) = with_part rows (row_size * v) (with_member (union (own_row rows p.0) (own_row rows q.0)) v)
 
 -- the parents of a merge have a meet that is neither of them
 abbrev pub base_found : List ℕ → Node → Bool

@@ -13,7 +13,7 @@ use crate::soundness::gives_sound_room;
 use crate::writing::write_store;
 use refusal::{first_of, when};
 use room::Settings;
-use store::places::{MAX_CAPACITY, ROW, TABLE, store_size};
+use store::places::{HEADER, MAX_CAPACITY, ROW, store_size};
 use store::settings::settings_in_range;
 use tape::scan::{Scanned, scan, scan_refusal};
 
@@ -42,7 +42,7 @@ fn resume_ranged(
     ensures { (result ≡ resume_refusal (some (content_in tape.now)) store.old) × (store.new ≡ resumed_store (some (content_in tape.now)) store.old) }
 {
     let mut rows = [0u8; ROWS];
-    let mut table = [0u8; TABLE];
+    let mut header = [0u8; HEADER];
     let sound = gives_sound_room(
         tape,
         versions,
@@ -50,11 +50,11 @@ fn resume_ranged(
         heads,
         settings.hub,
         &mut rows,
-        &mut table,
+        &mut header,
     );
-    let refusal = last_refusal(!sound, store.len() < store_size(settings));
+    let refusal = last_refusal(!sound, store.len() < store_size(settings.capacity));
     if refusal == 0 {
-        write_store(store, tape, settings, versions, &rows, &table);
+        write_store(store, tape, settings, versions, &rows, &header);
     }
     refusal
 }

@@ -1,7 +1,6 @@
 // The ancestry rows of a tape's versions in an array of their own, one behind the other, and what they have in common.
-ghost use Rattle.std.specs.Prelude.{◌≡◌, true, ◌/◌, ◌^◌, ◌<◌, ◌≤◌, length};
-ghost use Rattle.buffer.specs.Field.{zeros};
-ghost use Rattle.buffer.specs.Blocks.{with_block};
+ghost use Rattle.std.specs.Prelude.{◌≡◌, true, ◌+◌, ◌*◌, ◌/◌, ◌^◌, ◌<◌, ◌≤◌, length};
+ghost use Rattle.buffer.specs.Field.{zeros, with_part};
 ghost use Rattle.buffer.specs.Row.{with_member, union};
 ghost use Rattle.graph.specs.Graph.{serves_as_base};
 ghost use Rattle.room.specs.Sound.{max_capacity};
@@ -10,13 +9,10 @@ ghost use Rattle.store.specs.Rules.{node_in_range};
 ghost use Rattle.resume.specs.Rows.{highest_common, rows_size, own_row, meet_field};
 ghost use Rattle.resume.specs.Versions.{rows_with, base_found, base_in};
 
-use buffer::{
-    add_member, block_at, block_of, clear, is_intersection, put_extended, put_extended_union,
-};
+use buffer::{add_member, clear, is_intersection, part_of, put_extended, put_extended_union};
 use graph::{Node, Version};
-use store::places::ROW;
+use store::places::{Field, ROW, field_of};
 use store::rules::is_base;
-use store::table::{Field, field_of};
 
 // The highest bit of a byte that is not 0.
 fn top_bit(x: u8) -> usize
@@ -69,7 +65,7 @@ fn row_in(rows: &[u8], v: Version) -> &[u8]
     requires { (length rows.now ≡ rows_size) × (v.0 < max_capacity) }
     ensures { (result.now ≡ own_row rows.now v.0) × (length result.now ≡ row_size) }
 {
-    block_of(rows, ROW, v.0)
+    part_of(rows, ROW * v.0, ROW)
 }
 
 // Makes a row that has version 0 alone.
@@ -84,7 +80,7 @@ fn make_root(row: &mut [u8])
 // Writes the row of version 0.
 pub fn put_root(rows: &mut [u8])
     requires { length rows.old ≡ rows_size }
-    ensures { rows.new ≡ with_block row_size rows.old 0 (with_member (zeros row_size) 0) }
+    ensures { rows.new ≡ with_part rows.old 0 (with_member (zeros row_size) 0) }
 {
     let at = 0;
     let end = ROW;
@@ -94,18 +90,17 @@ pub fn put_root(rows: &mut [u8])
 // Writes the row of version v, an entry on p.
 fn put_extended_row(rows: &mut [u8], v: Version, p: Version)
     requires { (length rows.old ≡ rows_size) × (p.0 < v.0) × (v.0 < max_capacity) }
-    ensures { rows.new ≡ with_block row_size rows.old v.0 (with_member (own_row rows.old p.0) v.0) }
+    ensures { rows.new ≡ with_part rows.old (row_size * v.0) (with_member (own_row rows.old p.0) v.0) }
 {
-    put_extended(rows, block_at(ROW, p.0), block_at(ROW, v.0), v.0);
+    put_extended(rows, ROW * p.0, ROW * v.0, v.0);
 }
 
 // Writes the row of version v, a merge of q into p.
 fn put_joined_row(rows: &mut [u8], v: Version, p: Version, q: Version)
     requires { (length rows.old ≡ rows_size) × (p.0 < v.0) × (q.0 < v.0) × (v.0 < max_capacity) }
-    ensures { rows.new ≡ with_block row_size rows.old v.0 (with_member (union (own_row rows.old p.0) (own_row rows.old q.0)) v.0) }
+    ensures { rows.new ≡ with_part rows.old (row_size * v.0) (with_member (union (own_row rows.old p.0) (own_row rows.old q.0)) v.0) }
 {
-    let to = block_at(ROW, v.0);
-    put_extended_union(rows, block_at(ROW, p.0), block_at(ROW, q.0), to, v.0);
+    put_extended_union(rows, ROW * p.0, ROW * q.0, ROW * v.0, v.0);
 }
 
 // Writes the row of version v, whose parents are below it.

@@ -1,11 +1,11 @@
-// Refusal 10: whether the versions and heads of a tape in range give a sound room. Nothing is written but rows and a table of its own.
+// Refusal 10: whether the versions and heads of a tape in range give a sound room. Nothing is written but rows and a header of its own.
 ghost use Rattle.std.specs.Prelude.{◌≡◌, true, ◌<◌, length};
 ghost use Rattle.std.proofs.Math.Option.{some};
-ghost use Rattle.buffer.specs.Field.{zeros};
+ghost use Rattle.buffer.specs.Field.{zeros, part};
 ghost use Rattle.graph.specs.Graph.{every_version, merge_has_base};
 ghost use Rattle.command.specs.Code.{console_count};
 ghost use Rattle.room.specs.Sound.{max_capacity, settings_in_range, sound_room};
-ghost use Rattle.store.specs.Layout.{commons_size, common_table};
+ghost use Rattle.store.specs.Layout.{header_size, commons_at, commons_size, common_table};
 ghost use Rattle.store.specs.Rules.{node_in_range};
 ghost use Rattle.tape.specs.Tape.{content_of, room_of, in_range};
 ghost use Rattle.tape.specs.Reader.{head_place};
@@ -55,7 +55,7 @@ fn build_rows(tape: &[u8], versions: usize, rows: &mut [u8]) -> bool
 }
 
 // Whether the room of a whole tape in range is sound. The rows of its versions are left in rows, and of a sound room the table of common
-// versions in table. Left free: the rows past the last version's, and the table where the room is not sound.
+// versions in header. Left free: the rows past the last version's, the header outside the table, and all of it where the room is not sound.
 pub fn gives_sound_room(
     tape: &[u8],
     versions: usize,
@@ -63,20 +63,20 @@ pub fn gives_sound_room(
     heads: usize,
     hub: bool,
     rows: &mut [u8],
-    table: &mut [u8],
+    header: &mut [u8],
 ) -> bool
     requires tape_value { content_of tape.now ≡ some (content_in tape.now) }
     requires tape_value_2 { (settings_in_range (content_in tape.now).settings ≡ true) × (in_range (content_in tape.now) ≡ true) }
     requires versions_value { (versions ≡ length (content_in tape.now).versions) × (from ≡ head_place (content_in tape.now) 0) × (heads ≡ length (content_in tape.now).heads) × (hub ≡ (content_in tape.now).settings.hub) }
     requires rows_len { length rows.old ≡ rows_size }
-    requires table_len { (length table.old ≡ commons_size) × (table.old ≡ zeros commons_size) }
-    ensures { (result ≡ sound_room (room_of (content_in tape.now))) × RowsOf rows.new (content_in tape.now).versions × (result ≡ true → table.new ≡ common_table (room_of (content_in tape.now)) 0 console_count) }
+    requires header_len { (length header.old ≡ header_size) × (header.old ≡ zeros header_size) }
+    ensures { (result ≡ sound_room (room_of (content_in tape.now))) × RowsOf rows.new (content_in tape.now).versions × (result ≡ true → part header.new commons_at commons_size ≡ common_table (room_of (content_in tape.now)) 0 console_count) }
 {
     if !build_rows(tape, versions, rows) {
         return false;
     }
-    if !build_commons(tape, from, heads, rows, table) {
+    if !build_commons(tape, from, heads, rows, header) {
         return false;
     }
-    heads_reach_all(table, rows, ROW, 0, versions + 1) & hub_right(table, rows, ROW, 0, hub)
+    heads_reach_all(header, rows, 0, ROW, versions + 1) & hub_right(header, rows, 0, ROW, hub)
 }

@@ -10,7 +10,7 @@ use native.Mathlib.Decide.{ℕ_discrete}
 use borrow.Author.Tests.{not-false}
 use Rattle.laws.proofs.Logic.{clash, decide, refuted, and_l, and_r, and_i, not_e, not_i, or_none_l, or_none_r, bool_ext}
 use Rattle.graph.specs.declared.Console.{Console}
-use Rattle.graph.specs.Graph.{Graph, version_count, ancestor, base_of}
+use Rattle.graph.specs.Graph.{Graph, ancestor, base_of}
 use Rattle.graph.proofs.Below.{some_at, some_of}
 use Rattle.graph.proofs.Ancestor.{ancestor_trans}
 use Rattle.graph.proofs.Meet.{Meet}
@@ -18,7 +18,7 @@ use Rattle.refusal.specs.Refusal.{first_refusal}
 use Rattle.command.specs.declared.Command.TheVariants.{Merge, FastForward}
 use Rattle.command.specs.Code.{console_count}
 use Rattle.room.specs.Room.{Room, head_of, present, head, common}
-use Rattle.room.specs.Boards.{merge_of, rules_of, board_in}
+use Rattle.room.specs.Boards.{merge_of, board_of}
 use Rattle.room.specs.Step.{absent, behind, splits, some_third_splits, some_other_descends, state_tests, step_refusal, moved, clash_count}
 use Rattle.room.proofs.Accepted.{some_descends}
 use Rattle.room.proofs.Sound.{Sound, present_console}
@@ -105,7 +105,7 @@ module _ (r : Room) (s : Sound r) where
       pub left_clashes : clash_count (moved r c none) (Merge a b) ≡ clash_count r (Merge a b)
       unfolding clash_count
       left_clashes =
-          ap₂ (λ (p q : ℕ). (merge_of (rules_of r.settings (version_count r.versions)) (board_in r) (base_of r.versions) p q).clashes)
+          ap₂ (λ (p q : ℕ). (merge_of (board_of r.versions) (base_of r.versions) p q).clashes)
           (number (slot_other r c none a.0 ac)) (number (slot_other r c none b.0 bc))
 
       pub left_forward : step_refusal (moved r c none) (FastForward a b) ≡ step_refusal r (FastForward a b)

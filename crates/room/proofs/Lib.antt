@@ -1,4 +1,3 @@
-pub mod Boards
 pub mod Lengths
 pub mod Sound
 pub mod Moves

@@ -12,9 +12,8 @@ use borrow.Author.Tests.{eqb-true, eq-eqb, ne_eqb}
 use lib.Dec.{eqb}
 use Rattle.laws.proofs.Logic.{clash, decide, either, and_l, and_r, and_i, cond_true, cond_false}
 use Rattle.board.specs.declared.Cell.{Cell}
-use Rattle.board.specs.Board.{strip_count, value_in, writing_code}
-use Rattle.board.proofs.Cells.{side_taken}
-use Rattle.board.proofs.Rule.{Fits, ValueLaws, paper_values}
+use Rattle.board.specs.Board.{strip_count, enter, value_in, writing_code}
+use Rattle.board.proofs.Cells.{value_empty, value_merged, value_kept, value_entered, side_taken}
 use Rattle.graph.specs.declared.Node.{Node}
 use Rattle.graph.specs.declared.Node.TheVariants.{Entry, Merge}
 use Rattle.graph.specs.Graph.{Graph, entry, version_count, ancestor, node_of, is_entry_node, base_of, every_version, parents_lower}
@@ -24,61 +23,61 @@ use Rattle.graph.proofs.Meet.{meet_old, meet_number-below}
 use Rattle.command.proofs.Limits.{entry_below}
 use Rattle.room.specs.Room.{Room, present, head, hears}
 use Rattle.room.specs.Sound.{entry_in_range, sound_room}
-use Rattle.room.specs.Boards.{Rules, board_made, board_of, rules_of}
+use Rattle.room.specs.Boards.{board_made, board_of}
 use Rattle.room.specs.Origin.{writes_cell, value_of, leads_to_giver, leads_to, origin_of, origin, value_shown}
-use Rattle.room.proofs.Boards.{board_new, board_old}
-use Rattle.room.proofs.Lengths.{Sized, board_fits, rules_sized}
+use Rattle.room.proofs.Lengths.{board_of-length}
 use Rattle.room.proofs.Sound.{Sound, present_head, sound_facts}
+use Rattle.room.proofs.Counters.{board_new, board_old}
 
-module _ (rules : Rules) (cell : Cell) (k : ℕ) where
-  origin_new : (n : Node) (g : Graph) → origin_of rules cell k (n ∷ g) (version_count g) ≡ cond (writes_cell cell k n) (version_count g) (origin_of rules cell k g (leads_to rules cell k g n))
+module _ (cell : Cell) (k : ℕ) where
+  origin_new : (n : Node) (g : Graph) → origin_of cell k (n ∷ g) (version_count g) ≡ cond (writes_cell cell k n) (version_count g) (origin_of cell k g (leads_to cell k g n))
   unfolding origin_of
   origin_new n g = cond_true _ _ _ (eq-eqb (version_count g) (version_count g) refl)
 
-  origin_old : (n : Node) (g : Graph) (v : ℕ) → v < version_count g → origin_of rules cell k (n ∷ g) v ≡ origin_of rules cell k g v
+  origin_old : (n : Node) (g : Graph) (v : ℕ) → v < version_count g → origin_of cell k (n ∷ g) v ≡ origin_of cell k g v
   unfolding origin_of
   origin_old n g v l = cond_false _ _ _ (ne_eqb v (version_count g) (omega arith))
 
   -- the origin is a version, and that of version 0 is version 0
-  pub origin_below : (g : Graph) (v : ℕ) → origin_of rules cell k g v < version_count g
+  pub origin_below : (g : Graph) (v : ℕ) → origin_of cell k g v < version_count g
   unfolding origin_of
   origin_below [] v = omega arith
   origin_below (n ∷ g) v =
       let P : ℕ → Type 0 = λ o. o < version_count (n ∷ g) in
       either P (eqb v (version_count g))
-      (λ e. either P (writes_cell cell k n) (λ _. omega (arith, eqb-true v (version_count g) e)) (omega (arith, origin_below g (leads_to rules cell k g n))))
+      (λ e. either P (writes_cell cell k n) (λ _. omega (arith, eqb-true v (version_count g) e)) (omega (arith, origin_below g (leads_to cell k g n))))
       (omega (arith, origin_below g v))
 
-  pub origin_first : (g : Graph) → origin_of rules cell k g 0 ≡ 0
+  pub origin_first : (g : Graph) → origin_of cell k g 0 ≡ 0
   unfolding origin_of
   origin_first [] = refl
   origin_first (n ∷ g) = origin_old n g 0 (omega arith) ∙ origin_first g
 
   -- the walk leads to a parent
-  leads_parent : (g : Graph) (n : Node) → Parent n (leads_to rules cell k g n)
+  leads_parent : (g : Graph) (n : Node) → Parent n (leads_to cell k g n)
   leads_parent g (Entry p code strip operand) = sole
-  leads_parent g (Merge p q) = either (Parent (Merge p q)) (leads_to_giver rules cell k g p.0 q.0) (λ _. giver) receiver
+  leads_parent g (Merge p q) = either (Parent (Merge p q)) (leads_to_giver cell k g p.0 q.0) (λ _. giver) receiver
 
-  pub leads_lower : (g : Graph) (v : ℕ) (n : Node) → every_version parents_lower g ≡ true → node_of g v ≡ some n → leads_to rules cell k g n < v
-  leads_lower g v n lower e = parent_below g n (leads_to rules cell k g n) v lower e (leads_parent g n)
+  pub leads_lower : (g : Graph) (v : ℕ) (n : Node) → every_version parents_lower g ≡ true → node_of g v ≡ some n → leads_to cell k g n < v
+  leads_lower g v n lower e = parent_below g n (leads_to cell k g n) v lower e (leads_parent g n)
 
   -- and a new version changes nothing of where older ones lead
-  leads_old : (m n : Node) (g : Graph) → ((p : ℕ) → Parent n p → p < version_count g) → leads_to rules cell k (m ∷ g) n ≡ leads_to rules cell k g n
+  leads_old : (m n : Node) (g : Graph) → ((p : ℕ) → Parent n p → p < version_count g) → leads_to cell k (m ∷ g) n ≡ leads_to cell k g n
   leads_old m (Entry p code strip operand) g h = refl
   leads_old m (Merge p q) g h =
       let pl = h p.0 receiver in
       let ql = h q.0 giver in
-      rw (meet_old m g p.0 q.0 pl ql, board_old rules m g (base_of g p.0 q.0) (meet_number-below g p.0 q.0), board_old rules m g p.0 pl, board_old rules m g q.0 ql)
+      rw (meet_old m g p.0 q.0 pl ql, board_old m g (base_of g p.0 q.0) (meet_number-below g p.0 q.0), board_old m g p.0 pl, board_old m g q.0 ql)
 
   -- one step of the walk, in the whole graph
   pub origin_step : (g : Graph) (v : ℕ) (n : Node) → every_version parents_lower g ≡ true → node_of g v ≡ some n
-      → origin_of rules cell k g v ≡ cond (writes_cell cell k n) v (origin_of rules cell k g (leads_to rules cell k g n))
+      → origin_of cell k g v ≡ cond (writes_cell cell k n) v (origin_of cell k g (leads_to cell k g n))
   origin_step [] v n lower e = absurd (omega (arith, node_of-named [] v n e))
   origin_step (m ∷ g) v n lower e =
       let low : (p : ℕ) → Parent n p → p < v = λ p r. parent_below (m ∷ g) n p v lower e r in
       let named = node_of-named (m ∷ g) v n e in
       let leads = leads_old m n g (λ p r. omega (arith, low p r)) in
-      let old = origin_old m g (leads_to rules cell k g n) (omega (arith, low (leads_to rules cell k g n) (leads_parent g n))) in
+      let old = origin_old m g (leads_to cell k g n) (omega (arith, low (leads_to cell k g n) (leads_parent g n))) in
       elim (ℕ_discrete v (version_count g)) [
         | yes d ↦ let is : m ≡ n = cc (node_of-new m g) in cc (origin_new m g)
         | no d ↦
@@ -87,7 +86,6 @@ module _ (rules : Rules) (cell : Cell) (k : ℕ) where
             cc (origin_old m g v l)
       ]
 
-module _ (cell : Cell) (k : ℕ) where
   -- what the walk from v finds where v shows x: o is 0 and x is 0, or o is an entry behind v that wrote x
   record Found (g : Graph) (v o x : ℕ) : Type 0 where
     small : x < 65536
@@ -112,74 +110,66 @@ module _ (cell : Cell) (k : ℕ) where
       (p.0, x, λ i. entry p.0 (c i) (sym j i) x)
   writes_entry (Merge p q) t = clash t refl
 
--- rules by which every version's levels and headings are written and merged as the paper has it
-module _ (rules : Rules) {size : ℕ} (sized : Sized rules size) (laws : (v : ℕ) → ValueLaws (rules v)) (cell : Cell) (k : ℕ) (inside : k < strip_count) where
-  -- version 0 shows 0
-  found_first : (v : ℕ) → Found cell k [] v (origin_of rules cell k [] v) (value_of rules cell k [] v)
-  unfolding origin_of board_of
-  found_first v =
-      let empty = (laws 0).empty cell k inside in
-      record { small = omega arith; none = λ _. empty; behind = λ l. absurd (omega arith); wrote = λ l. absurd (omega arith) }
+  module _ (inside : k < strip_count) where
+    -- version 0 shows 0
+    found_first : (v : ℕ) → Found [] v (origin_of cell k [] v) (value_of cell k [] v)
+    unfolding origin_of board_of
+    found_first v =
+        let empty = value_empty cell k inside in
+        record { small = omega arith; none = λ _. empty; behind = λ l. absurd (omega arith); wrote = λ l. absurd (omega arith) }
 
-  -- an entry that writes the cell shows its operand
-  found_written : (g : Graph) (p x : ℕ) → entry_in_range g (entry p (writing_code cell) k x) ≡ true
-      → Found cell k (entry p (writing_code cell) k x ∷ g) (version_count g) (version_count g)
-      (value_in cell k ((rules (version_count g)).entered (writing_code cell) k x (board_of rules g p)))
-  found_written g p x ranged =
-      let n : Node = entry p (writing_code cell) k x in
-      let small : x < 65536 = omega (arith, entry_below (writing_code cell) k x ranged) in
-      rw ((laws (version_count g)).written cell k inside x (board_of rules g p) (board_fits sized g p (version_count g)) small)
-      record { small = small; none = λ e. absurd (omega arith); behind = λ _. ancestor_same n g; wrote = λ _. (p, node_of-new n g) }
+    -- an entry that writes the cell shows its operand
+    found_written : (g : Graph) (p x : ℕ) → entry_in_range g (entry p (writing_code cell) k x) ≡ true
+        → Found (entry p (writing_code cell) k x ∷ g) (version_count g) (version_count g) (value_in cell k (enter (writing_code cell) k x (board_of g p)))
+    found_written g p x ranged =
+        let n : Node = entry p (writing_code cell) k x in
+        let small : x < 65536 = omega (arith, entry_below (writing_code cell) k x ranged) in
+        rw (value_entered k x (board_of g p) (omega (arith, board_of-length g p)) cell small)
+        record { small = small; none = λ e. absurd (omega arith); behind = λ _. ancestor_same n g; wrote = λ _. (p, node_of-new n g) }
 
-  -- any other version shows what the version it leads to shows
-  leads_value : (g : Graph) (n : Node) → ((p : ℕ) → Parent n p → value_of rules cell k g p < 65536) → writes_cell cell k n ≡ false
-      → value_in cell k (board_made (rules (version_count g)) (board_of rules g) (base_of g) n) ≡ value_of rules cell k g (leads_to rules cell k g n)
-  unfolding board_made
-  leads_value g (Entry p code strip x) small other =
-      (laws (version_count g)).kept cell k inside code strip.0 x (board_of rules g p.0) (board_fits sized g p.0 (version_count g)) other
-  leads_value g (Merge p q) small other =
-      let long : (v : ℕ) → Fits (rules (version_count g)) (board_of rules g v) = λ v. board_fits sized g v (version_count g) in
-      let base = value_of rules cell k g (base_of g p.0 q.0) in
-      (laws (version_count g)).merged cell k inside _ _ _ (long (base_of g p.0 q.0)) (long p.0) (long q.0)
-      (either (λ x. x < 65536) (eqb (value_of rules cell k g p.0) base) (λ _. small q.0 giver) (small p.0 receiver))
-      ∙ side_taken (value_of rules cell k g) base p.0 q.0
+    -- any other version shows what the version it leads to shows
+    leads_value : (g : Graph) (n : Node) → ((p : ℕ) → Parent n p → value_of cell k g p < 65536) → writes_cell cell k n ≡ false
+        → value_in cell k (board_made (board_of g) (base_of g) n) ≡ value_of cell k g (leads_to cell k g n)
+    unfolding board_made
+    leads_value g (Entry p code strip x) small other = value_kept code strip.0 x (board_of g p.0) cell k other
+    leads_value g (Merge p q) small other =
+        let base = value_of cell k g (base_of g p.0 q.0) in
+        value_merged _ _ _ k inside cell (either (λ x. x < 65536) (eqb (value_of cell k g p.0) base) (λ _. small q.0 giver) (small p.0 receiver))
+        ∙ side_taken (value_of cell k g) base p.0 q.0
 
-  found_new : (n : Node) (g : Graph) → parents_lower g n ≡ true → entry_in_range g n ≡ true
-      → ((v : ℕ) → v < version_count g → Found cell k g v (origin_of rules cell k g v) (value_of rules cell k g v))
-      → Found cell k (n ∷ g) (version_count g) (origin_of rules cell k (n ∷ g) (version_count g)) (value_of rules cell k (n ∷ g) (version_count g))
-  unfolding board_made
-  found_new n g lower ranged older =
-      let to = leads_to rules cell k g n in
-      let shown = leads_value g n (λ p r. (older p (parent_lower g lower r)).small) in
-      rw (origin_new rules cell k n g, board_new rules n g)
-      (elim (decide (writes_cell cell k n)) [
-        | inl t ↦ let e = writes_entry cell k n t in rw (t, e.2) (found_written g e.0 e.1 (rw e.2 at ranged))
-        | inr f ↦
-            rw (f, shown f)
-            (let parent = leads_parent rules cell k g n in
-            found_on cell k n g to (version_count g) _ _ (origin_below rules cell k g to) (ancestor_above g _ parent) (older to (parent_lower g lower parent)))
-      ])
+    found_new : (n : Node) (g : Graph) → parents_lower g n ≡ true → entry_in_range g n ≡ true
+        → ((v : ℕ) → v < version_count g → Found g v (origin_of cell k g v) (value_of cell k g v))
+        → Found (n ∷ g) (version_count g) (origin_of cell k (n ∷ g) (version_count g)) (value_of cell k (n ∷ g) (version_count g))
+    unfolding board_made
+    found_new n g lower ranged older =
+        let to = leads_to cell k g n in
+        let shown = leads_value g n (λ p r. (older p (parent_lower g lower r)).small) in
+        rw (origin_new n g, board_new n g)
+        (elim (decide (writes_cell cell k n)) [
+          | inl t ↦ let e = writes_entry n t in rw (t, e.2) (found_written g e.0 e.1 (rw e.2 at ranged))
+          | inr f ↦
+              rw (f, shown f)
+              (found_on n g to (version_count g) _ _ (origin_below g to) (ancestor_above g _ (leads_parent g n)) (older to (parent_lower g lower (leads_parent g n))))
+        ])
 
-  found : (g : Graph) (v : ℕ) → every_version parents_lower g ≡ true → every_version entry_in_range g ≡ true → v < version_count g
-      → Found cell k g v (origin_of rules cell k g v) (value_of rules cell k g v)
-  found [] v lower ranged l = found_first v
-  found (n ∷ g) v lower ranged l =
-      let older : (u : ℕ) → u < version_count g → Found cell k g u (origin_of rules cell k g u) (value_of rules cell k g u) =
-      λ u m. found g u (every_old parents_lower n g lower) (every_old entry_in_range n g ranged) m in
-      elim (ℕ_discrete v (version_count g)) [
-        | yes e ↦ rw e (found_new n g (every_new parents_lower n g lower) (every_new entry_in_range n g ranged) older)
-        | no d ↦
-            let m : v < version_count g = omega arith in
-            rw (origin_old rules cell k n g v m, board_old rules n g v m)
-            (found_on cell k n g v v _ _ (origin_below rules cell k g v) (λ a. ancestor_old n g _ v m ∙ a) (older v m))
-      ]
+    found : (g : Graph) (v : ℕ) → every_version parents_lower g ≡ true → every_version entry_in_range g ≡ true → v < version_count g
+        → Found g v (origin_of cell k g v) (value_of cell k g v)
+    found [] v lower ranged l = found_first v
+    found (n ∷ g) v lower ranged l =
+        let older : (u : ℕ) → u < version_count g → Found g u (origin_of cell k g u) (value_of cell k g u) = λ u m. found g u (every_old parents_lower n g lower) (every_old entry_in_range n g ranged) m in
+        elim (ℕ_discrete v (version_count g)) [
+          | yes e ↦ rw e (found_new n g (every_new parents_lower n g lower) (every_new entry_in_range n g ranged) older)
+          | no d ↦
+              let m : v < version_count g = omega arith in
+              rw (origin_old n g v m, board_old n g v m)
+              (found_on n g v v _ _ (origin_below g v) (λ a. ancestor_old n g _ v m ∙ a) (older v m))
+        ]
 
 -- on the board of a present console
 module _ (r : Room) (c k : ℕ) (cell : Cell) where
   origin_found : Sound r → present r c ≡ true → k < strip_count → Found cell k r.versions (head r c) (origin r c k cell) (value_shown r c k cell)
   unfolding origin
-  origin_found s p inside =
-      found (rules_of r.settings) (rules_sized r.settings) (λ _. paper_values) cell k inside r.versions (head r c) s.lower s.ranged (s.named c (head r c) (present_head r c p))
+  origin_found s p inside = found cell k inside r.versions (head r c) s.lower s.ranged (s.named c (head r c) (present_head r c p))
 
   -- "Version 0 means that no such entry was met, and then the value is 0."
   pub origin_none : sound_room r ≡ true → present r c ≡ true → k < strip_count → origin r c k cell ≡ 0 → value_shown r c k cell ≡ 0

@@ -17,8 +17,7 @@ use Rattle.board.specs.declared.Cell.TheVariants.{Level, Heading}
 use Rattle.board.specs.Board.{mark_bit, writing_code, mark_put_entry, mark_taken_entry, call_entry}
 use Rattle.board.specs.Pane.{seen_marks, student_pane}
 use Rattle.board.proofs.Marks.{unseen_bit}
-use Rattle.board.proofs.Seen.{Alike, alike_same, alike_back, alike_through, pane_alike}
-use Rattle.board.proofs.Rule.{Fits, SeenLaws, paper_seen}
+use Rattle.board.proofs.Seen.{Alike, alike_same, alike_back, alike_through, pane_alike, alike_merged, alike_entered, alike_unseen}
 use Rattle.graph.specs.Below.{every_below, highest_below}
 use Rattle.graph.specs.declared.Console.{Console}
 use Rattle.graph.specs.declared.Strip.{Strip}
@@ -30,12 +29,11 @@ use Rattle.command.specs.declared.Command.TheVariants.{Fork, Entry, Merge, FastF
 use Rattle.command.specs.Code.{within}
 use Rattle.command.proofs.Limits.{within_true}
 use Rattle.room.specs.Room.{Room, head}
-use Rattle.room.specs.declared.Settings.{Settings}
-use Rattle.room.specs.Boards.{Rules, board_made, board_of, rules_of, board_in}
+use Rattle.room.specs.Boards.{board_made, board_of}
 use Rattle.room.specs.Step.{moved, grown, step}
 use Rattle.room.specs.Unseen.{is_call_or_alert, is_unseen_mark, is_unseen, is_unseen_on, GraphsAgree, same, unseen, RoomsAgree}
 use Rattle.room.specs.Unseen as agree
-use Rattle.room.proofs.Lengths.{Sized, board_fits, rules_sized}
+use Rattle.room.proofs.Lengths.{board_of-length}
 
 pub agree_same : (g : Graph) → GraphsAgree g g
 agree_same [] = agree.none
@@ -95,50 +93,41 @@ unseen_writes code x u =
           | inr five ↦ omega (arith, eqb-true code mark_taken_entry five)
         ]
 
+unseen_made : (g : Graph) (parent : ℕ) (n : Node) → is_unseen_on parent n ≡ true → Alike (board_made (board_of g) (base_of g) n) (board_of g parent)
+unfolding board_made
+unseen_made g parent (node.Entry p code strip x) u =
+    let on : p.0 ≡ parent = eqb-true p.0 parent (and_l _ _ u) in
+    let writes = unseen_writes code x (and_r (eqb p.0 parent) _ u) in
+    rw on (alike_unseen code strip.0 x (board_of g parent) (board_of-length g parent) writes.0 writes.1)
+unseen_made g parent (node.Merge p q) u = clash u refl
+
+-- boards made of boards that are alike
+made_alike : {g h : Graph} → GraphsAgree g h → ((v : ℕ) → Alike (board_of g v) (board_of h v)) → (n : Node)
+    → Alike (board_made (board_of g) (base_of g) n) (board_made (board_of h) (base_of h) n)
+unfolding board_made
+made_alike {g} {h} a older (node.Entry p code strip x) =
+    alike_entered code strip.0 x (board_of-length g p.0) (board_of-length h p.0) (older p.0)
+made_alike {g} {h} a older (node.Merge p q) =
+    let base : Alike (board_of g (base_of g p.0 q.0)) (board_of h (base_of h p.0 q.0)) = rw (same_base a p.0 q.0) (older (base_of h p.0 q.0)) in
+    alike_merged base (older p.0) (older q.0)
+
 choice_alike : (b : Bool) {s t u v : List ℕ} → Alike s u → Alike t v → Alike (cond b s t) (cond b u v)
 choice_alike true a b = a
 choice_alike false a b = b
 
--- rules that make of boards that are alike such boards
-module _ (rules : Rules) {size : ℕ} (sized : Sized rules size) (laws : (v : ℕ) → SeenLaws (rules v)) where
-  unseen_made : (g : Graph) (parent new : ℕ) (n : Node) → is_unseen_on parent n ≡ true
-      → Alike (board_made (rules new) (board_of rules g) (base_of g) n) (board_of rules g parent)
-  unfolding board_made
-  unseen_made g parent new (node.Entry p code strip x) u =
-      let on : p.0 ≡ parent = eqb-true p.0 parent (and_l _ _ u) in
-      let writes = unseen_writes code x (and_r (eqb p.0 parent) _ u) in
-      rw on ((laws new).unseen code strip.0 x (board_of rules g parent) (board_fits sized g parent new) writes.0 writes.1)
-  unseen_made g parent new (node.Merge p q) u = clash u refl
+-- the board of each version, in two graphs that agree
+boards_alike : {g h : Graph} → GraphsAgree g h → (v : ℕ) → Alike (board_of g v) (board_of h v)
+unfolding board_of
+boards_alike agree.none v = alike_same _
+boards_alike (same {g} {h} n a) v =
+    rw (same_length_lem a) (choice_alike (eqb v (version_count h)) (made_alike a (boards_alike a) n) (boards_alike a v))
+boards_alike (unseen {g} {h} parent m n p q a) v =
+    rw (same_length_lem a)
+    (choice_alike (eqb v (version_count h))
+    (alike_through (unseen_made g parent m p) (alike_through (boards_alike a parent) (alike_back (unseen_made h parent n q)))) (boards_alike a v))
 
-  -- boards made of boards that are alike
-  made_alike : {g h : Graph} → GraphsAgree g h → ((v : ℕ) → Alike (board_of rules g v) (board_of rules h v)) → (new : ℕ) (n : Node)
-      → Alike (board_made (rules new) (board_of rules g) (base_of g) n) (board_made (rules new) (board_of rules h) (base_of h) n)
-  unfolding board_made
-  made_alike {g} {h} a older new (node.Entry p code strip x) =
-      (laws new).entered code strip.0 x (board_fits sized g p.0 new) (board_fits sized h p.0 new) (older p.0)
-  made_alike {g} {h} a older new (node.Merge p q) =
-      let in_g : (v : ℕ) → Fits (rules new) (board_of rules g v) = λ v. board_fits sized g v new in
-      let in-h : (v : ℕ) → Fits (rules new) (board_of rules h v) = λ v. board_fits sized h v new in
-      let base : Alike (board_of rules g (base_of g p.0 q.0)) (board_of rules h (base_of h p.0 q.0)) =
-      rw (same_base a p.0 q.0) (older (base_of h p.0 q.0)) in
-      (laws new).merged (in_g _) (in-h _) (in_g _) (in-h _) (in_g _) (in-h _) base (older p.0) (older q.0)
-
-  -- the board of each version, in two graphs that agree
-  boards_alike : {g h : Graph} → GraphsAgree g h → (v : ℕ) → Alike (board_of rules g v) (board_of rules h v)
-  unfolding board_of
-  boards_alike agree.none v = alike_same _
-  boards_alike (same {g} {h} n a) v =
-      rw (same_length_lem a) (choice_alike (eqb v (version_count h)) (made_alike a (boards_alike a) (version_count h) n) (boards_alike a v))
-  boards_alike (unseen {g} {h} parent m n p q a) v =
-      rw (same_length_lem a)
-      (choice_alike (eqb v (version_count h))
-      (alike_through (unseen_made g parent (version_count h) m p)
-      (alike_through (boards_alike a parent) (alike_back (unseen_made h parent (version_count h) n q)))) (boards_alike a v))
-
--- the rules of a room do
-pub same_panes : (settings : Settings) {g h : Graph} → GraphsAgree g h → (v : ℕ)
-    → student_pane (board_of (rules_of settings) g v) ≡ student_pane (board_of (rules_of settings) h v)
-same_panes settings a v = pane_alike (boards_alike (rules_of settings) (rules_sized settings) (λ _. paper_seen) a v)
+pub same_panes : {g h : Graph} → GraphsAgree g h → (v : ℕ) → student_pane (board_of g v) ≡ student_pane (board_of h v)
+same_panes a v = pane_alike (boards_alike a v)
 
 -- rooms that agree, and what commands make of them
 pub rooms_same : (r : Room) → RoomsAgree r r
@@ -148,9 +137,8 @@ module _ {r s : Room} (a : RoomsAgree r s) where
   same_head : (c : ℕ) → head r c ≡ head s c
   same_head c = ap (λ (heads : List (Option ℕ)). Option.get_or (get_or heads c none) 0) a.heads
 
-  -- whatever their settings are, the rules of both are the same
-  pub same_shown : (c : ℕ) → student_pane (board_in r (head r c)) ≡ student_pane (board_in s (head s c))
-  same_shown c = same_panes r.settings a.versions (head r c) ∙ ap (λ (v : ℕ). student_pane (board_in s v)) (same_head c)
+  pub same_shown : (c : ℕ) → student_pane (board_of r.versions (head r c)) ≡ student_pane (board_of s.versions (head s c))
+  same_shown c = same_panes a.versions (head r c) ∙ ap (λ (v : ℕ). student_pane (board_of s.versions v)) (same_head c)
 
   moved_agree : (c : ℕ) {h k : Option ℕ} → h ≡ k → RoomsAgree (moved r c h) (moved s c k)
   moved_agree c e = record { versions = a.versions; heads = λ i. set (a.heads i) c (e i) }

@@ -7,7 +7,7 @@ use Rattle.graph.specs.Graph.{Graph, version_count, ancestor, is_entry, meet_num
 use Rattle.command.specs.Code.{console_count}
 use Rattle.room.specs.declared.Settings.{Settings}
 
--- What the room is set to, its versions and its heads; the other parts of a store are functions of these. The versions
+-- What the room is set to, its versions and its heads; rows, boards, bases and commons are functions of the versions and heads. The versions
 -- are the code's own nodes; a head, and a version or console that is asked about, is a plain number here, as it is counted, compared and
 -- looked up.
 pub record Room : Type 0 where

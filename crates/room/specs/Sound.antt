@@ -1,5 +1,5 @@
 -- "A store is sound when: .." The clauses on the room, one by one. That its bytes show the right boards, rows, bases and commons is the
--- clause "the bytes are its one encoding", in the store's Layout (`holds_room`, `holds_store`), as those are functions of the room.
+-- clause "the bytes are its one encoding", in the store's Layout (`holds_store`), as those are functions of the room.
 use Rattle.std.specs.Prelude.{ℕ, Bool, true, not, ◌&&◌, ◌||◌, eqb, leb, ltb, length}
 use Rattle.std.proofs.Math.Option.{Option, none, some}
 use Rattle.graph.specs.Below.{every_below, some_below}

@@ -1,7 +1,6 @@
 -- What each command does to a room, the refusals 12 to 18 and 21 to 23 in their order, and the clashes of a merge.
 use Rattle.std.specs.Prelude.{ℕ, Bool, not, ◌&&◌, ◌||◌, List, [], ◌∷◌, ◌++◌, eqb, ltb, set}
 use Rattle.std.proofs.Math.Option.{Option, none, some}
-use Rattle.board.specs.Rule.{Rule}
 use Rattle.graph.specs.Below.{some_below}
 use Rattle.graph.specs.declared.Node.{Node}
 use Rattle.graph.specs.Graph.{entry, merge, version_count, ancestor, base_of}
@@ -11,7 +10,7 @@ use Rattle.refusal.specs.Refusal.{◌when◌, first_refusal}
 use Rattle.command.specs.Code.{console_count}
 use Rattle.room.specs.Room.{Room, head_of, present, head, common, with_hub}
 use Rattle.room.specs.Sound.{can_make_hub}
-use Rattle.room.specs.Boards.{merge_of, rules_of, board_in}
+use Rattle.room.specs.Boards.{merge_of, board_of}
 
 abbrev pub absent : Room → ℕ → Bool
 absent r c = not (present r c)
@@ -137,8 +136,7 @@ unfoldable pub clash_count : Room → Command → ℕ
 clash_count r (Fork new old) = 0
 clash_count r (Entry console code strip operand) = 0
 clash_count r (Merge receiver giver) =
-    let rule : Rule = rules_of r.settings (version_count r.versions) in
-    (merge_of rule (board_in r) (base_of r.versions) (head r receiver.0) (head r giver.0)).clashes
+    (merge_of (board_of r.versions) (base_of r.versions) (head r receiver.0) (head r giver.0)).clashes
 clash_count r (FastForward receiver giver) = 0
 clash_count r (Leave console) = 0
 clash_count r MakeHub = 0

@@ -5,18 +5,17 @@ ghost use Rattle.command.specs.Code.{shape_of, length_of};
 ghost use Rattle.command.specs.Decode.{is_command_code};
 ghost use Rattle.io.specs.Counts.{IsPrefixLen};
 
-use board::BOARD_SIZE;
 use buffer::{wide, word_at};
 use command::decoder::{is_command_code, length_of, widths_of};
 use io::{print_decimal, read_full, write_all};
-use store::places::{BOARD_AT, COUNT, HEADER};
+use store::places::{BLOCK, COUNT, HEADER};
 use unit::commands::room_command;
 use unit::opening::room_open;
 use unit::questions::room_common;
 
 const SESSION_CAPACITY: u32 = 64;
 
-const STORE_BYTES: usize = HEADER + (BOARD_AT + BOARD_SIZE) * SESSION_CAPACITY as usize;
+const STORE_BYTES: usize = HEADER + BLOCK * SESSION_CAPACITY as usize;
 
 // The longest command.
 const LONGEST: usize = 5;

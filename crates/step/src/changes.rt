@@ -1,23 +1,21 @@
-// What an accepted command does to a room's bytes.
-ghost use Rattle.std.specs.Prelude.{◌≡◌, true, ◌≤◌, length};
+// What an accepted command does to a store.
+ghost use Rattle.std.specs.Prelude.{◌≡◌, true};
 ghost use Rattle.buffer.specs.Field.{overwrite};
-ghost use Rattle.graph.specs.Graph.{version_count};
 ghost use Rattle.command.specs.Decoding.{InRange};
 ghost use Rattle.room.specs.Step.{step_refusal, step, clash_count};
-ghost use Rattle.store.specs.Layout.{room_size, room_bytes, room_in, holds_room};
+ghost use Rattle.store.specs.Layout.{encode, room_in, holds_store};
 
 use command::Command;
 use update::commons::{move_console, remove_console};
 use update::hub::make_hub;
 use update::new_version::{enter, merge};
 
-// Makes the change of a command that is not refused, in bytes that are long enough for the room after it, and counts the clashes of a merge.
+// Makes the change of a command that is not refused, and counts the clashes of a merge.
 pub fn change(s: &mut [u8], c: Command) -> usize
-    requires s_value { holds_room s.old ≡ true }
+    requires s_value { holds_store s.old ≡ true }
     requires in_range { InRange c }
     requires c_value { step_refusal (room_in s.old) c ≡ 0 }
-    requires c_in_bounds { room_size (room_in s.old).settings (version_count (step (room_in s.old) c).versions) ≤ length s.old }
-    ensures { (s.new ≡ overwrite (room_bytes (step (room_in s.old) c)) s.old) × (result ≡ clash_count (room_in s.old) c) }
+    ensures { (s.new ≡ overwrite (encode (step (room_in s.old) c)) s.old) × (result ≡ clash_count (room_in s.old) c) }
 {
     match c {
         Command::Fork { new, old } => move_console(s, new, old),

@@ -2,7 +2,7 @@
 ghost use Rattle.std.specs.Prelude.{◌≡◌, true, ◌<◌};
 ghost use Rattle.command.specs.Code.{console_count};
 ghost use Rattle.room.specs.Step.{behind, other_descends, some_other_descends};
-ghost use Rattle.store.specs.Layout.{room_in, holds_room};
+ghost use Rattle.store.specs.Layout.{room_in, holds_store};
 
 use command::numbers::CONSOLES;
 use graph::Console;
@@ -10,7 +10,7 @@ use query::{head_of, is_ancestor, is_present};
 
 // Whether the head of c is an ancestor of the head of d, itself included.
 pub fn is_behind(s: &[u8], c: Console, d: Console) -> bool
-    requires s_value { holds_room s.now ≡ true }
+    requires s_value { holds_store s.now ≡ true }
     requires c_lt_console_count { (c.0 < console_count) × (d.0 < console_count) }
     ensures { result ≡ behind (room_in s.now) c.0 d.0 }
 {
@@ -21,7 +21,7 @@ pub fn is_behind(s: &[u8], c: Console, d: Console) -> bool
 
 // Whether console d is another present one, and its head descends from the head of c, or is the same.
 fn other_descends(s: &[u8], c: Console, d: Console) -> bool
-    requires s_value { holds_room s.now ≡ true }
+    requires s_value { holds_store s.now ≡ true }
     requires c_lt_console_count { (c.0 < console_count) × (d.0 < console_count) }
     ensures { result ≡ other_descends (room_in s.now) c.0 d.0 }
 {
@@ -30,7 +30,7 @@ fn other_descends(s: &[u8], c: Console, d: Console) -> bool
 
 // Whether the head of some other console descends from that of c.
 pub fn some_other_descends(s: &[u8], c: Console) -> bool
-    requires s_value { holds_room s.now ≡ true }
+    requires s_value { holds_store s.now ≡ true }
     requires c_lt_console_count { c.0 < console_count }
     ensures { result ≡ some_other_descends (room_in s.now) c.0 }
 {

@@ -1,4 +1,4 @@
-// Commands on a room's bytes: the refusals by the state in their order, what an accepted command changes and counts, and which two consoles can merge or
+// Commands on a store: the refusals by the state in their order, what an accepted command changes and counts, and which two consoles can merge or
 // fast-forward.
 pub mod changes;
 mod descends;

@@ -3,7 +3,7 @@ ghost use Rattle.std.specs.Prelude.{◌≡◌, true, ℕ, ◌<◌};
 ghost use Rattle.command.specs.Code.{console_count};
 ghost use Rattle.command.specs.Decoding.{InRange};
 ghost use Rattle.room.specs.Mergeable.{accepted_if_free, pair_number, first_with_receiver, first_pair, agrees, heads_agree, without_pair, mergeable};
-ghost use Rattle.store.specs.Layout.{room_in, holds_room};
+ghost use Rattle.store.specs.Layout.{room_in, holds_store};
 
 use crate::refusals::refusal_of;
 use command::Command;
@@ -22,7 +22,7 @@ const FAST_FORWARD: usize = 768;
 
 // Whether a command would be accepted if versions were free.
 fn accepted_if_free(s: &[u8], c: Command) -> bool
-    requires s_value { holds_room s.now ≡ true }
+    requires s_value { holds_store s.now ≡ true }
     requires in_range { InRange c }
     ensures { result ≡ accepted_if_free (room_in s.now) c }
 {
@@ -32,7 +32,7 @@ fn accepted_if_free(s: &[u8], c: Command) -> bool
 // The number of a pair for which a merge or a fast-forward would be accepted if versions were free; 0 for any other. Where the receiver is the
 // higher of the two a merge is not tried: two consoles can merge either way round, and the other way round they have no number.
 fn pair_number(s: &[u8], receiver: Console, giver: Console) -> usize
-    requires s_value { holds_room s.now ≡ true }
+    requires s_value { holds_store s.now ≡ true }
     requires receiver_lt_console_count { (receiver.0 < console_count) × (giver.0 < console_count) }
     requires receiver_value { giver.0 < receiver.0 → pair_number (room_in s.now) giver.0 receiver.0 ≡ 0 }
     ensures { result ≡ pair_number (room_in s.now) receiver.0 giver.0 }
@@ -55,7 +55,7 @@ fn pair_number(s: &[u8], receiver: Console, giver: Console) -> usize
 
 // The number of the first pair with this receiver, or 0, where there is none with a lower one.
 fn first_with_receiver(s: &[u8], receiver: Console) -> usize
-    requires s_value { holds_room s.now ≡ true }
+    requires s_value { holds_store s.now ≡ true }
     requires receiver_lt_console_count { receiver.0 < console_count }
     requires by_index { (lower : ℕ) → lower < receiver.0 → first_with_receiver (room_in s.now) lower ≡ 0 }
     ensures { result ≡ first_with_receiver (room_in s.now) receiver.0 }
@@ -71,7 +71,7 @@ fn first_with_receiver(s: &[u8], receiver: Console) -> usize
 
 // The number of the first pair, or 0.
 fn first_pair(s: &[u8]) -> usize
-    requires { holds_room s.now ≡ true }
+    requires { holds_store s.now ≡ true }
     ensures { result ≡ first_pair (room_in s.now) }
 {
     for receiver in 0..CONSOLES {
@@ -85,7 +85,7 @@ fn first_pair(s: &[u8]) -> usize
 
 // Whether a console is absent or on the version that console 0 is on.
 fn agrees(s: &[u8], c: Console) -> bool
-    requires s_value { holds_room s.now ≡ true }
+    requires s_value { holds_store s.now ≡ true }
     requires c_lt_console_count { c.0 < console_count }
     ensures { result ≡ agrees (room_in s.now) c.0 }
 {
@@ -94,7 +94,7 @@ fn agrees(s: &[u8], c: Console) -> bool
 
 // Whether every head is one version.
 fn heads_agree(s: &[u8]) -> bool
-    requires { holds_room s.now ≡ true }
+    requires { holds_store s.now ≡ true }
     ensures { result ≡ heads_agree (room_in s.now) }
 {
     for c in 0..CONSOLES {
@@ -107,7 +107,7 @@ fn heads_agree(s: &[u8]) -> bool
 
 // The number of a room without a pair: all agree, or stuck.
 fn without_pair(s: &[u8]) -> usize
-    requires { holds_room s.now ≡ true }
+    requires { holds_store s.now ≡ true }
     ensures { result ≡ without_pair (room_in s.now) }
 {
     if heads_agree(s) {
@@ -118,7 +118,7 @@ fn without_pair(s: &[u8]) -> usize
 
 // The number of the first pair, or of there being none.
 pub fn mergeable_pair(s: &[u8]) -> usize
-    requires { holds_room s.now ≡ true }
+    requires { holds_store s.now ≡ true }
     ensures { result ≡ mergeable (room_in s.now) }
 {
     let number = first_pair(s);

@@ -4,18 +4,20 @@ ghost use Rattle.refusal.specs.Refusal.{first_refusal};
 ghost use Rattle.command.specs.Code.{console_count};
 ghost use Rattle.command.specs.Decoding.{InRange};
 ghost use Rattle.room.specs.Step.{absent, beside_hub, version_free, receiver_giver_tests, fork_tests, entry_tests, merge_tests, fast_forward_tests, leave_tests, hub_tests, state_tests};
-ghost use Rattle.store.specs.Layout.{room_in, holds_room};
+ghost use Rattle.store.specs.Layout.{room_in, holds_store};
 
 use crate::descends::{is_behind, some_other_descends};
 use crate::third::some_third_splits;
 use command::Command;
 use graph::Console;
-use query::{can_make_hub, is_present, settings_of, version_count};
+use query::{is_present, settings_of, version_count};
 use refusal::{first_of, when};
+use store::hub::hub_right;
+use store::places::{BLOCK, HEADER, NODE};
 
 // Whether one of two consoles is absent.
 fn one_is_absent(s: &[u8], c: Console, d: Console) -> bool
-    requires s_value { holds_room s.now ≡ true }
+    requires s_value { holds_store s.now ≡ true }
     requires c_lt_console_count { (c.0 < console_count) × (d.0 < console_count) }
     ensures { result ≡ (absent (room_in s.now) c.0 || absent (room_in s.now) d.0) }
 {
@@ -24,7 +26,7 @@ fn one_is_absent(s: &[u8], c: Console, d: Console) -> bool
 
 // Whether the room has a hub, and a console is not it.
 fn beside_hub(s: &[u8], c: Console) -> bool
-    requires { holds_room s.now ≡ true }
+    requires { holds_store s.now ≡ true }
     ensures { result ≡ beside_hub (room_in s.now) c.0 }
 {
     settings_of(s).hub & (c.0 != 0)
@@ -32,7 +34,7 @@ fn beside_hub(s: &[u8], c: Console) -> bool
 
 // Whether a version is free.
 pub fn version_free(s: &[u8]) -> bool
-    requires { holds_room s.now ≡ true }
+    requires { holds_store s.now ≡ true }
     ensures { result ≡ version_free (room_in s.now) }
 {
     let settings = settings_of(s);
@@ -42,7 +44,7 @@ pub fn version_free(s: &[u8]) -> bool
 
 // What refuses a merge and a fast-forward alike.
 fn receiver_giver_refusal(s: &[u8], receiver: Console, giver: Console) -> u32
-    requires s_value { holds_room s.now ≡ true }
+    requires s_value { holds_store s.now ≡ true }
     requires receiver_lt_console_count { (receiver.0 < console_count) × (giver.0 < console_count) }
     ensures { result ≡ first_refusal (receiver_giver_tests (room_in s.now) receiver.0 giver.0) }
 {
@@ -54,7 +56,7 @@ fn receiver_giver_refusal(s: &[u8], receiver: Console, giver: Console) -> u32
 
 // What refuses a fork.
 fn fork_refusal(s: &[u8], new: Console, old: Console) -> u32
-    requires s_value { holds_room s.now ≡ true }
+    requires s_value { holds_store s.now ≡ true }
     requires lt_console_count { (new.0 < console_count) × (old.0 < console_count) }
     ensures { result ≡ first_refusal (fork_tests (room_in s.now) new.0 old.0) }
 {
@@ -66,7 +68,7 @@ fn fork_refusal(s: &[u8], new: Console, old: Console) -> u32
 
 // What refuses an entry, given whether a version is free.
 fn entry_refusal(s: &[u8], free: bool, console: Console) -> u32
-    requires s_value { holds_room s.now ≡ true }
+    requires s_value { holds_store s.now ≡ true }
     requires console_lt_console_count { console.0 < console_count }
     ensures { result ≡ first_refusal (entry_tests (room_in s.now) free console.0) }
 {
@@ -77,7 +79,7 @@ fn entry_refusal(s: &[u8], free: bool, console: Console) -> u32
 
 // What refuses a merge, given whether a version is free. A third console is asked about only where both are present.
 fn merge_refusal(s: &[u8], free: bool, receiver: Console, giver: Console) -> u32
-    requires s_value { holds_room s.now ≡ true }
+    requires s_value { holds_store s.now ≡ true }
     requires receiver_lt_console_count { (receiver.0 < console_count) × (giver.0 < console_count) }
     ensures { result ≡ first_refusal (merge_tests (room_in s.now) free receiver.0 giver.0) }
 {
@@ -93,7 +95,7 @@ fn merge_refusal(s: &[u8], free: bool, receiver: Console, giver: Console) -> u32
 
 // What refuses a fast-forward.
 fn forward_refusal(s: &[u8], receiver: Console, giver: Console) -> u32
-    requires s_value { holds_room s.now ≡ true }
+    requires s_value { holds_store s.now ≡ true }
     requires receiver_lt_console_count { (receiver.0 < console_count) × (giver.0 < console_count) }
     ensures { result ≡ first_refusal (fast_forward_tests (room_in s.now) receiver.0 giver.0) }
 {
@@ -104,7 +106,7 @@ fn forward_refusal(s: &[u8], receiver: Console, giver: Console) -> u32
 
 // What refuses a leave.
 fn leave_refusal(s: &[u8], console: Console) -> u32
-    requires s_value { holds_room s.now ≡ true }
+    requires s_value { holds_store s.now ≡ true }
     requires console_lt_console_count { console.0 < console_count }
     ensures { result ≡ first_refusal (leave_tests (room_in s.now) console.0) }
 {
@@ -115,15 +117,15 @@ fn leave_refusal(s: &[u8], console: Console) -> u32
 
 // What refuses that console 0 is made the hub.
 fn hub_refusal(s: &[u8]) -> u32
-    requires { holds_room s.now ≡ true }
+    requires { holds_store s.now ≡ true }
     ensures { result ≡ first_refusal (hub_tests (room_in s.now)) }
 {
-    when(23, !can_make_hub(s))
+    when(23, !hub_right(s, s, HEADER + NODE, BLOCK, true))
 }
 
 // The first refusal of a command by the state of the room, given whether a version is free, or 0.
 pub fn refusal_of(s: &[u8], free: bool, c: Command) -> u32
-    requires s_value { holds_room s.now ≡ true }
+    requires s_value { holds_store s.now ≡ true }
     requires in_range { InRange c }
     ensures { result ≡ first_refusal (state_tests (room_in s.now) free c) }
 {

@@ -24,7 +24,6 @@ use Rattle.room.specs.Room.{Room, head_of, present, head}
 use Rattle.room.specs.Sound.{max_capacity, behind_head, all_behind_heads}
 use Rattle.store.specs.Layout.{row_size, head_from}
 use Rattle.store.specs.Check.{common_in, behind_heads}
-use Rattle.store.proofs.Lineage.{lineage}
 use Rattle.store.proofs.Commons.{head_is, there, not_zero}
 
 or_false : (a b : Bool) → b ≡ false → a || b ≡ a
@@ -35,34 +34,34 @@ pub empty_row : zeros row_size ≡ row (λ v. false) row_size
 unfolding row_from
 empty_row = refl
 
--- a table of heads, and rows that are those of the versions
-module _ (t : List ℕ) (r : Room) (heads : (c : ℕ) → c < console_count → head_of r c ≡ head_from (common_in t c c))
-    (line : ℕ → List ℕ) (lines : (v : ℕ) → v < version_count r.versions → line v ≡ lineage r.versions v)
-    (named : (c : ℕ) → c < console_count → common_in t c c ≤ version_count r.versions) where
+-- where row_of gives the rows of the versions
+module _ (s : List ℕ) (r : Room) (heads : (c : ℕ) → c < console_count → head_of r c ≡ head_from (common_in s c c))
+    (row_of : ℕ → List ℕ) (lines : (v : ℕ) → v < version_count r.versions → row_of v ≡ row (λ u. ancestor r.versions u v) row_size)
+    (named : (c : ℕ) → c < console_count → common_in s c c ≤ version_count r.versions) where
   -- v is an ancestor of the head of console c
   abbrev behind_one : ℕ → ℕ → Bool
   behind_one v c = present r c && ancestor r.versions v (head r c)
 
-  heads_row : (c : ℕ) → c ≤ console_count → behind_heads t line c ≡ row (λ v. some_below c (behind_one v)) row_size
+  heads_row : (c : ℕ) → c ≤ console_count → behind_heads s row_of c ≡ row (λ v. some_below c (behind_one v)) row_size
   unfolding behind_heads some_below
   heads_row zero l = empty_row
   heads_row (suc c) l =
       let before = heads_row c (omega arith) in
-      elim (decide (eqb (common_in t c c) 0)) [
+      elim (decide (eqb (common_in s c c) 0)) [
         | inl a ↦
             cond_true _ _ _ a ∙ before
             ∙ row_ext _ _ row_size
-            (λ v. sym (or_false _ _ (refuted (behind_one v c) (λ b. clash a (not_zero t r heads c l (and_l (present r c) _ b))))))
+            (λ v. sym (or_false _ _ (refuted (behind_one v c) (λ t. clash a (not_zero s r heads c l (and_l (present r c) _ t))))))
         | inr a ↦
-            let x = pred (common_in t c c) in
-            let xp = eqb-false (common_in t c c) 0 a in
+            let x = pred (common_in s c c) in
+            let xp = eqb-false (common_in s c c) 0 a in
             let xn : x < version_count r.versions = omega (arith, named c l) in
             cond_false _ _ _ a ∙ ap₂ union before (lines x xn)
             ∙ row_union (λ v. some_below c (behind_one v)) (λ v. ancestor r.versions v x) row_size
-            ∙ row_ext _ _ row_size (λ v. rw (there t r heads c l a, head_is t r heads c l))
+            ∙ row_ext _ _ row_size (λ v. rw (there s r heads c l a, head_is s r heads c l))
       ]
 
-  pub behind_row : behind_heads t line console_count ≡ row (behind_head r) row_size
+  pub behind_row : behind_heads s row_of console_count ≡ row (behind_head r) row_size
   behind_row = heads_row console_count (omega arith)
 
 pub row_behind : (r : Room) → version_count r.versions ≤ max_capacity

@@ -1,33 +1,27 @@
--- Where the parts of a room's header stand in it, the parts of a version's block, and how long each is.
+-- Where the parts of a store's encoding stand in it and how long each is: the header with its fields, its row and its table, and the
+-- block of each version with its node, its row and its board.
 -- Assumes nothing.
-use mathlib.Core.Path.{◌≡◌, refl, sym, ap, ◌∙◌, subst₂}
-use mathlib.Core.List.{List, ◌++◌, append_assoc}
+use mathlib.Core.Path.{◌≡◌, refl, subst₂}
+use mathlib.Core.List.{List, ◌++◌}
 use mathlib.Core.Option.{Option, none, some}
-use Prim.Native.Nat.{ℕ, zero, suc, ◌+◌, ◌-◌, ◌*◌, ◌^◌, ◌≤◌, ◌<◌}
+use Prim.Native.Nat.{ℕ, zero, suc, ◌+◌, ◌-◌, ◌*◌, ◌<◌}
 use native.Mathlib.Nat.{not-suc-le-zero, zero-add}
+use native.Mathlib.Decide.{ℕ_discrete}
 use native.Mathlib.Omega.{arith}
-use lib.ListN.{length, length-append, length-drop}
-use lib.Seq.{drop_at}
-use Rattle.laws.proofs.Lists.{three_parts}
+use lib.ListN.{length, length-append}
 use Rattle.buffer.specs.Field.{word, zeros}
 use Rattle.buffer.specs.Row.{row}
-use Rattle.buffer.specs.Blocks.{block_at}
 use Rattle.buffer.proofs.Fields.{zeros_length}
-use Rattle.buffer.proofs.Stands.{Stands, stands_whole, stands_left, stands_right}
-use Rattle.buffer.proofs.Parts.{stands_part}
+use Rattle.buffer.proofs.Stands.{Stands, stands_left, stands_right}
 use Rattle.buffer.proofs.Rows.{row_from-length}
-use Rattle.buffer.proofs.Blocks.{block_apart, block_bound}
-use Rattle.board.specs.Board.{board_size}
 use Rattle.graph.specs.declared.Node.{Node}
 use Rattle.graph.specs.declared.Node.TheVariants.{Entry, Merge}
 use Rattle.graph.specs.Graph.{Graph, version_count, ancestor, is_entry, node_of}
 use Rattle.command.specs.Code.{console_count}
-use Rattle.room.specs.declared.Settings.{Settings}
 use Rattle.room.specs.Room.{Room}
-use Rattle.room.specs.Boards.{Rules, board_of, rules_of, board_bytes}
-use Rattle.room.proofs.Lengths.{board_of-length, rules_sized}
-use Rattle.store.specs.Layout.{header_size, node_size, row_size, block_size, settings_at, count_at, spare_at, entries_at, commons_at, commons_end, row_at, board_at, common_field, common_fields, common_table, settings_bytes, header, node_bytes, block}
-use Rattle.store.specs.Check.{row_part, board_part}
+use Rattle.room.specs.Boards.{board_of}
+use Rattle.room.proofs.Lengths.{board_of-length}
+use Rattle.store.specs.Layout.{header_size, node_size, row_size, block_size, settings_at, count_at, spare_at, entries_at, commons_at, commons_end, common_at, block_at, row_at, board_at, common_field, common_fields, common_table, settings_bytes, header, node_bytes, block, blocks, encode}
 
 pub common_fields-length : (r : Room) (c d n : ℕ) → length (common_fields r c d n) ≡ 2 * n
 unfolding common_fields
@@ -51,43 +45,17 @@ node_bytes-length g none = refl
 node_bytes-length g (some (Entry p code strip operand)) = refl
 node_bytes-length g (some (Merge p q)) = refl
 
--- the size of a block: its board stands behind the node and the row
-pub block_size_lem : (settings : Settings) → block_size settings ≡ board_at + board_bytes settings
-unfolding block_size
-block_size_lem settings = refl
+pub block_length : (g : Graph) (v : ℕ) → length (block g v) ≡ block_size
+unfolding block
+block_length g v =
+    simp (length-append, node_bytes-length g (node_of g v), row_from-length (λ u. ancestor g u v) 0 row_size, board_of-length g v)
 
-pub size_small : (settings : Settings) → block_size settings ≤ 2048
-unfolding block_size
-size_small settings = omega arith
+pub blocks_length : (g : Graph) (n : ℕ) → length (blocks g n) ≡ block_size * n
+unfolding blocks
+blocks_length g zero = refl
+blocks_length g (suc n) = rw (length-append, blocks_length g n, block_length g n) (omega arith)
 
--- a number that is the size of a room's blocks: no place is too large, the block of a version lies in what those up to a later one take, the board
--- stands in it behind the row, and it is a board of the paper's
-module _ (settings : Settings) {size : ℕ} (e : size ≡ block_size settings) where
-  pub block_small : (n : ℕ) → n < 2 ^ 32 → block_at size n ≤ 2 ^ 43
-  block_small n h = block_bound size n 2048 (2 ^ 32) (rw e (size_small settings)) (omega arith)
-
-  pub block_fits : {u n : ℕ} (v : ℕ) → u ≤ v → block_at (block_size settings) (suc v) ≤ n → block_at size u + size ≤ n
-  block_fits {u} v l h = rw e (omega (arith, block_apart (block_size settings) u (suc v) (omega arith)))
-
-  pub board_inside : board_at ≤ size
-  board_inside = omega (arith, block_size_lem settings)
-
-  pub paper_size : size ≡ board_at + board_size
-  paper_size = e ∙ block_size_lem settings
-
-pub block_length : (settings : Settings) (g : Graph) (v : ℕ) → length (block (rules_of settings) g v) ≡ block_size settings
-unfolding block block_size
-block_length settings g v =
-    simp (length-append, node_bytes-length g (node_of g v), row_from-length (λ u. ancestor g u v) 0 row_size, board_of-length (rules_sized settings) g v)
-
--- the board in a block, and the empty one
-pub board_length : (settings : Settings) (b : List ℕ) → length b ≡ block_size settings → length (board_part b) ≡ board_bytes settings
-board_length settings b h = rw length-drop (omega (arith, block_size_lem settings))
-
-pub empty_board_lem : (settings : Settings) (b : List ℕ) → length b ≡ block_size settings → (rules_of settings 0).empty ≡ zeros (length (board_part b))
-empty_board_lem settings b h = sym (ap zeros (board_length settings b h))
-
--- a field of a row of the table, and a row of the table: each stands where its number says
+-- a field of a row of the table, a row of the table, a block of the blocks: each stands where its number says
 stands_in_row : {s : List ℕ} {at : ℕ} (r : Room) (c d n k : ℕ) → Stands s at (common_fields r c d n) → k < n
     → Stands s (at + 2 * k) (word (common_field r c (d + k)))
 unfolding common_fields
@@ -118,57 +86,42 @@ table_field {s} r at h c d i j =
     subst₂ (λ (k e : ℕ). Stands s k (word (common_field r c e))) (omega arith) (zero-add d)
     (stands_in_row r c 0 console_count d (rw zero-add at (stands_in_rows r 0 console_count c h i)) j)
 
--- a block that is made of a node, a row and a board has these parts
-module _ (node line board : List ℕ) (ln : length node ≡ node_size) (ll : length line ≡ row_size) where
-  pub laid_node : Stands (node ++ line ++ board) 0 node
-  laid_node = stands_left node line (stands_left (node ++ line) board (stands_whole _))
+stands_in_blocks : {s : List ℕ} {at : ℕ} (g : Graph) (n v : ℕ) → Stands s at (blocks g n) → v < n
+    → Stands s (at + block_size * v) (block g v)
+unfolding blocks
+stands_in_blocks g zero v h l = absurd (not-suc-le-zero l)
+stands_in_blocks {s} {at} g (suc n) v h l =
+    elim (ℕ_discrete v n) [
+      | yes e ↦ rw e (stands_right (blocks g n) (block g n) h (rw blocks_length))
+      | no ne ↦ stands_in_blocks g n v (stands_left (blocks g n) (block g n) h) (omega arith)
+    ]
 
-  laid_front : length (node ++ line) ≡ board_at
-  laid_front = rw (length-append, ln, ll)
-
-  pub laid_line : row_part (node ++ line ++ board) ≡ line
-  laid_line =
-      stands_part {at = row_at} row_size (stands_right node line (stands_left (node ++ line) board (stands_whole _)) (omega arith)) ll
-      (rw (length-append, laid_front) (omega arith))
-
-  pub laid_board : board_part (node ++ line ++ board) ≡ board
-  laid_board = drop_at (node ++ line) board board_at laid_front
-
--- and is these parts
-pub block_made : (b node : List ℕ) → Stands b 0 node → length node ≡ node_size → board_at ≤ length b → b ≡ node ++ row_part b ++ board_part b
-block_made b node h ln long =
-    sym (three_parts b node_size row_size) ∙ ap (λ (x : List ℕ). x ++ (row_part b ++ board_part b)) (stands_part node_size h ln (omega arith))
-    ∙ sym (append_assoc node (row_part b) (board_part b))
-
--- the parts of the block of a version
-module _ (rules : Rules) (g : Graph) (v : ℕ) where
+-- the parts of a block that stands
+module _ {s : List ℕ} (g : Graph) (v : ℕ) (h : Stands s (block_at v) (block g v)) where
   abbrev lineage : List ℕ
   lineage = row (λ u. ancestor g u v) row_size
 
   abbrev node : List ℕ
   node = node_bytes g (node_of g v)
 
-  pub block_node : Stands (block rules g v) 0 (node_bytes g (node_of g v))
+  stands_ahead : Stands s (block_at v) (node ++ lineage)
   unfolding block
-  block_node = laid_node node lineage (board_of rules g v) (node_bytes-length g (node_of g v)) (row_from-length (λ u. ancestor g u v) 0 row_size)
+  stands_ahead = stands_left (node ++ lineage) (board_of g v) h
 
-  pub block_row : row_part (block rules g v) ≡ row (λ u. ancestor g u v) row_size
+  block_node : Stands s (block_at v) (node_bytes g (node_of g v))
+  block_node = stands_left node lineage stands_ahead
+
+  pub block_row : Stands s (row_at v) (row (λ u. ancestor g u v) row_size)
+  block_row = stands_right node lineage stands_ahead (rw node_bytes-length)
+
+  pub block_board : Stands s (board_at v) (board_of g v)
   unfolding block
-  block_row = laid_line node lineage (board_of rules g v) (node_bytes-length g (node_of g v)) (row_from-length (λ u. ancestor g u v) 0 row_size)
+  block_board =
+      stands_right (node ++ lineage) (board_of g v) h
+      (simp (length-append, node_bytes-length, row_from-length) (omega arith))
 
-  pub block_board : board_part (block rules g v) ≡ board_of rules g v
-  unfolding block
-  block_board = laid_board node lineage (board_of rules g v) (node_bytes-length g (node_of g v)) (row_from-length (λ u. ancestor g u v) 0 row_size)
-
--- a block whose parts are those of a version is the version's
-pub block_whole : (settings : Settings) (g : Graph) (v : ℕ) (b : List ℕ) → length b ≡ block_size settings → Stands b 0 (node_bytes g (node_of g v))
-    → row_part b ≡ row (λ u. ancestor g u v) row_size → board_part b ≡ board_of (rules_of settings) g v → b ≡ block (rules_of settings) g v
-unfolding block
-block_whole settings g v b long node line board =
-    block_made b (node_bytes g (node_of g v)) node (node_bytes-length g (node_of g v)) (omega (arith, block_size_lem settings))
-    ∙ (λ i. node_bytes g (node_of g v) ++ line i ++ board i)
-
--- the unused parts of a header; its start, up to the row of the entry versions; that row; the table
+-- the unused parts of a header; its start, up to the row of the entry versions; that row; the table; the blocks of the versions, and those
+-- that are free
 abbrev pub spare : List ℕ
 spare = zeros (entries_at - spare_at)
 
@@ -184,11 +137,24 @@ entries_of r = row (is_entry r.versions) row_size
 abbrev pub table_of : Room → List ℕ
 table_of r = common_table r 0 console_count
 
--- bytes at whose front the header of a room stands
-module _ {s : List ℕ} (r : Room) (h : Stands s 0 (header r)) where
+abbrev pub filled_of : Room → List ℕ
+filled_of r = blocks r.versions (version_count r.versions)
+
+abbrev pub free_of : Room → List ℕ
+free_of r = zeros (block_size * (r.settings.capacity - version_count r.versions))
+
+-- bytes at whose front the encoding of a room stands
+module _ {s : List ℕ} (r : Room) (h : Stands s 0 (encode r)) where
+  stands_used : Stands s 0 (header r ++ filled_of r)
+  unfolding encode
+  stands_used = stands_left (header r ++ filled_of r) (free_of r) h
+
+  stands_header : Stands s 0 (header r)
+  stands_header = stands_left (header r) (filled_of r) stands_used
+
   stands_fields : Stands s 0 (start_of r ++ entries_of r ++ table_of r)
   unfolding header
-  stands_fields = stands_left (start_of r ++ entries_of r ++ table_of r) header_rest h
+  stands_fields = stands_left (start_of r ++ entries_of r ++ table_of r) header_rest stands_header
 
   stands_start : Stands s 0 (start_of r)
   stands_start = stands_left (start_of r) (entries_of r) (stands_left (start_of r ++ entries_of r) (table_of r) stands_fields)
@@ -205,7 +171,7 @@ module _ {s : List ℕ} (r : Room) (h : Stands s 0 (header r)) where
   pub stands_entries : Stands s entries_at (entries_of r)
   stands_entries = stands_right (start_of r) (entries_of r) (stands_left (start_of r ++ entries_of r) (table_of r) stands_fields) refl
 
-  pub stands_table : Stands s commons_at (table_of r)
+  stands_table : Stands s commons_at (table_of r)
   stands_table =
       stands_right (start_of r ++ entries_of r) (table_of r) stands_fields
       (simp row_from-length)
@@ -218,5 +184,31 @@ module _ {s : List ℕ} (r : Room) (h : Stands s 0 (header r)) where
   pub stands_rest : Stands s commons_end header_rest
   unfolding header
   stands_rest =
-      stands_right (start_of r ++ entries_of r ++ table_of r) header_rest h
+      stands_right (start_of r ++ entries_of r ++ table_of r) header_rest stands_header
       (simp (length-append, row_from-length, common_table-length))
+
+  pub stands_free : Stands s (block_at (version_count r.versions)) (free_of r)
+  unfolding encode
+  stands_free =
+      stands_right (header r ++ filled_of r) (free_of r) h
+      (simp (length-append, header_length, blocks_length) (omega arith))
+
+  -- the field of two consoles
+  pub stands_common : (c d : ℕ) → c < console_count → d < console_count → Stands s (common_at c d) (word (common_field r c d))
+  stands_common = table_field r commons_at stands_table
+
+  -- the block of a version, and what it is made of
+  pub stands_block : (v : ℕ) → v < version_count r.versions → Stands s (block_at v) (block r.versions v)
+  stands_block v l =
+      stands_in_blocks r.versions (version_count r.versions) v
+      (stands_right (header r) (filled_of r) stands_used (rw header_length)) l
+
+  module _ (v : ℕ) (l : v < version_count r.versions) where
+    pub stands_node : Stands s (block_at v) (node_bytes r.versions (node_of r.versions v))
+    stands_node = block_node r.versions v (stands_block v l)
+
+    pub stands_row : Stands s (row_at v) (row (λ u. ancestor r.versions u v) row_size)
+    stands_row = block_row r.versions v (stands_block v l)
+
+    pub stands_board : Stands s (board_at v) (board_of r.versions v)
+    stands_board = block_board r.versions v (stands_block v l)

@@ -1,7 +1,7 @@
 -- Ancestry rows: the row of a new entry or merge is made of its parents' rows, and a version is the meet of two exactly when its row is the
 -- intersection of theirs.
 -- Assumes nothing.
-use mathlib.Core.Path.{◌≡◌, refl, sym, ◌∙◌, ap, ap₂}
+use mathlib.Core.Path.{◌≡◌, refl, sym, ◌∙◌, ap}
 use mathlib.Core.Bool.{◌&&◌, ◌||◌}
 use mathlib.Core.List.{List, []}
 use Prim.Native.Nat.{ℕ, ◌≤◌, ◌<◌}
@@ -54,12 +54,3 @@ lineage_meet g p q l small named e =
       second = and_r (ancestor g l p) (ancestor g l q) self;
       lowest = λ w a b. both w (ancestor_below g w p a) ∙ and_i (ancestor g w p) (ancestor g w q) a b;
     }
-
--- the same of rows that stand somewhere, where those of the versions are what they should be
-module _ (line : ℕ → List ℕ) (g : Graph) (lines : (v : ℕ) → v < version_count g → line v ≡ lineage g v) (p q l : ℕ)
-    (pn : p < version_count g) (qn : q < version_count g) where
-  pub meet_lines : Meet g p q l → line l ≡ intersection (line p) (line q)
-  meet_lines m = lines l (ancestor_below g l p m.first) ∙ meet_lineage m ∙ sym (ap₂ intersection (lines p pn) (lines q qn))
-
-  pub lines_meet : version_count g ≤ max_capacity → l < version_count g → line l ≡ intersection (line p) (line q) → Meet g p q l
-  lines_meet small ln e = lineage_meet g p q l small ln (sym (lines l ln) ∙ e ∙ ap₂ intersection (lines p pn) (lines q qn))

@@ -1,37 +1,34 @@
--- Bytes that pass the test begin with a sound room.
+-- Bytes that pass the test hold a sound store.
 -- Assumes nothing.
 use mathlib.Core.Path.{◌≡◌, sym, ◌∙◌, ap, subst}
 use mathlib.Core.Bool.{true}
 use mathlib.Core.List.{List}
 use mathlib.Core.Option.{Option, some, get_or}
-use Prim.Native.Nat.{ℕ, pred, ◌-◌, ◌≤◌, ◌<◌}
+use Prim.Native.Nat.{ℕ, pred, ◌-◌, ◌*◌, ◌≤◌, ◌<◌}
 use native.Mathlib.Decide.{dec_lt}
 use native.Mathlib.Omega.{arith}
-use lib.ListN.{length, take, drop, length-drop}
-use lib.Seq.{take_at}
+use lib.ListN.{length, take}
 use borrow.Author.Tests.{eqb-false, ne_eqb, le-leb, ltb-true}
 use Rattle.laws.proofs.Logic.{and_l, and_r, and_i, implies_e}
 use Rattle.buffer.specs.Field.{word}
 use Rattle.buffer.specs.Row.{row}
-use Rattle.buffer.specs.Blocks.{block_at}
 use Rattle.buffer.proofs.Fields.{part_length}
 use Rattle.buffer.proofs.Rows.{row_from-length}
 use Rattle.buffer.proofs.Sets.{row_told, none_false}
 use Rattle.buffer.proofs.Stands.{Stands}
-use Rattle.buffer.proofs.Parts.{Bytes, part_bytes, rest_bytes, stands_all, part_stands, word_stands, zero_stands, same_of}
-use Rattle.buffer.proofs.Blocks.{block_apart, block_long}
-use Rattle.graph.specs.Graph.{Graph, version_count, is_entry, is_some}
+use Rattle.buffer.proofs.Parts.{Bytes, part_bytes, stands_part, part_stands, word_stands, zero_stands, same_of}
+use Rattle.board.specs.Board.{board_size}
+use Rattle.graph.specs.Graph.{Graph, version_count, is_entry, is_some, ancestor}
 use Rattle.graph.proofs.Below.{some_at}
 use Rattle.graph.proofs.Meet.{Meet}
 use Rattle.command.specs.Code.{console_count}
 use Rattle.room.specs.Room.{Room, head_of, present, head}
 use Rattle.room.specs.Sound.{max_capacity, behind_head, can_make_hub}
-use Rattle.room.specs.Boards.{rules_of}
 use Rattle.room.proofs.Sound.{Sound, capacity_range, present_console, present_head, can_behind, facts_sound}
-use Rattle.store.specs.Layout.{header_size, row_size, block_size, room_size, count_at, spare_at, entries_at, commons_at, commons_size, commons_end, common_at, room_bytes, settings_in, entries_in, table_in, blocks_in, block_of, room_in, holds_room}
-use Rattle.store.specs.Check.{row_part, common_in, room_right}
-use Rattle.store.proofs.Lineage.{lineage}
-use Rattle.store.proofs.Blocks.{common_table-length, empty_board_lem, block_whole}
+use Rattle.room.proofs.Lengths.{board_of-length}
+use Rattle.store.specs.Layout.{header_size, row_size, block_size, store_size, count_at, spare_at, entries_at, commons_end, common_at, block_at, encode, settings_in, room_in, holds_store}
+use Rattle.store.specs.Check.{row_part, entries_part, common_in, store_right}
+use Rattle.store.proofs.RoundTrip.{encode_length}
 use Rattle.store.proofs.SettingsBytes.{settings_stand}
 use Rattle.store.proofs.Shown.{no_entry}
 use Rattle.store.proofs.Told.{Held}
@@ -39,7 +36,7 @@ use Rattle.store.proofs.Versions.{versions_held}
 use Rattle.store.proofs.Commons.{Field, field_is, head_is, there, not_zero, field_named, consoles_fields}
 use Rattle.store.proofs.HubTold.{hub_told}
 use Rattle.store.proofs.Behind.{behind_row, row_behind}
-use Rattle.store.proofs.Joined.{Placed, join_commons_lem, join_room, room_length}
+use Rattle.store.proofs.Joined.{Placed, join_block, join_encode}
 use Rattle.store.proofs.Checks.{Checks, right_checks, own_versions, own_sixteen, own_heads}
 
 module _ (s : List ℕ) (b : Bytes s) where
@@ -49,64 +46,45 @@ module _ (s : List ℕ) (b : Bytes s) where
   abbrev g : Graph
   g = r.versions
 
-  abbrev t : List ℕ
-  t = table_in s
-
   module _ (k : Checks s r.settings (version_count g)) where
     small : version_count g ≤ max_capacity
     small = omega (arith, k.fits, capacity_range r.settings k.known)
 
-    abbrev line : ℕ → List ℕ
-    line v = row_part (block_of s v)
+    held : Held s g
+    held = rw own_versions at (versions_held s (length g) b (omega (arith, k.long, k.fits)) small k.versions)
 
-    -- the block of each version lies inside
-    sized : (v : ℕ) → v < version_count g → length (block_of s v) ≡ block_size r.settings
-    unfolding room_in
-    sized v l =
-        let size = block_size (settings_in s) in
-        block_long size (blocks_in s) v (rw length-drop (omega (arith, k.long, block_apart size v (version_count g) l)))
+    fields : (c d : ℕ) → c < console_count → d < console_count → Field r c d (common_in s c d)
+    fields = consoles_fields s r (own_heads s) small held k.consoles
 
-    held : Held (rules_of r.settings) (entries_in s) (block_of s) g
-    held =
-        rw own_versions at
-        (versions_held (rules_of r.settings) (entries_in s) (block_of s) (empty_board_lem r.settings (block_of s 0) (sized 0 (omega arith))) (length g)
-        (λ v. part_bytes (blocks_in s) (block_at (block_size (settings_in s)) v) (block_size (settings_in s)) (rest_bytes s header_size b)) small k.versions)
-
-    lines : (v : ℕ) → v < version_count g → line v ≡ lineage g v
-    lines v l = (held.told v l).line
-
-    fields : (c d : ℕ) → c < console_count → d < console_count → Field r c d (common_in t c d)
-    fields = consoles_fields t r (own_heads s) small line lines k.consoles
-
-    low : (c : ℕ) → c < console_count → common_in t c c ≤ version_count g
-    low c l = field_named t r (own_heads s) c l (fields c c l l)
+    low : (c : ℕ) → c < console_count → common_in s c c ≤ version_count g
+    low c l = field_named s r (own_heads s) c l (fields c c l l)
 
     -- a head is the version that stands on the diagonal
     named : (c v : ℕ) → head_of r c ≡ some v → v < version_count g
     named c v e =
         let l = present_console r c (own_sixteen s) (ap is_some e) in
-        let x = eqb-false (common_in t c c) 0 (not_zero t r (own_heads s) c l (ap is_some e)) in
-        let is : v ≡ pred (common_in t c c) = sym (ap (λ (o : Option ℕ). get_or o 0) e) ∙ head_is t r (own_heads s) c l in
+        let x = eqb-false (common_in s c c) 0 (not_zero s r (own_heads s) c l (ap is_some e)) in
+        let is : v ≡ pred (common_in s c c) = sym (ap (λ (o : Option ℕ). get_or o 0) e) ∙ head_is s r (own_heads s) c l in
         omega (arith, low c l)
 
     behind : (v : ℕ) → v < version_count g → behind_head r v ≡ true
-    behind = row_behind r small (sym (behind_row t r (own_heads s) line lines low) ∙ k.behind)
+    behind = row_behind r small (sym (behind_row s r (own_heads s) (row_part s) (λ v l. (held.told v l).line) low) ∙ k.behind)
 
     meets : (c d : ℕ) → present r c ≡ true → present r d ≡ true → (m : ℕ) × Meet g (head r c) (head r d) m
     meets c d p q =
         let f = fields c d (present_console r c (own_sixteen s) p) (present_console r d (own_sixteen s) q) in
-        (pred (common_in t c d), (f.both p q).1)
+        (pred (common_in s c d), (f.both p q).1)
 
     first : present r 0 ≡ true
-    first = there t r (own_heads s) 0 (omega arith) (ne_eqb (common_in t 0 0) 0 (omega (arith, ltb-true 0 (common_in t 0 0) k.first)))
+    first = there s r (own_heads s) 0 (omega arith) (ne_eqb (common_in s 0 0) 0 (omega (arith, ltb-true 0 (common_in s 0 0) k.first)))
 
     -- the test of the hub, in the row of its head
     hub_passed : r.settings.hub ≡ true → can_make_hub r ≡ true
     unfolding room_in
-    hub_passed set =
+    hub_passed t =
         let line = (held.told (head r 0) (named 0 (head r 0) (present_head r 0 first))).line in
-        sym (hub_told t r small (λ c d i j. field_is (fields c d i j)))
-        ∙ rw (← line, head_is t r (own_heads s) 0 (omega arith)) (implies_e (settings_in s).hub _ k.hub set)
+        sym (hub_told s r small (λ c d i j. field_is (fields c d i j)))
+        ∙ rw (← line, head_is s r (own_heads s) 0 (omega arith)) (implies_e (settings_in s).hub _ k.hub t)
 
     sound : Sound r
     sound =
@@ -126,14 +104,14 @@ module _ (s : List ℕ) (b : Bytes s) where
           hub = λ t. can_behind r (own_sixteen s) meets (hub_passed t);
         }
 
-    entries : entries_in s ≡ row (is_entry g) row_size
+    entries : entries_part s ≡ row (is_entry g) row_size
     entries =
-        row_told (is_entry g) row_size (entries_in s) (part_bytes s entries_at row_size b)
+        row_told (is_entry g) row_size (entries_part s) (part_bytes s entries_at row_size b)
         (part_length s entries_at row_size (omega (arith, k.long)))
         (λ v _.
         elim (dec_lt v (version_count g)) [
           | yes l ↦ (held.told v l).listed
-          | no l ↦ none_false (entries_in s) (version_count g) v k.none (omega arith) ∙ sym (no_entry g v (omega arith))
+          | no l ↦ none_false (entries_part s) (version_count g) v k.none (omega arith) ∙ sym (no_entry g v (omega arith))
         ])
 
     parts : Placed s r
@@ -143,26 +121,22 @@ module _ (s : List ℕ) (b : Bytes s) where
           count = rw k.count at (word_stands {s = s} count_at b);
           gap = zero_stands spare_at (entries_at - spare_at) k.gap;
           entries = part_stands row_size entries (row_from-length (is_entry g) 0 row_size);
-          table = part_stands commons_size
-              (stands_all
-              (join_commons_lem r
-              (λ c d i j. subst (λ (x : ℕ). Stands t (common_at c d) (word x)) (field_is (fields c d i j)) (word_stands (common_at c d) (part_bytes s commons_at commons_size b))))
-              (part_length s commons_at commons_size (omega (arith, k.long)) ∙ sym (common_table-length r 0 console_count)))
-              (common_table-length r 0 console_count);
+          commons = λ c d i j. subst (λ (x : ℕ). Stands s (common_at c d) (word x)) (field_is (fields c d i j)) (word_stands (common_at c d) b);
           rest = zero_stands commons_end (header_size - commons_end) k.rest;
           versions = λ v l.
-              let told = held.told v l in
-              unfold room_in in block_whole r.settings g v (block_of s v) (sized v l) told.node told.line told.board;
+              let t = held.told v l in
+              join_block g v t.node (part_stands row_size t.line (row_from-length (λ u. ancestor g u v) 0 row_size))
+              (part_stands board_size t.board (board_of-length g v));
+          free = zero_stands (block_at (version_count g)) (block_size * (r.settings.capacity - version_count g)) k.free;
         }
 
-    checks_hold : holds_room s ≡ true
-    unfolding holds_room
+    checks_hold : holds_store s ≡ true
+    unfolding holds_store room_in
     checks_hold =
         let whole = facts_sound r sound in
-        let n = room_size r.settings (version_count g) in
-        let e = join_room r s parts k.long in
+        let n = store_size r.settings.capacity in
         and_i _ _ (and_i _ _ (le-leb n (length s) k.long) whole)
-        (same_of (take n s) (room_bytes r) (ap (take n) e ∙ take_at (room_bytes r) (drop n s) n (room_length r)))
+        (same_of (take n s) (encode r) (stands_part n (join_encode r parts) (encode_length r whole) (omega (arith, k.long))))
 
-  pub right_holds : room_right s ≡ true → holds_room s ≡ true
+  pub right_holds : store_right s ≡ true → holds_store s ≡ true
   right_holds h = checks_hold (right_checks s h)

@@ -1,4 +1,4 @@
--- What the bytes of a room show of a version: its node, its row, its board and whether it is an entry. A new version changes nothing of what is shown of
+-- What a store shows of a version: its node, its row, its board and whether it is an entry. A new version changes nothing of what is shown of
 -- the older ones.
 -- Assumes nothing.
 use mathlib.Core.Path.{◌≡◌, refl, ◌∙◌, ap}
@@ -17,8 +17,8 @@ use Rattle.graph.specs.Graph.{Graph, version_count, some_parent, ancestor, node_
 use Rattle.graph.proofs.Ancestor.{ancestor_new, ancestor_old, node_of-new, node_of-old, parent_named, is_entry-new, is_entry-old, is_entry-named}
 use Rattle.graph.proofs.Parent.{Parent, parent_lower, receiver, giver}
 use Rattle.graph.proofs.Meet.{meet_old}
-use Rattle.room.specs.Boards.{Rules, board_made, board_of}
-use Rattle.room.proofs.Boards.{board_new, board_old}
+use Rattle.room.specs.Boards.{board_made, board_of}
+use Rattle.room.proofs.Counters.{board_new, board_old}
 use Rattle.store.specs.Layout.{row_size, node_bytes}
 use Rattle.store.proofs.Lineage.{lineage}
 
@@ -28,16 +28,16 @@ pub record Shown : Type 0 where
   pub board : List ℕ
   pub listed : Bool
 
-abbrev pub shown : Rules → Graph → ℕ → Shown
-shown rules g v = record { node = node_bytes g (node_of g v); line = lineage g v; board = board_of rules g v; listed = is_entry g v }
+abbrev pub shown : Graph → ℕ → Shown
+shown g v = record { node = node_bytes g (node_of g v); line = lineage g v; board = board_of g v; listed = is_entry g v }
 
 -- of a version that is made on top of a graph
-abbrev pub made : Rules → Graph → Node → Shown
-made rules g n =
+abbrev pub made : Graph → Node → Shown
+made g n =
     record {
       node = node_bytes g (some n);
       line = row (λ u. eqb u (version_count g) || some_parent (ancestor g u) n) row_size;
-      board = board_made (rules (version_count g)) (board_of rules g) (base_of g) n;
+      board = board_made (board_of g) (base_of g) n;
       listed = is_entry_node (some n);
     }
 
@@ -56,20 +56,19 @@ node_old n g v h l = ap (node_bytes (n ∷ g)) (node_of-old n g v l) ∙ go (nod
     go none e = refl
     go (some m) e = node_kept n m g (λ p r. parent_named g m p v h e r)
 
-pub shown_old : (rules : Rules) (n : Node) (g : Graph) (v : ℕ) → every_version parents_lower g ≡ true → v < version_count g
-    → shown rules (n ∷ g) v ≡ shown rules g v
-shown_old rules n g v h l = λ i. record {
+pub shown_old : (n : Node) (g : Graph) (v : ℕ) → every_version parents_lower g ≡ true → v < version_count g → shown (n ∷ g) v ≡ shown g v
+shown_old n g v h l = λ i. record {
   node = node_old n g v h l i;
   line = row_ext (λ u. ancestor (n ∷ g) u v) (λ u. ancestor g u v) row_size (λ u. ancestor_old n g u v l) i;
-  board = board_old rules n g v l i;
+  board = board_old n g v l i;
   listed = is_entry-old n g v l i;
 }
 
-pub shown_new : (rules : Rules) (n : Node) (g : Graph) → parents_lower g n ≡ true → shown rules (n ∷ g) (version_count g) ≡ made rules g n
-shown_new rules n g h = λ i. record {
+pub shown_new : (n : Node) (g : Graph) → parents_lower g n ≡ true → shown (n ∷ g) (version_count g) ≡ made g n
+shown_new n g h = λ i. record {
   node = (ap (node_bytes (n ∷ g)) (node_of-new n g) ∙ node_kept n n g (λ p r. parent_lower g h r)) i;
   line = row_ext (λ u. ancestor (n ∷ g) u (version_count g)) (λ u. eqb u (version_count g) || some_parent (ancestor g u) n) row_size (ancestor_new n g) i;
-  board = board_new rules n g i;
+  board = board_new n g i;
   listed = is_entry-new n g i;
 }
 

@@ -1,10 +1,10 @@
 -- "A store takes 4,096 + 544 × capacity bytes at the front of the lent buffer; .. Its layout is the team's, written in docs/, with unused
 -- parts zero, so that one store has one encoding." docs/LAYOUT.md says the same in words.
-use Rattle.std.specs.Prelude.{ℕ, zero, suc, ◌+◌, ◌-◌, ◌*◌, ◌/◌, pred, Bool, true, false, cond, ◌&&◌, List, [], ◌∷◌, ◌++◌, eqb, leb, length, get_or, take, drop}
+use Rattle.std.specs.Prelude.{ℕ, zero, suc, ◌+◌, ◌-◌, ◌*◌, ◌/◌, pred, Bool, true, false, cond, ◌&&◌, List, [], ◌∷◌, ◌++◌, eqb, leb, length, get_or, take}
 use Rattle.std.proofs.Math.Option.{Option, none, some}
-use Rattle.buffer.specs.Field.{byte, word, word_at, zeros, part, same}
-use Rattle.buffer.specs.Blocks.{block_at, block_in, joined}
+use Rattle.buffer.specs.Field.{byte, word, word_at, zeros, same}
 use Rattle.buffer.specs.Row.{row}
+use Rattle.board.specs.Board.{board_size}
 use Rattle.graph.specs.declared.Node.{Node}
 use Rattle.graph.specs.declared.Node.TheVariants.{Entry, Merge}
 use Rattle.graph.specs.Graph.{Graph, entry, merge, version_count, ancestor, is_entry, node_of, base_of}
@@ -12,10 +12,10 @@ use Rattle.command.specs.Code.{console_count}
 use Rattle.room.specs.declared.Settings.{Settings}
 use Rattle.room.specs.Room.{Room, present, common}
 use Rattle.room.specs.Sound.{max_capacity, sound_room}
-use Rattle.room.specs.Boards.{Rules, board_of, rules_of, board_bytes}
+use Rattle.room.specs.Boards.{board_of}
 
--- Sizes: a room is a header and one block for each version; a block is a node (what made the version), an ancestry row and a board, as large as
--- the room's boards are. A store has room for a block of each version that may be made.
+-- Sizes: a store is a header and one block for each version that it may hold; a block is a node (what made the version), an ancestry row and
+-- a board.
 abbrev pub header_size : ℕ
 header_size = 4096
 
@@ -26,15 +26,11 @@ node_size = 32
 abbrev pub row_size : ℕ
 row_size = max_capacity / 8
 
-unfoldable pub block_size : Settings → ℕ
-block_size settings = node_size + row_size + board_bytes settings
+abbrev pub block_size : ℕ
+block_size = node_size + row_size + board_size
 
--- of a room with n versions
-abbrev pub room_size : Settings → ℕ → ℕ
-room_size settings n = header_size + block_at (block_size settings) n
-
-abbrev pub store_size : Settings → ℕ
-store_size settings = room_size settings settings.capacity
+abbrev pub store_size : ℕ → ℕ
+store_size capacity = header_size + block_size * capacity
 
 -- Places in the header: what the room is set to, the number of versions, a spare part, the row of the entry versions, the table of common
 -- versions.
@@ -68,46 +64,45 @@ commons_size = 2 * console_count * console_count
 abbrev pub commons_end : ℕ
 commons_end = commons_at + commons_size
 
--- Places in the table: of the field of consoles c and d, which stands for their common version; of a console with itself, for its head.
+-- the place of the field of consoles c and d, which stands for their common version; of a console with itself, for its head
 abbrev pub common_at : ℕ → ℕ → ℕ
-common_at c d = 2 * (console_count * c + d)
+common_at c d = commons_at + 2 * (console_count * c + d)
 
 abbrev pub head_at : ℕ → ℕ
 head_at c = common_at c c
 
--- Places in a block: the node, which has its code at its front, then strip, operand, parent (a merge: the receiver's version), giver's
--- version and base; the row; the board.
-abbrev pub node_strip_at : ℕ
-node_strip_at = 1
-
-abbrev pub node_operand_at : ℕ
-node_operand_at = 2
-
-abbrev pub node_parent_at : ℕ
-node_parent_at = 4
-
-abbrev pub node_giver_at : ℕ
-node_giver_at = 6
-
-abbrev pub node_base_at : ℕ
-node_base_at = 8
-
-abbrev pub node_end : ℕ
-node_end = 10
-
-abbrev pub row_at : ℕ
-row_at = node_size
-
-abbrev pub board_at : ℕ
-board_at = row_at + row_size
+-- the place of the block of version v, and of what it is made of
+abbrev pub block_at : ℕ → ℕ
+block_at v = header_size + block_size * v
 
 -- the code of a merge in its node; no entry has it
 abbrev pub merge_node_code : ℕ
 merge_node_code = 0x09
 
--- where the board of version v stands in the bytes of a room
-abbrev pub board_place : Settings → ℕ → ℕ
-board_place settings v = room_size settings v + board_at
+-- the fields of the node: code, strip, operand, parent (a merge: the receiver's version), giver's version, base
+abbrev pub node_code_at : ℕ → ℕ
+node_code_at v = block_at v
+
+abbrev pub node_strip_at : ℕ → ℕ
+node_strip_at v = block_at v + 1
+
+abbrev pub node_operand_at : ℕ → ℕ
+node_operand_at v = block_at v + 2
+
+abbrev pub node_parent_at : ℕ → ℕ
+node_parent_at v = block_at v + 4
+
+abbrev pub node_giver_at : ℕ → ℕ
+node_giver_at v = block_at v + 6
+
+abbrev pub node_base_at : ℕ → ℕ
+node_base_at v = block_at v + 8
+
+abbrev pub row_at : ℕ → ℕ
+row_at v = block_at v + node_size
+
+abbrev pub board_at : ℕ → ℕ
+board_at v = block_at v + node_size + row_size
 
 -- A field of the table: 0 where one of the two consoles is absent, else 1 more than their common version.
 abbrev pub field_where : Bool → Room → ℕ → ℕ → ℕ
@@ -143,91 +138,69 @@ header r =
 
 -- The node of a version: a merge has a code of its own, version 0 has 0; what a version does not have is 0.
 abbrev pub entry_node_bytes : ℕ → ℕ → ℕ → ℕ → List ℕ
-entry_node_bytes p code strip operand = byte code ∷ byte strip ∷ word operand ++ word p ++ zeros (node_size - node_giver_at)
+entry_node_bytes p code strip operand = byte code ∷ byte strip ∷ word operand ++ word p ++ zeros (node_size - 6)
 
 -- with l, the base of the merge of q into p
 abbrev pub merge_node_bytes : ℕ → ℕ → ℕ → List ℕ
-merge_node_bytes p q l = merge_node_code ∷ 0 ∷ 0 ∷ 0 ∷ word p ++ word q ++ word l ++ zeros (node_size - node_end)
+merge_node_bytes p q l = merge_node_code ∷ 0 ∷ 0 ∷ 0 ∷ word p ++ word q ++ word l ++ zeros (node_size - 10)
 
 unfoldable pub node_bytes : Graph → Option Node → List ℕ
 node_bytes g none = zeros node_size
 node_bytes g (some (Entry p code strip operand)) = entry_node_bytes p.0 code strip.0 operand
 node_bytes g (some (Merge p q)) = merge_node_bytes p.0 q.0 (base_of g p.0 q.0)
 
--- the block of version v of a graph, whose boards are made by these rules
-unfoldable pub block : Rules → Graph → ℕ → List ℕ
-block rules g v = node_bytes g (node_of g v) ++ row (λ u. ancestor g u v) row_size ++ board_of rules g v
+-- the block of version v of a graph
+unfoldable pub block : Graph → ℕ → List ℕ
+block g v = node_bytes g (node_of g v) ++ row (λ u. ancestor g u v) row_size ++ board_of g v
 
--- the bytes of a room: its header, and the blocks of its versions
-unfoldable pub room_bytes : Room → List ℕ
-room_bytes r = header r ++ joined (block (rules_of r.settings) r.versions) (version_count r.versions)
+-- the blocks of the first n versions
+unfoldable pub blocks : Graph → ℕ → List ℕ
+blocks g zero = []
+blocks g (suc n) = blocks g n ++ block g n
 
--- the tail of a single store: as many zeros as the versions take that the room may still get
-abbrev pub tail_bytes : Room → List ℕ
-tail_bytes r = zeros (block_at (block_size r.settings) (r.settings.capacity - version_count r.versions))
-
--- the one encoding of a store: a room and its tail
+-- the one encoding of a room
 unfoldable pub encode : Room → List ℕ
-encode r = room_bytes r ++ tail_bytes r
+encode r =
+    header r
+    ++ blocks r.versions (version_count r.versions)
+    ++ zeros (block_size * (r.settings.capacity - version_count r.versions))
 
--- Reading a room off bytes that begin with it: the fields as they stand, whatever they hold. First the settings, and the parts of the bytes.
-abbrev pub settings_in : List ℕ → Settings
-settings_in s = record { capacity = word_at s capacity_at; hub = eqb (word_at s hub_at) 1 }
+-- Reading a room off bytes: the fields as they stand, whatever they hold.
+unfoldable pub node_in : List ℕ → ℕ → Node
+node_in s v =
+    cond (eqb (get_or s (node_code_at v) 0) merge_node_code)
+    (merge (word_at s (node_parent_at v)) (word_at s (node_giver_at v)))
+    (entry (word_at s (node_parent_at v)) (get_or s (node_code_at v) 0) (get_or s (node_strip_at v) 0) (word_at s (node_operand_at v)))
 
-abbrev pub entries_in : List ℕ → List ℕ
-entries_in s = part s entries_at row_size
-
-abbrev pub table_in : List ℕ → List ℕ
-table_in s = part s commons_at commons_size
-
--- all that stands behind the header, also behind the last block
-abbrev pub blocks_in : List ℕ → List ℕ
-blocks_in s = drop header_size s
-
--- the block of version v
-abbrev pub block_of : List ℕ → ℕ → List ℕ
-block_of s v = block_in (block_size (settings_in s)) (blocks_in s) v
-
--- what made a version, by its block
-unfoldable pub node_in : List ℕ → Node
-node_in s =
-    cond (eqb (get_or s 0 0) merge_node_code)
-    (merge (word_at s node_parent_at) (word_at s node_giver_at))
-    (entry (word_at s node_parent_at) (get_or s 0 0) (get_or s node_strip_at 0) (word_at s node_operand_at))
-
--- versions 1 to n, the newest first, given the block of each
-unfoldable pub versions_in : (ℕ → List ℕ) → ℕ → Graph
-versions_in block zero = []
-versions_in block (suc n) = node_in (block (suc n)) ∷ versions_in block n
+-- versions 1 to n, the newest first
+unfoldable pub versions_in : List ℕ → ℕ → Graph
+versions_in s zero = []
+versions_in s (suc n) = node_in s (suc n) ∷ versions_in s n
 
 -- the head that a field stands for
 abbrev pub head_from : ℕ → Option ℕ
 head_from zero = none
 head_from (suc v) = some v
 
--- the heads of n consoles, from console c on, by the table
+-- the heads of n consoles, from console c on
 unfoldable pub heads_in : List ℕ → ℕ → ℕ → List (Option ℕ)
-heads_in table c zero = []
-heads_in table c (suc n) = head_from (word_at table (head_at c)) ∷ heads_in table (suc c) n
+heads_in s c zero = []
+heads_in s c (suc n) = head_from (word_at s (head_at c)) ∷ heads_in s (suc c) n
+
+abbrev pub settings_in : List ℕ → Settings
+settings_in s = record { capacity = word_at s capacity_at; hub = eqb (word_at s hub_at) 1 }
 
 unfoldable pub room_in : List ℕ → Room
 room_in s =
     record {
       settings = settings_in s;
-      versions = versions_in (block_of s) (pred (word_at s count_at));
-      heads = heads_in (table_in s) 0 console_count;
+      versions = versions_in s (pred (word_at s count_at));
+      heads = heads_in s 0 console_count;
     }
-
--- the bytes begin with those of a sound room, whatever stands behind them
-unfoldable pub holds_room : List ℕ → Bool
-holds_room s =
-    let r : Room = room_in s in
-    let size : ℕ = room_size r.settings (version_count r.versions) in
-    leb size (length s) && sound_room r && same (take size s) (room_bytes r)
 
 -- "the bytes are its one encoding, ancestry rows included": the bytes hold a sound store at their front
 unfoldable pub holds_store : List ℕ → Bool
 holds_store s =
-    let r : Room = room_in s in
-    let size : ℕ = store_size r.settings in
-    leb size (length s) && sound_room r && same (take size s) (encode r)
+    leb (store_size (word_at s capacity_at)) (length s)
+    && sound_room (room_in s)
+    && same (take (store_size (word_at s capacity_at)) s) (encode (room_in s))

@@ -1,25 +1,24 @@
 // Whether console 0 can be the hub of a room: what every two consoles have in common is behind its head.
-ghost use Rattle.std.specs.Prelude.{◌≡◌, ℕ, pred, ◌+◌, ◌<◌, ◌≤◌, length};
-ghost use Rattle.buffer.specs.Blocks.{block_at};
+ghost use Rattle.std.specs.Prelude.{◌≡◌, not, ◌||◌, ℕ, pred, ◌+◌, ◌*◌, ◌<◌, ◌≤◌, length};
+ghost use Rattle.buffer.specs.Field.{part};
 ghost use Rattle.graph.specs.Below.{every_below};
 ghost use Rattle.command.specs.Code.{console_count};
 ghost use Rattle.room.specs.Sound.{max_capacity};
-ghost use Rattle.store.specs.Layout.{row_size, commons_size};
-ghost use Rattle.store.specs.Check.{row_in, common_in, common_in_row, commons_in_row, hub_right};
+ghost use Rattle.store.specs.Layout.{header_size, row_size};
+ghost use Rattle.store.specs.Check.{common_in, common_in_row, commons_in_row};
 
-use crate::places::row_in;
-use crate::table::{common_in, version_of};
+use crate::places::{common_in, row_of_field, version_of};
 use buffer::has_member;
 use command::numbers::CONSOLES;
 use graph::Console;
 
 // Whether the common version of two consoles, where both are present, is a member of a row.
-fn common_in_row(table: &[u8], members: &[u8], c: Console, d: Console) -> bool
-    requires table_len { (length table.now ≡ commons_size) × (length members.now ≡ row_size) }
-    requires c_lt_console_count { (c.0 < console_count) × (d.0 < console_count) × (common_in table.now c.0 d.0 ≤ max_capacity) }
-    ensures { result ≡ common_in_row table.now members.now c.0 d.0 }
+fn common_in_row(header: &[u8], members: &[u8], c: Console, d: Console) -> bool
+    requires header_size_in_bounds { (header_size ≤ length header.now) × (length members.now ≡ row_size) }
+    requires c_lt_console_count { (c.0 < console_count) × (d.0 < console_count) × (common_in header.now c.0 d.0 ≤ max_capacity) }
+    ensures { result ≡ common_in_row header.now members.now c.0 d.0 }
 {
-    let field = common_in(table, c, d);
+    let field = common_in(header, c, d);
     if field.0 == 0 {
         return true;
     }
@@ -28,14 +27,14 @@ fn common_in_row(table: &[u8], members: &[u8], c: Console, d: Console) -> bool
 }
 
 // Whether those of a console and each one below it are.
-fn console_in_row(table: &[u8], members: &[u8], c: Console) -> bool
-    requires table_len { (length table.now ≡ commons_size) × (length members.now ≡ row_size) }
+fn console_in_row(header: &[u8], members: &[u8], c: Console) -> bool
+    requires header_size_in_bounds { (header_size ≤ length header.now) × (length members.now ≡ row_size) }
     requires c_lt_console_count { c.0 < console_count }
-    requires by_index { (d : ℕ) → d < c.0 → common_in table.now c.0 d ≤ max_capacity }
-    ensures { result ≡ every_below c.0 (common_in_row table.now members.now c.0) }
+    requires by_index { (d : ℕ) → d < c.0 → common_in header.now c.0 d ≤ max_capacity }
+    ensures { result ≡ every_below c.0 (common_in_row header.now members.now c.0) }
 {
     for d in 0..c.0 {
-        if !common_in_row(table, members, c, Console(d)) {
+        if !common_in_row(header, members, c, Console(d)) {
             return false;
         }
     }
@@ -43,30 +42,30 @@ fn console_in_row(table: &[u8], members: &[u8], c: Console) -> bool
 }
 
 // Whether those of every two consoles are.
-fn commons_in_row(table: &[u8], members: &[u8]) -> bool
-    requires table_len { (length table.now ≡ commons_size) × (length members.now ≡ row_size) }
-    requires by_index { (c d : ℕ) → c < console_count → d < c → common_in table.now c d ≤ max_capacity }
-    ensures { result ≡ commons_in_row table.now members.now }
+fn commons_in_row(header: &[u8], members: &[u8]) -> bool
+    requires header_size_in_bounds { (header_size ≤ length header.now) × (length members.now ≡ row_size) }
+    requires by_index { (c d : ℕ) → c < console_count → d < c → common_in header.now c d ≤ max_capacity }
+    ensures { result ≡ commons_in_row header.now members.now }
 {
     for c in 0..CONSOLES {
-        if !console_in_row(table, members, Console(c)) {
+        if !console_in_row(header, members, Console(c)) {
             return false;
         }
     }
     true
 }
 
-// Whether those of every two consoles are in the row of console 0's head, where the room has a hub; the row of version v stands at one place of
-// block v of blocks of a size.
-pub fn hub_right(table: &[u8], blocks: &[u8], size: usize, at: usize, hub: bool) -> bool
-    requires table_len { (length table.now ≡ commons_size) × (at + row_size ≤ size) }
-    requires size_in_bounds { block_at size (pred (common_in table.now 0 0)) + size ≤ length blocks.now }
-    requires by_index { (c d : ℕ) → c < console_count → d < c → common_in table.now c d ≤ max_capacity }
-    ensures { result ≡ hub_right hub (row_in size at blocks.now) table.now }
+// Whether those of every two consoles are in the row of console 0's head, where the room has a hub. The table of commons is that of a header,
+// the row of version v stands at first + stride * v of rows.
+pub fn hub_right(header: &[u8], rows: &[u8], first: usize, stride: usize, hub: bool) -> bool
+    requires header_size_in_bounds { header_size ≤ length header.now }
+    requires row_size_in_bounds { first + stride * pred (common_in header.now 0 0) + row_size ≤ length rows.now }
+    requires by_index { (c d : ℕ) → c < console_count → d < c → common_in header.now c d ≤ max_capacity }
+    ensures { result ≡ (not hub || commons_in_row header.now (part rows.now (first + stride * pred (common_in header.now 0 0)) row_size)) }
 {
     if !hub {
         return true;
     }
-    let head = version_of(common_in(table, Console(0), Console(0)));
-    commons_in_row(table, row_in(blocks, size, at, head))
+    let head = common_in(header, Console(0), Console(0));
+    commons_in_row(header, row_of_field(rows, first, stride, head))
 }

@@ -6,5 +6,4 @@ pub mod nodes;
 pub mod places;
 pub mod rules;
 pub mod settings;
-pub mod table;
 mod version;

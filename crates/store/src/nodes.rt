@@ -1,8 +1,10 @@
 // The node of a version: what made it, read off its block.
-ghost use Rattle.std.specs.Prelude.{◌≡◌, ◌≤◌, length};
+ghost use Rattle.std.specs.Prelude.{◌≡◌, suc, ◌<◌, ◌≤◌, length};
 ghost use Rattle.buffer.specs.Field.{word_at};
-ghost use Rattle.store.specs.Layout.{node_size, node_base_at, node_in};
+ghost use Rattle.room.specs.Sound.{max_capacity};
+ghost use Rattle.store.specs.Layout.{block_at, node_base_at, node_in};
 
+use crate::places::block_at;
 use buffer::{wide, word_at};
 use graph::{Node, Strip, Version};
 
@@ -17,36 +19,37 @@ pub const NODE_GIVER: usize = 6;
 
 pub const NODE_BASE: usize = 8;
 
-pub const NODE_END: usize = 10;
+pub const NODE_SPARE: usize = 10;
 
 // The code in the node of a merge; no entry has it.
 pub const MERGE_NODE: usize = 0x09;
 
-// What made a version other than 0, by its block.
-pub fn read_node(block: &[u8]) -> Node
-    requires { node_size ≤ length block.now }
-    ensures { result ≡ node_in block.now }
+// What made a version other than 0.
+pub fn read_node(s: &[u8], v: Version) -> Node
+    requires { (v.0 < max_capacity) × (block_at (suc v.0) ≤ length s.now) }
+    ensures { result ≡ node_in s.now v.0 }
 {
-    let code = wide(block[0]);
-    let parent = Version(word_at(block, NODE_PARENT));
+    let at = block_at(v);
+    let code = wide(s[at]);
+    let parent = Version(word_at(s, at + NODE_PARENT));
     if code == MERGE_NODE {
         return Node::Merge {
             receiver: parent,
-            giver: Version(word_at(block, NODE_GIVER)),
+            giver: Version(word_at(s, at + NODE_GIVER)),
         };
     }
     Node::Entry {
         parent,
         code,
-        strip: Strip(wide(block[NODE_STRIP])),
-        operand: word_at(block, NODE_OPERAND),
+        strip: Strip(wide(s[at + NODE_STRIP])),
+        operand: word_at(s, at + NODE_OPERAND),
     }
 }
 
-// The base of a merge, by its block.
-pub fn read_base(block: &[u8]) -> Version
-    requires { node_size ≤ length block.now }
-    ensures { result.0 ≡ word_at block.now node_base_at }
+// The base in the node of a merge.
+pub fn read_base(s: &[u8], v: Version) -> Version
+    requires { (v.0 < max_capacity) × (block_at (suc v.0) ≤ length s.now) }
+    ensures { result.0 ≡ word_at s.now (node_base_at v.0) }
 {
-    Version(word_at(block, NODE_BASE))
+    Version(word_at(s, block_at(v) + NODE_BASE))
 }

@@ -10,12 +10,11 @@ use lib.ListN.{length}
 use borrow.Author.Tests.{ltb-true, lt-ltb, ltb-false, le-ltb, ne_eqb, not-false}
 use Rattle.laws.proofs.Logic.{or_none_l, or_none_r, or_same}
 use Rattle.buffer.specs.Field.{overwrite}
-use Rattle.board.specs.Board.{strip_count, cell_count, cell_of}
+use Rattle.board.specs.Board.{strip_count, board_size, cell_count, cell_of}
 use Rattle.refusal.specs.Refusal.{◌when◌, first_refusal, first_of}
 use Rattle.command.specs.Code.{console_count, is_console, is_strip, is_cell}
 use Rattle.room.specs.Room.{present, common, open_settings}
 use Rattle.room.specs.Sound.{settings_in_range}
-use Rattle.room.specs.Boards.{board_bytes}
 use Rattle.room.specs.Origin.{origin}
 use Rattle.room.specs.Step.{absent}
 use Rattle.store.specs.Layout.{store_size, room_in, holds_store}
@@ -67,9 +66,9 @@ buffer_allowed tests buffer size k h =
 
 -- opening
 pub opening_allowed : (capacity : ℕ) (s : List ℕ) {n : ℕ} → n ≡ first_refusal (open_tests capacity s) → n ≡ 0
-    → (settings_in_range (open_settings capacity) ≡ true) × (store_size (open_settings capacity) ≤ length s)
+    → (settings_in_range (open_settings capacity) ≡ true) × (store_size capacity ≤ length s)
 opening_allowed capacity s e z =
-    let n = buffer_allowed (8 when not (settings_in_range (open_settings capacity)) ∷ []) s (store_size (open_settings capacity)) refl (sym e ∙ z) in
+    let n = buffer_allowed (8 when not (settings_in_range (open_settings capacity)) ∷ []) s (store_size capacity) refl (sym e ∙ z) in
     (not-false (settings_in_range (open_settings capacity)) (none_applies _ refl n.0).0, n.1)
 
 -- two consoles: what holds of them where none of their tests applies
@@ -112,10 +111,10 @@ pair_state_sole s c = rw (or_same (absent (room_in s) c))
 pub pair_sole : (s : List ℕ) (c : ℕ) → first_refusal (pair_tests s c c) ≡ first_refusal (console_tests s c)
 pair_sole s c = rw (or_same (not (is_console c)), or_same (absent (room_in s) c))
 
-pub pane_allowed : (s : List ℕ) (c : ℕ) (output : List ℕ) {n : ℕ} → n ≡ first_refusal (buffer_tests (console_tests s c) output (board_bytes (room_in s).settings)) → n ≡ 0
-    → Allowed s c c × (board_bytes (room_in s).settings ≤ length output)
+pub pane_allowed : (s : List ℕ) (c : ℕ) (output : List ℕ) {n : ℕ} → n ≡ first_refusal (buffer_tests (console_tests s c) output board_size) → n ≡ 0
+    → Allowed s c c × (board_size ≤ length output)
 pane_allowed s c output e z =
-    let n = buffer_allowed (console_tests s c) output (board_bytes (room_in s).settings) refl (sym e ∙ z) in
+    let n = buffer_allowed (console_tests s c) output board_size refl (sym e ∙ z) in
     (pair_allowed s c c refl (pair_sole s c ∙ n.0), n.1)
 
 -- a cell: what holds where its origin can be asked about

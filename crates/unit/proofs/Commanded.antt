@@ -18,11 +18,10 @@ use Rattle.command.specs.Decoding.{InRange}
 use Rattle.command.proofs.Ranges.{command_in, whole_told, refused_told, decode_range}
 use Rattle.command.proofs.Encoded.{bytes_decode}
 use Rattle.room.specs.Step.{version_free, state_tests, step_refusal, step, clash_count}
-use Rattle.store.specs.Layout.{room_bytes, encode, room_in, holds_store}
+use Rattle.store.specs.Layout.{encode, room_in, holds_store}
 use Rattle.unit.specs.declared.Reply.{Reply}
 use Rattle.unit.specs.Calls.{replied, written, command_tests, step_outcome, command_outcome}
 use Rattle.unit.proofs.Answered.{Went, written_refused, written_done}
-use Rattle.unit.proofs.Stepped.{step_over}
 
 -- the number of what was decoded, where that is a refusal
 pub refused_as : (s : List ℕ) (d : Decoded) (m n : ℕ) → d ≡ decode s → d ≡ Refused m → n ≡ refusal_of d → Refused n ≡ decode s
@@ -82,13 +81,10 @@ module _ (store : List ℕ) (c : Command) (held : holds_store store ≡ true) {f
   unfolding step_outcome
   turned_down p = written_refused (clash_count (room_in store) c) (encode (step (room_in store) c)) store is_first p
 
-  pub stepped : InRange c → n ≡ 0 → {clashes : ℕ} {t : List ℕ}
-      → (t ≡ overwrite (room_bytes (step (room_in store) c)) store) × (clashes ≡ clash_count (room_in store) c)
+  pub stepped : n ≡ 0 → {clashes : ℕ} {t : List ℕ} → (t ≡ overwrite (encode (step (room_in store) c)) store) × (clashes ≡ clash_count (room_in store) c)
       → Went (replied 0 clashes) t (step_outcome store (Whole c))
   unfolding step_outcome
-  stepped range none done =
-      written_done (clash_count (room_in store) c) (encode (step (room_in store) c)) store is_first none done.1
-      (done.0 ∙ step_over store c held range (sym is_step_refusal ∙ none))
+  stepped none done = written_done (clash_count (room_in store) c) (encode (step (room_in store) c)) store is_first none done.1 done.0
 
 module _ (store command : List ℕ) where
   pub undecoded : (n : ℕ) → Refused n ≡ decode command → Went (replied n 0) store (command_outcome store command)

@@ -1,5 +1,4 @@
 pub mod Answered
-pub mod Stepped
 pub mod Commanded
 pub mod Taken
 pub mod RoundTrip

@@ -15,7 +15,7 @@ use Rattle.refusal.specs.Refusal.{first_refusal}
 use Rattle.refusal.proofs.Refusals.{none_applies}
 use Rattle.room.specs.Room.{Room}
 use Rattle.store.specs.Layout.{store_size, encode, room_in, holds_store}
-use Rattle.store.proofs.RoundTrip.{encode_length, room_over, holds_over, store_sound, store_front}
+use Rattle.store.proofs.RoundTrip.{encode_length, room_over, holds_over, holds_sound, holds_front}
 use Rattle.tape.specs.Tape.{Content, content_of, content_tests, content_refusal, room_of, tape_of}
 use Rattle.buffer.proofs.Parts.{Bytes}
 use Rattle.tape.proofs.Accepted.{Accepted, accepted, accepts}
@@ -49,11 +49,11 @@ paused_tape_lem store output h =
 module _ (t : Content) (store : List ℕ) where
   resume_allowed : first_refusal (resume_tests (some t) store) ≡ 0 → Accepted t
   unfolding content_refusal
-  resume_allowed h = accepted t (buffer_allowed (content_tests t) store (store_size t.settings) refl h).0
+  resume_allowed h = accepted t (buffer_allowed (content_tests t) store (store_size t.settings.capacity) refl h).0
 
-  resume_none : Accepted t → store_size t.settings ≤ length store → first_refusal (resume_tests (some t) store) ≡ 0
+  resume_none : Accepted t → store_size t.settings.capacity ≤ length store → first_refusal (resume_tests (some t) store) ≡ 0
   unfolding content_refusal
-  resume_none a fits = buffer_fits (content_tests t) store (store_size t.settings) refl (accepts t a) fits
+  resume_none a fits = buffer_fits (content_tests t) store (store_size t.settings.capacity) refl (accepts t a) fits
 
 -- what resume takes, pause writes again
 content_pauses : (tape store output : List ℕ) (o : Option Content) → Bytes tape → content_of tape ≡ o → (resumed o store).reply.answer ≡ 0
@@ -73,7 +73,7 @@ resumed_pauses tape store output bytes h fits = content_pauses tape store output
 
 -- the bytes that the store at the front of a buffer takes
 abbrev pub size_of : List ℕ → ℕ
-size_of store = store_size (room_in store).settings
+size_of store = store_size (room_in store).settings.capacity
 
 -- what pause writes, resume takes back: the tape of a store, resumed into any buffer that is long enough
 module _ (store : List ℕ) (held : holds_store store ≡ true) (buffer : List ℕ) where
@@ -81,8 +81,8 @@ module _ (store : List ℕ) (held : holds_store store ≡ true) (buffer : List �
   store_over =
       let r = room_in store in
       let n = size_of store in
-      let l = encode_length r (store_sound store held) in
-      let front : take n store ≡ encode r = ap (take n) (store_front store held) ∙ take_at (encode r) (drop n store) n l in
+      let l = encode_length r (holds_sound store held) in
+      let front : take n store ≡ encode r = ap (take n) (holds_front store held) ∙ take_at (encode r) (drop n store) n l in
       rw (l, front)
 
   tape_resumes : size_of store ≤ length buffer → resume_outcome (tape_of (room_in store)) buffer
@@ -90,7 +90,7 @@ module _ (store : List ℕ) (held : holds_store store ≡ true) (buffer : List �
   unfolding resume_outcome resumed
   tape_resumes fits =
       let r = room_in store in
-      let s = store_sound store held in
+      let s = holds_sound store held in
       let t = content_from r in
       let over = ap (λ (x : Room). overwrite (encode x) buffer) (tape_room r s) ∙ store_over in
       rw (tape_content r s, resume_none t buffer (accepted t (tape_accepted r s)) fits) (λ i. record { reply = replied 0 0; buffer = over i })

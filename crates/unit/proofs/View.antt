@@ -7,28 +7,19 @@ use mathlib.Core.Bool.{Bool, true, false, cond, not}
 use mathlib.Core.List.{List, [], ◌∷◌}
 use native.Mathlib.Omega.{arith}
 use native.Mathlib.Decide.{ℕ_discrete}
-use lib.ListN.{length, get_or, take, drop, length-drop}
-use lib.Seq.{get_or-drop, drop-drop, ext_get_or}
+use lib.ListN.{length}
 use borrow.Author.Tests.{ltb-true, le-ltb, ne_eqb, not-false}
-use Rattle.laws.proofs.Lists.{part_at}
 use Rattle.buffer.specs.Field.{part, address_of, overwrite}
-use Rattle.buffer.specs.Blocks.{block_at}
-use Rattle.buffer.proofs.Fields.{part_length}
-use Rattle.buffer.proofs.Blocks.{block_next, block_bound}
+use Rattle.board.specs.Board.{board_size}
 use Rattle.graph.specs.Graph.{version_count}
 use Rattle.refusal.specs.Refusal.{◌when◌, first_refusal}
 use Rattle.refusal.proofs.Refusals.{none_applies}
 use Rattle.command.specs.Code.{console_count, is_console}
-use Rattle.room.specs.declared.Settings.{Settings}
 use Rattle.room.specs.Room.{present, head}
-use Rattle.room.specs.Sound.{max_capacity}
-use Rattle.room.specs.Boards.{board_bytes}
-use Rattle.room.proofs.Lengths.{board_of-length, rules_sized}
+use Rattle.room.proofs.Lengths.{board_of-length}
 use Rattle.room.proofs.Steps.{common_self}
-use Rattle.store.specs.Layout.{header_size, block_size, room_size, board_at, board_place, encode, room_in, holds_room, holds_store}
-use Rattle.store.specs.Check.{board_part}
-use Rattle.store.proofs.Blocks.{block_size_lem, size_small}
-use Rattle.store.proofs.RoundTrip.{room_over, holds_over, store_sound, store_room}
+use Rattle.store.specs.Layout.{board_at, encode, room_in, holds_store}
+use Rattle.store.proofs.RoundTrip.{room_over, holds_over, holds_sound}
 use Rattle.store.proofs.Whole.{whole_sound, whole_small, whole_block}
 use Rattle.query.proofs.Answers.{head_answer, board_answer}
 use Rattle.unit.specs.Calls.{Outcome, buffer_tests, console_state_tests, console_tests, board_shown, pane_outcome, chosen, is_choice, view_tests, view_part, view_at_reply, view_address, view_refusal_reply}
@@ -52,45 +43,19 @@ view_allowed live frozen console choice e z =
     let here = not-false (present (room_in store) console) n.1.1.1.0 in
     record { first = named; second = named; held = not-false (holds_store store) n.1.1.0; here = here; there = here }
 
--- what stands in a part behind its first k bytes is a part
-part_behind : (s : List ℕ) (at k n size : ℕ) → size ≡ k + n → at + size ≤ length s → part s (at + k) n ≡ drop k (part s at size)
-part_behind s at k n size e inside =
-    let l = part_length s (at + k) n (omega arith) in
-    ext_get_or 0 (part s (at + k) n) (drop k (part s at size)) (rw (length-drop, l, part_length s at size inside) (omega arith))
-    (λ i m.
-    part_at s (at + k) n i (omega arith) ∙ ap (λ (j : ℕ). get_or s j 0) (omega arith)
-    ∙ sym (get_or-drop k (part s at size) i 0 ∙ part_at s at size (k + i) (omega arith)))
-
 -- the board of a console's head
 module _ (store : List ℕ) (console : ℕ) (a : Allowed store console console) where
-  abbrev settings : Settings
-  settings = (room_in store).settings
+  head_low : head (room_in store) console < version_count (room_in store).versions
+  head_low = rw (head_answer store a.held console a.first).0 at (head_answer store a.held console a.first).1
 
-  abbrev shown : ℕ
-  shown = head (room_in store) console
+  pub place_low : board_at (head (room_in store) console) < 2 ^ 32
+  place_low = omega (arith, whole_small store a.held, head_low)
 
-  room : holds_room store ≡ true
-  room = store_room store a.held
+  board_inside : board_at (head (room_in store) console) + board_size ≤ length store
+  board_inside = omega (arith, whole_block store a.held (head (room_in store) console) head_low)
 
-  head_low : shown < version_count (room_in store).versions
-  head_low = let h = head_answer store room console a.first in rw h.0 at h.1
-
-  pub place_low : board_place (room_in store).settings (head (room_in store) console) < 2 ^ 32
-  place_low = omega (arith, block_bound (block_size settings) shown 2048 max_capacity (size_small settings) (omega (arith, head_low, whole_small store room)))
-
-  block_inside : room_size settings shown + block_size settings ≤ length store
-  unfolding room_in
-  block_inside = omega (arith, whole_block store room shown head_low, block_next (block_size settings) shown)
-
-  board_inside : board_place settings shown + board_bytes settings ≤ length store
-  board_inside = omega (arith, block_inside, block_size_lem settings)
-
-  board_stands : part store (board_place settings shown) (board_bytes settings) ≡ board_shown (room_in store) console
-  unfolding room_in
-  board_stands =
-      part_behind store (room_size settings shown) board_at (board_bytes settings) (block_size settings) (block_size_lem settings) block_inside
-      ∙ ap (λ (s : List ℕ). board_part (take (block_size settings) s)) (sym (drop-drop (block_at (block_size settings) shown) header_size store))
-      ∙ board_answer store room shown head_low
+  board_stands : part store (board_at (head (room_in store) console)) board_size ≡ board_shown (room_in store) console
+  board_stands = board_answer store a.held (head (room_in store) console) head_low
 
 -- a view that is refused, and one that is not
 module _ (live frozen : List ℕ) (console choice : ℕ) where
@@ -104,13 +69,9 @@ module _ (live frozen : List ℕ) (console choice : ℕ) where
   unfolding view_part view_at_reply view_refusal_reply
   shown_view_lem none = rw none
 
-  pub view_room : (view_at_reply live frozen console choice).answer ≡ 0 → holds_room (chosen choice live frozen) ≡ true
-  unfolding view_at_reply
-  view_room none = store_room (chosen choice live frozen) (view_allowed live frozen console choice refl none).held
-
   pub view_done : (view_at_reply live frozen console choice).answer ≡ 0
-      → ((view_at_reply live frozen console choice).count + board_bytes (room_in (chosen choice live frozen)).settings ≤ length (chosen choice live frozen))
-      × (view_part live frozen console choice ≡ part (chosen choice live frozen) (view_at_reply live frozen console choice).count (board_bytes (room_in (chosen choice live frozen)).settings))
+      → ((view_at_reply live frozen console choice).count + board_size ≤ length (chosen choice live frozen))
+      × (view_part live frozen console choice ≡ part (chosen choice live frozen) (view_at_reply live frozen console choice).count board_size)
   unfolding view_at_reply view_part
   view_done none =
       let store = chosen choice live frozen in
@@ -126,34 +87,31 @@ module _ (live frozen : List ℕ) (console choice : ℕ) where
         rw (ne_eqb (first_refusal (view_tests live frozen console choice)) 0 given) (none, front ∙ chose ∙ address_front (chosen choice p q))
 
     pub view_placed : {store : List ℕ} {at : ℕ} → store ≡ chosen choice live frozen → (view_at_reply live frozen console choice).answer ≡ 0
-        → at ≡ (view_at_reply live frozen console choice).count → bytes ≡ part store at (board_bytes (room_in store).settings) → pointer ≡ address_of base at
+        → at ≡ (view_at_reply live frozen console choice).count → bytes ≡ part store at board_size → pointer ≡ address_of base at
         → (bytes ≡ view_part live frozen console choice) × (pointer ≡ view_address p q live frozen console choice)
     view_placed from none counted shown lies = (rw (from, counted) at shown ∙ sym (view_done none).1, rw (chose, counted) at lies)
 
 -- what is said of a store's own view
 module _ (store other : List ℕ) (console : ℕ) where
-  abbrev size : ℕ
-  size = board_bytes (room_in store).settings
-
   abbrev number : ℕ
   number = first_refusal (view_tests store other console 0)
 
   -- a board copied out has the same tests, and 19
-  board_number : (output : List ℕ) → size ≤ length output → first_refusal (buffer_tests (console_tests store console) output size) ≡ number
+  board_number : (output : List ℕ) → board_size ≤ length output → first_refusal (buffer_tests (console_tests store console) output board_size) ≡ number
   unfolding first_refusal
-  board_number output fits = rw (le-ltb (length output) size fits)
+  board_number output fits = rw (le-ltb (length output) board_size fits)
 
   shown_told : number ≡ 0 → Told store console (shown_view (room_in store) console)
   unfolding pane_outcome
   shown_told none =
       let a = view_allowed store other console 0 refl none in
       let r = room_in store in
-      let l = board_of-length (rules_sized r.settings) r.versions (head r console) in
+      let l = board_of-length r.versions (head r console) in
       record {
         answer = refl;
         no_count = refl;
         size = l;
-        place = rw (pair_answered store console console a, common_self r (whole_sound store (store_room store a.held)) console a.here) refl;
+        place = rw (pair_answered store console console a, common_self r (whole_sound store a.held) console a.here) refl;
         inside = rw l (board_inside store console a);
         stands = rw l (sym (board_stands store console a));
         copied = λ output fits. rw (board_number output fits, none);
@@ -201,7 +159,7 @@ same_view s t live other console held room = rw (held, room)
 as_paused_lem : AsPaused
 as_paused_lem store output lent paused fits live other console =
     let held = (pause_allowed store output paused).0 in
-    let s = store_sound store held in
+    let s = holds_sound store held in
     let frozen = ap (λ (o : Outcome). o.buffer) (paused_resumes store output lent paused fits) ∙ sym (store_over store held lent) in
     rw frozen
     (same_view (overwrite (encode (room_in store)) lent) store live other console (holds_over (room_in store) lent s ∙ sym held)

@@ -5,7 +5,7 @@
 use Rattle.std.specs.Prelude.{ℕ, Bool, cond, not, ◌||◌, List, [], ◌∷◌, ◌++◌, map, eqb, ltb, length, take}
 use Rattle.std.proofs.Math.Option.{Option, none, some}
 use Rattle.buffer.specs.Field.{overwrite, address_of}
-use Rattle.board.specs.Board.{cell_of}
+use Rattle.board.specs.Board.{board_size, cell_of}
 use Rattle.board.specs.declared.Viewer.{Viewer}
 use Rattle.board.specs.declared.Viewer.TheVariants.{Instructor}
 use Rattle.board.specs.Pane.{pane_of}
@@ -17,11 +17,11 @@ use Rattle.command.specs.Code.{is_console, is_strip, is_cell}
 use Rattle.command.specs.Decode.{decode}
 use Rattle.room.specs.Room.{Room, head, common, heard_count, open_settings, fresh}
 use Rattle.room.specs.Sound.{settings_in_range}
-use Rattle.room.specs.Boards.{board_bytes, board_in}
+use Rattle.room.specs.Boards.{board_of}
 use Rattle.room.specs.Origin.{origin}
 use Rattle.room.specs.Step.{absent, version_free, state_tests, step, clash_count}
 use Rattle.room.specs.Mergeable.{mergeable}
-use Rattle.store.specs.Layout.{store_size, board_place, encode, room_in, holds_store}
+use Rattle.store.specs.Layout.{store_size, board_at, encode, room_in, holds_store}
 use Rattle.tape.specs.Tape.{Content, content_of, tape_tests, room_of, tape_of}
 use Rattle.unit.specs.declared.Reply.{Reply}
 
@@ -52,7 +52,7 @@ buffer_tests tests buffer size = tests ++ (19 when too_short buffer size ∷ [])
 
 -- The calls that change a store, first opening: "Opening makes version 0 with console 0 on it."
 abbrev pub open_tests : ℕ → List ℕ → List (ℕ × Bool)
-open_tests capacity store = buffer_tests (8 when not (settings_in_range (open_settings capacity)) ∷ []) store (store_size (open_settings capacity))
+open_tests capacity store = buffer_tests (8 when not (settings_in_range (open_settings capacity)) ∷ []) store (store_size capacity)
 
 unfoldable pub open_outcome : ℕ → List ℕ → Outcome
 open_outcome capacity store = written (first_refusal (open_tests capacity store)) 0 (encode (fresh capacity)) store
@@ -75,7 +75,7 @@ command_outcome store command = step_outcome store (decode command)
 -- resume: "7 tape isn't such a sequence of whole records", 8 to 10, and the store of the room that the tape gives
 abbrev pub resume_tests : Option Content → List ℕ → List (ℕ × Bool)
 resume_tests none store = tape_tests none
-resume_tests (some t) store = buffer_tests (tape_tests (some t)) store (store_size t.settings)
+resume_tests (some t) store = buffer_tests (tape_tests (some t)) store (store_size t.settings.capacity)
 
 unfoldable pub resumed : Option Content → List ℕ → Outcome
 resumed none store = written (first_refusal (resume_tests none store)) 0 [] store
@@ -148,13 +148,12 @@ origin_reply store console strip cell =
 
 -- the board that a console shows: that of its head
 abbrev pub board_shown : Room → ℕ → List ℕ
-board_shown room console = board_in room (head room console)
+board_shown room console = board_of room.versions (head room console)
 
 -- "Each is copied out as a board is.": the instructor's or the student's pane of a console
 unfoldable pub pane_outcome : Viewer → List ℕ → ℕ → List ℕ → Outcome
 pane_outcome viewer store console output =
-    let room : Room = room_in store in
-    output_outcome (console_tests store console) (board_bytes room.settings) (pane_of viewer (board_shown room console)) output
+    output_outcome (console_tests store console) board_size (pane_of viewer (board_shown (room_in store) console)) output
 
 -- "a console's board copied out": "The instructor's pane is the board."
 abbrev pub board_outcome : List ℕ → ℕ → List ℕ → Outcome
@@ -190,7 +189,7 @@ view_part live frozen console choice =
 unfoldable pub view_at_reply : List ℕ → List ℕ → ℕ → ℕ → Reply
 view_at_reply live frozen console choice =
     let room : Room = room_in (chosen choice live frozen) in
-    question_reply (view_tests live frozen console choice) (board_place room.settings (head room console))
+    question_reply (view_tests live frozen console choice) (board_at (head room console))
 
 -- where the part lies in memory, by the pointers to the two stores: in the store chosen, at that place
 abbrev pub view_address : ℕ × ℕ → ℕ × ℕ → List ℕ → List ℕ → ℕ → ℕ → ℕ × ℕ

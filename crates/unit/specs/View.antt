@@ -3,10 +3,10 @@
 -- `room_view` (unit/src/views.rt).
 use Rattle.std.specs.Prelude.{ℕ, ◌+◌, ◌≤◌, ◌≡◌, cond, List, [], eqb, length}
 use Rattle.buffer.specs.Field.{part}
+use Rattle.board.specs.Board.{board_size}
 use Rattle.command.specs.Code.{is_console}
 use Rattle.room.specs.Room.{Room, head}
-use Rattle.room.specs.Boards.{board_bytes}
-use Rattle.store.specs.Layout.{store_size, board_place, room_in}
+use Rattle.store.specs.Layout.{store_size, board_at, room_in}
 use Rattle.unit.specs.declared.Reply.{Reply}
 use Rattle.unit.specs.Calls.{replied, written, common_reply, board_shown, board_outcome, view_part, view_at_reply, view_refusal_reply, pause_outcome, paused_tape, resume_outcome}
 
@@ -31,7 +31,7 @@ refused_view number = record { bytes = []; at_reply = replied number 0; refusal_
 abbrev pub shown_view : Room → ℕ → View
 shown_view room console = record {
   bytes = board_shown room console;
-  at_reply = replied 0 (board_place room.settings (head room console));
+  at_reply = replied 0 (board_at (head room console));
   refusal_reply = replied 0 0;
 }
 
@@ -41,20 +41,20 @@ pub record Told (store : List ℕ) (console : ℕ) (view : View) : Type 0 where
   pub answer : view.at_reply.answer ≡ view.refusal_reply.answer
   pub no_count : view.refusal_reply.count ≡ 0
   -- "A refusal gives a part of length 0", and nothing else does
-  pub size : length view.bytes ≡ cond (eqb view.refusal_reply.answer 0) (board_bytes (room_in store).settings) 0
+  pub size : length view.bytes ≡ cond (eqb view.refusal_reply.answer 0) board_size 0
   -- the place that the first counts: that of the board of the console's head, which is its common version with itself
-  pub place : view.at_reply.count ≡ cond (eqb view.refusal_reply.answer 0) (board_place (room_in store).settings (common_reply store console console).count) 0
+  pub place : view.at_reply.count ≡ cond (eqb view.refusal_reply.answer 0) (board_at (common_reply store console console).count) 0
   -- the part's bytes are those that stand there
   pub inside : view.at_reply.count + length view.bytes ≤ length store
   pub stands : view.bytes ≡ part store view.at_reply.count (length view.bytes)
   -- and those that are copied out as the console's board into any output that is long enough; or both are refused alike
-  pub copied : (output : List ℕ) → board_bytes (room_in store).settings ≤ length output
-      → board_outcome store console output ≡ written view.refusal_reply.answer (board_bytes (room_in store).settings) view.bytes output
+  pub copied : (output : List ℕ) → board_size ≤ length output
+      → board_outcome store console output ≡ written view.refusal_reply.answer board_size view.bytes output
 
 -- "as it was at pause": of a room that was paused, and resumed into any buffer that is long enough, each console is shown as the paused store
 -- showed it, whatever the live store is by then
 abbrev pub AsPaused : Type 0
-AsPaused = (store output lent : List ℕ) → (pause_outcome store output).reply.answer ≡ 0 → store_size (room_in store).settings ≤ length lent
+AsPaused = (store output lent : List ℕ) → (pause_outcome store output).reply.answer ≡ 0 → store_size (room_in store).settings.capacity ≤ length lent
     → let frozen = (resume_outcome (paused_tape store output) lent).buffer in
     (live other : List ℕ) (console : ℕ) → view_of live frozen console 1 ≡ view_of store other console 0
 

@@ -28,7 +28,7 @@ fn opening_refusal(capacity: u32, store: &[u8]) -> u32
 {
     let settings = settings_for(capacity);
     let out_of_range = when(8, !settings_in_range(settings));
-    let too_short_lem = when(19, store.len() < store_size(settings));
+    let too_short_lem = when(19, store.len() < store_size(settings.capacity));
     first_of(out_of_range, too_short_lem)
 }
 

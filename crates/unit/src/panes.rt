@@ -1,9 +1,8 @@
 // The calls that copy a console's board out: the board, which is the instructor's pane, and the student's pane.
 ghost use Rattle.std.specs.Prelude.{◌≡◌};
+ghost use Rattle.board.specs.Board.{board_size};
 ghost use Rattle.board.specs.declared.Viewer.TheVariants.{Instructor, Student};
 ghost use Rattle.refusal.specs.Refusal.{first_refusal};
-ghost use Rattle.room.specs.Boards.{board_bytes};
-ghost use Rattle.store.specs.Layout.{room_in};
 ghost use Rattle.unit.specs.Calls.{buffer_tests, console_tests, pane_outcome, board_outcome};
 
 use crate::Reply;
@@ -12,19 +11,16 @@ use crate::refusals::pair_refusal;
 use board::Viewer;
 use board::panes::show_board;
 use graph::Console;
-use query::{head_of, settings_of, version_board};
-use refusal::when;
-use store::places::board_bytes;
+use query::{board_of, head_of};
+use refusal::{first_of, when};
+use store::places::BOARD;
 
 // Why a console's board can't be copied out into this buffer, or 0.
 fn pane_refusal(store: &[u8], console: u32, pane: &[u8]) -> u32
-    ensures { result ≡ first_refusal (buffer_tests (console_tests store.now console) pane.now (board_bytes (room_in store.now).settings)) }
+    ensures { result ≡ first_refusal (buffer_tests (console_tests store.now console) pane.now board_size) }
 {
     let refusal = pair_refusal(store, console, console);
-    if refusal != 0 {
-        return refusal;
-    }
-    when(19, pane.len() < board_bytes(settings_of(store)))
+    first_of(refusal, when(19, pane.len() < BOARD))
 }
 
 // Copies out what a viewer sees of a console's board, which is the board of its head.
@@ -36,9 +32,9 @@ fn copy_pane(store: &[u8], console: u32, pane: &mut [u8], viewer: Viewer) -> Rep
         return reply_of(refusal);
     }
     let v = head_of(store, Console(size(console)));
-    let end = board_bytes(settings_of(store));
-    show_board(&mut pane[..end], version_board(store, v), viewer);
-    counted(end)
+    let end = BOARD;
+    show_board(&mut pane[..end], board_of(store, v), viewer);
+    counted(BOARD)
 }
 
 // Copies a console's board out.

@@ -3,7 +3,7 @@ ghost use Rattle.std.specs.Prelude.{◌≡◌, true, ◌<◌};
 ghost use Rattle.refusal.specs.Refusal.{first_refusal};
 ghost use Rattle.command.specs.Code.{console_count};
 ghost use Rattle.room.specs.Room.{head};
-ghost use Rattle.store.specs.Layout.{board_place, room_in, holds_store, holds_room};
+ghost use Rattle.store.specs.Layout.{board_at, room_in, holds_store};
 ghost use Rattle.unit.specs.Calls.{chosen, view_input_tests, view_tests, view_part, view_at_reply, view_address, view_refusal_reply};
 
 use crate::Reply;
@@ -11,10 +11,10 @@ use crate::answers::{counted, reply_of, size};
 use buffer::part_of;
 use command::numbers::is_console;
 use graph::Console;
-use query::{head_of, is_present, settings_of};
+use query::{head_of, is_present};
 use refusal::{first_of, when};
 use store::judge::holds;
-use store::places::{board_bytes, board_place};
+use store::places::{BOARD, board_at};
 
 // The number of stores that a choice can name.
 const CHOICES: u32 = 2;
@@ -62,12 +62,12 @@ fn view_refusal<'a>(live: &'a [u8], frozen: &'a [u8], console: u32, choice: u32)
 
 // Where in a store the board that a console shows begins.
 fn shown_at(store: &[u8], c: Console) -> usize
-    requires store_value { holds_room store.now ≡ true }
+    requires store_value { holds_store store.now ≡ true }
     requires c_lt_console_count { c.0 < console_count }
-    ensures { result ≡ board_place (room_in store.now).settings (head (room_in store.now) c.0) }
+    ensures { result ≡ board_at (head (room_in store.now) c.0) }
 {
     let v = head_of(store, c);
-    board_place(settings_of(store), v)
+    board_at(v)
 }
 
 // Where in the store chosen the view begins.
@@ -110,5 +110,5 @@ pub fn room_view<'a>(live: &'a [u8], frozen: &'a [u8], console: u32, choice: u32
     if at.answer != 0 {
         return &store[..0];
     }
-    part_of(store, size(at.count), board_bytes(settings_of(store)))
+    part_of(store, size(at.count), BOARD)
 }

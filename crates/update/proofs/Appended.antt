@@ -1,27 +1,23 @@
--- The parts of a block that are written one behind the other make the block, and a block that is written where it was lent is in its place.
+-- The parts of a block that are written one behind the other make the block.
 -- Assumes nothing.
-use Prim.Native.Nat.{ℕ, ◌+◌, ◌-◌, ◌<◌, ◌≤◌}
-use mathlib.Core.Path.{◌≡◌, sym, ap, ◌∙◌}
-use mathlib.Core.List.{List, ◌++◌, append-nil, append_assoc}
+use Prim.Native.Nat.{ℕ, suc, ◌+◌, ◌-◌, ◌<◌, ◌≤◌}
+use mathlib.Core.Path.{◌≡◌, refl, ap, ◌∙◌}
+use mathlib.Core.List.{List, ◌++◌}
 use native.Mathlib.Omega.{arith}
 use lib.Bits.{bit_or}
-use lib.ListN.{length, set, take, drop, length-append, length-set, length-drop, take-append-drop, drop_of_length-le}
-use lib.Seq.{take_at, drop_at, drop-drop}
-use Rattle.laws.proofs.Lists.{rest_all}
-use Rattle.buffer.specs.Field.{byte, put_word, zeros}
+use lib.ListN.{length, set, take, drop, length-append, length-set}
+use Rattle.buffer.specs.Field.{byte, put_word, zeros, with_part}
 use Rattle.buffer.specs.Row.{with_member, union}
-use Rattle.buffer.specs.Blocks.{block_at, block_in}
 use Rattle.buffer.proofs.Fields.{part_length}
-use Rattle.buffer.proofs.Blocks.{block_apart, block_long}
 use Rattle.buffer.proofs.Bytewise.{bytewise_length}
-use Rattle.buffer.proofs.Patches.{put_lent}
-use Rattle.board.specs.Board.{board_size, enter}
-use Rattle.board.specs.Rule.{paper_rule}
+use Rattle.buffer.proofs.Patches.{put_lent, with_length, with_part_lem, with_here, with_next}
+use Rattle.board.specs.Board.{board_size, enter, merge_board}
 use Rattle.board.proofs.Length.{enter_length, merge_board-length}
-use Rattle.room.specs.Sound.{max_capacity}
-use Rattle.store.specs.Layout.{node_size, row_size, board_at, entry_node_bytes, merge_node_bytes, merge_node_code}
-use Rattle.store.specs.Check.{row_part, board_part}
-use Rattle.update.specs.Append.{entry_block, merge_front, merged_board, merge_block, with_merge, merge_over}
+use Rattle.graph.specs.declared.Node.{Node}
+use Rattle.graph.specs.declared.Node.TheVariants.{Entry, Merge}
+use Rattle.store.specs.Layout.{node_size, row_size, block_size, entries_at, block_at, row_at, board_at, entry_node_bytes, merge_node_bytes, merge_node_code}
+use Rattle.store.specs.Check.{row_part, board_part, merge_of_boards, entries_part}
+use Rattle.update.specs.Append.{entry_block, merge_block, with_entry, with_merge, node_with}
 
 -- the nodes, from their first byte on
 pub entry_node_made : (node z a b c d : List ℕ) (p code strip operand : ℕ) → length node ≡ node_size → z ≡ zeros (length node)
@@ -32,114 +28,145 @@ pub merge_node_made : (node z a b c d : List ℕ) (p q l : ℕ) → length node 
     → a ≡ set z 0 (byte merge_node_code) → b ≡ put_word a 4 p → c ≡ put_word b 6 q → d ≡ put_word c 8 l → d ≡ merge_node_bytes p q l
 merge_node_made node z a b c d p q l long ez ea eb ec ed = rw (ed, ec, eb, ea, ez, long)
 
--- rows keep their lengths
+pub node_long : (node : Node) (l : ℕ) → length (node_with node l) ≡ node_size
+node_long (Entry p code strip operand) l = refl
+node_long (Merge p q) l = refl
+
+-- rows and boards keep their lengths
 pub member_keeps : (n v : ℕ) (x : List ℕ) → length x ≡ n → length (with_member x v) ≡ n
 member_keeps n v x l = length-set x _ _ ∙ l
 
-pub joined_keeps : (n v : ℕ) (other x : List ℕ) → length other ≡ n → length x ≡ n → length (with_member (union x other) v) ≡ n
+joined_keeps : (n v : ℕ) (other x : List ℕ) → length other ≡ n → length x ≡ n → length (with_member (union x other) v) ≡ n
 joined_keeps n v other x k l = member_keeps n v (union x other) (bytewise_length bit_or x other (omega arith) ∙ l)
 
--- all from a place on that was lent, and came back as it is now
-pub rest_put : (s new : List ℕ) (at : ℕ) → at ≤ length s → take at s ++ (new ++ drop (length s - at) (drop at s)) ≡ take at s ++ new
-rest_put s new at l =
-    ap (λ (x : List ℕ). take at s ++ (new ++ x)) (drop_of_length-le (drop at s) {i = length s - at} (rw length-drop (omega arith)))
-    ∙ ap (λ (x : List ℕ). take at s ++ x) (append-nil new)
+pub entered_keeps : (n code k operand : ℕ) (x : List ℕ) → length x ≡ n → length (enter code k operand x) ≡ n
+entered_keeps n code k operand x l = enter_length code k operand x ∙ l
 
--- the same behind a front that was written first
-pub rest_behind : (front rest new : List ℕ) (at : ℕ) → length front ≡ at
-    → take at (front ++ rest) ++ (new ++ drop (length (front ++ rest) - at) (drop at (front ++ rest))) ≡ front ++ new
-rest_behind front rest new at l =
-    rest_put (front ++ rest) new at (rw length-append (omega arith)) ∙ ap (λ (x : List ℕ). x ++ new) (take_at front rest at l)
+-- the board of version p, copied over whatever stands in the part of version n: the part is then that board
+pub parent_put : (s : List ℕ) (n p : ℕ) {t : List ℕ} → p < n → block_at (suc n) ≤ length s → t ≡ with_part s (board_at n) (board_part s p)
+    → (t ≡ with_part s (board_at n) (board_part s p)) × (board_part t n ≡ board_part s p)
+parent_put s n p lower fits e =
+    let long : length (board_part s p) ≡ board_size = part_length s (board_at p) board_size (omega arith) in
+    (e, ap (λ (u : List ℕ). board_part u n) e ∙ with_here s (board_part s p) (board_at n) (omega arith) board_size long)
 
--- a block written node, row and board, where the row and the board are made of what stood there
-module _ (b node : List ℕ) (f g : List ℕ → List ℕ) (long : board_at ≤ length b) (ln : length node ≡ node_size)
-    (keeps : (u : List ℕ) → length u ≡ row_size → length (f u) ≡ row_size) where
-  abbrev line : List ℕ
-  line = row_part b
+-- a merge of copies of three boards, written where the board of version n was lent
+pub merged_put : (s : List ℕ) (n p q l : ℕ) {new base mine given : List ℕ} {at clashes : ℕ} → at ≡ board_at n
+    → (base ≡ board_part s l) × (mine ≡ board_part s p) × (given ≡ board_part s q)
+    → (new ≡ (merge_board base mine given).bytes) × (clashes ≡ (merge_board base mine given).clashes)
+    → (take at s ++ (new ++ drop (at + board_size - at) (drop at s)) ≡ with_part s (board_at n) (merge_of_boards s p q l).bytes)
+    × (clashes ≡ (merge_of_boards s p q l).clashes)
+merged_put s n p q l {new} {at = at} {clashes = clashes} place copied e =
+    let merged : (new ≡ (merge_of_boards s p q l).bytes) × (clashes ≡ (merge_of_boards s p q l).clashes) = rw (copied.0, copied.1, copied.2) at e in
+    (put_lent s new (merge_of_boards s p q l).bytes at (board_at n) board_size place merged.0 (merge_board-length (board_part s l) (board_part s p) (board_part s q)), merged.1)
 
-  abbrev board : List ℕ
-  board = board_part b
+-- the row and the board of a lower version stay as they were
+module _ (s x : List ℕ) (n at v : ℕ) (lower : v < n) (behind : block_at n ≤ at) (fits : at + length x ≤ length s) where
+  row_kept : row_part (with_part s at x) v ≡ row_part s v
+  row_kept = with_part_lem s x at fits (row_at v) row_size (omega arith) (λ k l a b. omega arith)
 
-  line_long : length line ≡ row_size
-  line_long = part_length b node_size row_size (omega arith)
+  board_kept : board_part (with_part s at x) v ≡ board_part s v
+  board_kept = with_part_lem s x at fits (board_at v) board_size (omega arith) (λ k l a b. omega arith)
 
-  rest_is : drop node_size b ≡ line ++ board
-  rest_is = sym (take-append-drop row_size (drop node_size b)) ∙ ap (λ (x : List ℕ). line ++ x) (drop-drop row_size node_size b)
+-- a block written node, row and board
+module _ (s node line board : List ℕ) (n : ℕ) (fits : block_at (suc n) ≤ length s) (ln : length node ≡ node_size) (ll : length line ≡ row_size)
+    (lb : length board ≡ board_size) where
+  block_long : length (node ++ line ++ board) ≡ block_size
+  block_long = rw (length-append, length-append) (omega arith)
 
-  -- the node first
-  first_is : {x : List ℕ} → x ≡ node → x ++ drop node_size b ≡ node ++ (line ++ board)
-  first_is e = λ i. e i ++ rest_is i
+  block_written : {a b c : List ℕ} → a ≡ with_part s (block_at n) node → b ≡ with_part a (row_at n) line → c ≡ with_part b (board_at n) board
+      → c ≡ with_part s (block_at n) (node ++ line ++ board)
+  block_written ea eb ec =
+      let front : length (node ++ line) ≡ node_size + row_size = rw length-append (omega arith) in
+      rw (ec, eb, ea)
+      (ap (λ (t : List ℕ). with_part t (board_at n) board) (with_next s node (block_at n) (omega arith) (row_at n) line (omega arith))
+      ∙ with_next s (node ++ line) (block_at n) (omega arith) (board_at n) board (omega arith))
 
-  -- then the row
-  second_is : {s y : List ℕ} → s ≡ node ++ (line ++ board) → y ≡ f (take row_size (drop node_size s))
-      → take node_size s ++ (y ++ drop row_size (drop node_size s)) ≡ (node ++ f line) ++ board
-  second_is {s} {y} e h =
-      let behind : drop node_size s ≡ line ++ board = ap (drop node_size) e ∙ drop_at node (line ++ board) node_size ln in
-      let mine : take row_size (drop node_size s) ≡ line = ap (take row_size) behind ∙ take_at line board row_size line_long in
-      let front : take node_size s ≡ node = ap (take node_size) e ∙ take_at node (line ++ board) node_size ln in
-      let last : drop row_size (drop node_size s) ≡ board = ap (drop row_size) behind ∙ drop_at line board row_size line_long in
-      (λ i. front i ++ ((h ∙ ap f mine) i ++ last i)) ∙ sym (append_assoc node (f line) board)
+module _ (s : List ℕ) (n : ℕ) (fits : block_at (suc n) ≤ length s) where
+  row_long : (v : ℕ) → v < n → length (row_part s v) ≡ row_size
+  row_long v l = part_length s (row_at v) row_size (omega arith)
 
-  -- and the board
-  pub block_put : {x y z s t : List ℕ} → x ≡ node → s ≡ x ++ drop node_size b → y ≡ f (take row_size (drop node_size s))
-      → t ≡ take node_size s ++ (y ++ drop row_size (drop node_size s)) → z ≡ g (take (length t - board_at) (drop board_at t))
-      → take board_at t ++ (z ++ drop (length t - board_at) (drop board_at t)) ≡ node ++ f line ++ g board
-  block_put {x} {y} {z} {s} {t} ex es ey et ez =
-      let is = et ∙ second_is (es ∙ first_is ex) ey in
-      let front : length (node ++ f line) ≡ board_at = rw (length-append, ln, keeps line line_long) in
-      let mine : take (length t - board_at) (drop board_at t) ≡ board =
-      rest_all t board_at ∙ ap (drop board_at) is ∙ drop_at (node ++ f line) board board_at front in
-      rest_put t z board_at (rw is (rw length-append (omega arith)))
-      ∙ (λ i. (ap (take board_at) is ∙ take_at (node ++ f line) board board_at front) i ++ (ez ∙ ap g mine) i)
+  board_long : (v : ℕ) → v < n → length (board_part s v) ≡ board_size
+  board_long v l = part_length s (board_at v) board_size (omega arith)
 
--- the blocks of merges and entries are as long as their parents'
-pub entry_long : (parent : List ℕ) (n p code strip operand : ℕ) → length parent ≡ board_at + board_size
-    → length (entry_block paper_rule parent n p code strip operand) ≡ board_at + board_size
-unfolding entry_block
-entry_long parent n p code strip operand l =
-    let line = member_keeps row_size n (row_part parent) (part_length parent node_size row_size (omega arith)) in
-    let board : length (enter code strip operand (board_part parent)) ≡ board_size = enter_length code strip operand (board_part parent) ∙ rw length-drop (omega arith) in
-    rw (length-append, length-append, line, board)
+  -- an entry
+  module _ (p code strip operand : ℕ) (lower : p < n) where
+    abbrev entry_line : List ℕ
+    entry_line = with_member (row_part s p) n
 
-pub front_long : (mine given : List ℕ) (n p q l : ℕ) → board_at ≤ length mine → board_at ≤ length given → length (merge_front mine given n p q l) ≡ board_at
-front_long mine given n p q l lm lg =
-    rw (length-append, joined_keeps row_size n (row_part given) (row_part mine) (part_length given node_size row_size (omega arith)) (part_length mine node_size row_size (omega arith)))
+    abbrev entry_board : List ℕ
+    entry_board = enter code strip operand (board_part s p)
 
-pub merge_long : (base mine given : List ℕ) (n p q l : ℕ) → board_at ≤ length mine → board_at ≤ length given
-    → length (merge_block paper_rule base mine given n p q l) ≡ board_at + board_size
-unfolding merge_block
-merge_long base mine given n p q l lm lg =
-    rw (length-append, front_long mine given n p q l lm lg, merge_board-length (board_part base) (board_part mine) (board_part given))
+    entry_line-length : length entry_line ≡ row_size
+    entry_line-length = member_keeps row_size n (row_part s p) (row_long p lower)
 
--- the blocks of a merge's base and parents, which are below it, lie inside
-pub sides_inside : (size n p q l len : ℕ) → p < n → q < n → l < n → block_at size n + size ≤ len
-    → (block_at size p + size ≤ len) × (block_at size q + size ≤ len) × (block_at size l + size ≤ len)
-sides_inside size n p q l len first second third fits =
-    (omega (arith, block_apart size p n first), omega (arith, block_apart size q n second), omega (arith, block_apart size l n third))
+    entry_board-length : length entry_board ≡ board_size
+    entry_board-length = entered_keeps board_size code strip operand (board_part s p) (board_long p lower)
 
--- a merge of copies of three blocks, written where the block of version n was lent
-pub merged_put : (size : ℕ) (blocks : List ℕ) (n p q l : ℕ) {new base mine given : List ℕ} {at clashes : ℕ} → (size ≡ board_at + board_size) × (block_at size n + size ≤ length blocks)
-    → (p < n) × (q < n) × (l < n) × (n < max_capacity) → at ≡ block_at size n
-    → (base ≡ block_in size blocks l) × (mine ≡ block_in size blocks p) × (given ≡ block_in size blocks q)
-    → (new ≡ merge_block paper_rule base mine given n p q l) × (clashes ≡ (merged_board paper_rule base mine given).clashes)
-    → (take at blocks ++ (new ++ drop (at + size - at) (drop at blocks)) ≡ with_merge paper_rule size blocks n p q l)
-    × (clashes ≡ (merge_over paper_rule size blocks p q l).clashes)
-merged_put size blocks n p q l {new} {at = at} {clashes = clashes} fits low place copied e =
-    let merged : (new ≡ merge_block paper_rule (block_in size blocks l) (block_in size blocks p) (block_in size blocks q) n p q l) × (clashes ≡ (merge_over paper_rule size blocks p q l).clashes) =
-    rw (copied.0, copied.1, copied.2) at e in
-    let isSize = fits.0 in
-    let inside = sides_inside size n p q l (length blocks) low.0 low.1 low.2 fits.1 in
-    let mine = block_long size blocks p inside.0 in
-    let given = block_long size blocks q inside.1 in (
-      put_lent blocks new _ at (block_at size n) size place merged.0
-          (merge_long (block_in size blocks l) (block_in size blocks p) (block_in size blocks q) n p q l (omega arith) (omega arith) ∙ sym isSize),
-      merged.1,
-    )
+    pub entry_block-length : length (entry_block s n p code strip operand) ≡ block_size
+    unfolding entry_block
+    entry_block-length =
+        block_long s (entry_node_bytes p code strip operand) entry_line entry_board n fits refl entry_line-length entry_board-length
 
--- the block of a merge, written front and board
-pub merge_put : (rest base mine given : List ℕ) {front new : List ℕ} (n p q l : ℕ) → board_at ≤ length mine → board_at ≤ length given
-    → front ≡ merge_front mine given n p q l → new ≡ (merged_board paper_rule base mine given).bytes
-    → take board_at (front ++ rest) ++ (new ++ drop (length (front ++ rest) - board_at) (drop board_at (front ++ rest))) ≡ merge_block paper_rule base mine given n p q l
-unfolding merge_block
-merge_put rest base mine given {front} {new} n p q l lm lg ef en =
-    rest_behind front rest new board_at (ap length ef ∙ front_long mine given n p q l lm lg) ∙ (λ i. ef i ++ en i)
+    pub entry_appended : (a b c d : List ℕ) → a ≡ with_part s (block_at n) (entry_node_bytes p code strip operand)
+        → b ≡ with_part a (row_at n) (with_member (row_part a p) n) → c ≡ with_part b (board_at n) (enter code strip operand (board_part b p))
+        → d ≡ with_part c entries_at (with_member (entries_part c) n) → d ≡ with_entry s n p code strip operand
+    unfolding with_entry entry_block
+    entry_appended a b c d ea eb ec ed =
+        let node : List ℕ = entry_node_bytes p code strip operand in
+        let ln : length node ≡ node_size = refl in
+        let ll = entry_line-length in
+        let one : row_part a p ≡ row_part s p = rw ea (row_kept s node n (block_at n) p lower (omega arith) (omega arith)) in
+        let two : b ≡ with_part a (row_at n) entry_line = rw one at eb in
+        let long : length a ≡ length s = rw ea (with_length s node (block_at n) (omega arith)) in
+        let three : board_part b p ≡ board_part s p =
+        ap (λ (t : List ℕ). board_part t p) two
+        ∙ board_kept a entry_line n (row_at n) p lower (omega arith) (omega arith)
+        ∙ ap (λ (t : List ℕ). board_part t p) ea
+        ∙ board_kept s node n (block_at n) p lower (omega arith) (omega arith) in
+        let four : c ≡ with_part b (board_at n) entry_board = rw three at ec in
+        let whole = block_written s node entry_line entry_board n fits ln ll entry_board-length ea two four in
+        let size = entry_block-length in
+        let five : entries_part c ≡ entries_part s =
+        rw whole (with_part_lem s (node ++ entry_line ++ entry_board) (block_at n) (omega arith) entries_at row_size (omega arith) (λ k l x y. omega arith)) in
+        ed ∙ rw (five, whole)
+
+  -- a merge
+  module _ (p q l : ℕ) (first : p < n) (second : q < n) (third : l < n) where
+    abbrev merge_line : List ℕ
+    merge_line = with_member (union (row_part s p) (row_part s q)) n
+
+    abbrev merged_board : List ℕ
+    merged_board = (merge_of_boards s p q l).bytes
+
+    merge_line-length : length merge_line ≡ row_size
+    merge_line-length = joined_keeps row_size n (row_part s q) (row_part s p) (row_long q second) (row_long p first)
+
+    merged_board-length : length merged_board ≡ board_size
+    merged_board-length = merge_board-length (board_part s l) (board_part s p) (board_part s q)
+
+    pub merge_block-length : length (merge_block s n p q l) ≡ block_size
+    unfolding merge_block
+    merge_block-length = block_long s (merge_node_bytes p q l) merge_line merged_board n fits refl merge_line-length merged_board-length
+
+    pub merge_appended : (a b c : List ℕ) (clashes : ℕ) → a ≡ with_part s (block_at n) (merge_node_bytes p q l)
+        → b ≡ with_part a (row_at n) (with_member (union (row_part a p) (row_part a q)) n)
+        → (c ≡ with_part b (board_at n) (merge_of_boards b p q l).bytes) × (clashes ≡ (merge_of_boards b p q l).clashes)
+        → (c ≡ with_merge s n p q l) × (clashes ≡ (merge_of_boards s p q l).clashes)
+    unfolding with_merge merge_block
+    merge_appended a b c clashes ea eb ec =
+        let node : List ℕ = merge_node_bytes p q l in
+        let ln : length node ≡ node_size = refl in
+        let ll = merge_line-length in
+        let row : (v : ℕ) → v < n → row_part a v ≡ row_part s v =
+        λ v i. rw ea (row_kept s node n (block_at n) v i (omega arith) (omega arith)) in
+        let two : b ≡ with_part a (row_at n) merge_line = rw (row p first, row q second) at eb in
+        let long : length a ≡ length s = rw ea (with_length s node (block_at n) (omega arith)) in
+        let board : (v : ℕ) → v < n → board_part b v ≡ board_part s v =
+        λ v i.
+        ap (λ (t : List ℕ). board_part t v) two
+        ∙ board_kept a merge_line n (row_at n) v i (omega arith) (omega arith)
+        ∙ ap (λ (t : List ℕ). board_part t v) ea
+        ∙ board_kept s node n (block_at n) v i (omega arith) (omega arith) in
+        let four : (c ≡ with_part b (board_at n) merged_board) × (clashes ≡ (merge_of_boards s p q l).clashes) =
+        rw (board l third, board p first, board q second) at ec in
+        (block_written s node merge_line merged_board n fits ln ll merged_board-length ea two four.0, four.1)

@@ -16,7 +16,7 @@ use Rattle.buffer.proofs.Stands.{Stands, stands_kept}
 use Rattle.buffer.proofs.Parts.{put_stands}
 use Rattle.buffer.proofs.Writes.{put_length, put_other_lem}
 use Rattle.command.specs.Code.{console_count}
-use Rattle.store.specs.Layout.{commons_size, common_at}
+use Rattle.store.specs.Layout.{header_size, commons_at, commons_end, common_at}
 use Rattle.store.specs.Check.{common_in}
 use Rattle.update.specs.Commons.{put_common, put_other, put_others, joined_field, put_head}
 
@@ -35,7 +35,7 @@ module _ (s : List ℕ) (c k x : ℕ) where
       put_other_lem (put_word s (common_at c k) x) (common_at k c) x i f.2 f.3
       ∙ put_other_lem s (common_at c k) x i f.0 f.1
 
-  module _ (cl : c < console_count) (kl : k < console_count) (ne : k ≡ c → ⊥) (long : length s ≡ commons_size) where
+  module _ (cl : c < console_count) (kl : k < console_count) (ne : k ≡ c → ⊥) (long : header_size ≤ length s) where
     pub put_row_lem : Stands (put_common s c k x) (common_at c k) (word x)
     put_row_lem =
         stands_kept (put_stands s (common_at c k) x (omega arith))
@@ -76,7 +76,7 @@ module _ (s : List ℕ) (c : ℕ) (field : ℕ → ℕ) where
       other_kept (put_others s c field n) c n (field n) i (f n (omega arith)) ∙ others_kept n i (λ k l. f k (omega arith))
 
   -- and each of them stands at both of its places
-  others_stand : c < console_count → length s ≡ commons_size → (n k : ℕ) → n ≤ console_count → k < n → (k ≡ c → ⊥)
+  others_stand : c < console_count → header_size ≤ length s → (n k : ℕ) → n ≤ console_count → k < n → (k ≡ c → ⊥)
       → Stands (put_others s c field n) (common_at c k) (word (field k)) × Stands (put_others s c field n) (common_at k c) (word (field k))
   unfolding put_others
   others_stand cl long zero k l m kc = absurd (omega arith)
@@ -86,7 +86,7 @@ module _ (s : List ℕ) (c : ℕ) (field : ℕ → ℕ) where
       elim (ℕ_discrete k n) [
         | yes e ↦
             let nc : n ≡ c → ⊥ = omega arith in
-            let fits : length t ≡ commons_size = omega (arith, others_length n) in
+            let fits : header_size ≤ length t = omega (arith, others_length n) in
             rw (other_console t c n x nc, e) (put_row_lem t c n x cl l nc fits, put_column t c n x cl l nc fits)
         | no b ↦
             let old = others_stand cl long n k (omega arith) (omega arith) kc in
@@ -129,22 +129,6 @@ module _ {s : List ℕ} {c : ℕ} {field : ℕ → ℕ} {n : ℕ} {t : List ℕ}
       λ j. ap₂ (λ (a b : ℕ). a * 256 + b) (kept j (common_at j n) (omega arith) (omega arith)) (kept j (common_at j n + 1) (omega arith) (omega arith)) in
       ap₂ max (read c) (read d)
 
--- A table with the head of c written: where every other field of it was `new`, so are all.
-pub head_stands : (t : List ℕ) (c x : ℕ) → c < console_count → length t ≡ commons_size → (new : ℕ → ℕ → ℕ) → new c c ≡ x
-    → (j k : ℕ) → j < console_count → k < console_count
-    → ((j ≡ c → k ≡ c → ⊥) → Stands t (common_at j k) (word (new j k))) → Stands (put_head t c x) (common_at j k) (word (new j k))
-head_stands t c x cl long new self j k jl kl stand =
-    let kept : (common_at j k ≡ common_at c c → ⊥) → Stands t (common_at j k) (word (new j k)) → Stands (put_head t c x) (common_at j k) (word (new j k)) =
-    λ apart h. stands_kept h (λ i l m. put_other_lem t (common_at c c) x i (omega arith) (omega arith)) in
-    elim (ℕ_discrete j c) [
-      | yes e ↦
-          elim (ℕ_discrete k c) [
-            | yes f ↦ rw (e, f, self) (put_stands t (common_at c c) x (omega arith))
-            | no kc ↦ kept (omega arith) (stand (λ _ f. kc f))
-          ]
-      | no jc ↦ kept (omega arith) (stand (λ e _. jc e))
-    ]
-
 -- The table with the fields of c and its head written.
 module _ (s : List ℕ) (c : ℕ) (field : ℕ → ℕ) (x : ℕ) where
   abbrev table : List ℕ
@@ -153,29 +137,46 @@ module _ (s : List ℕ) (c : ℕ) (field : ℕ → ℕ) (x : ℕ) where
   pub table_length : length table ≡ length s
   table_length = put_length (put_others s c field console_count) (common_at c c) x ∙ others_length s c field console_count
 
-  -- bytes outside the row and the column of c stay
-  pub table_kept : c < console_count → (i : ℕ) → ((k : ℕ) → k < console_count → Clear c k i) → get_or table i 0 ≡ get_or s i 0
-  table_kept cl i f =
-      put_other_lem (put_others s c field console_count) (common_at c c) x i (f c cl).0 (f c cl).1 ∙ others_kept s c field console_count i f
+  module _ (cl : c < console_count) where
+    -- bytes outside the row and the column of c stay
+    pub table_kept : (i : ℕ) → ((k : ℕ) → k < console_count → Clear c k i) → get_or table i 0 ≡ get_or s i 0
+    table_kept i f =
+        put_other_lem (put_others s c field console_count) (common_at c c) x i (f c cl).0 (f c cl).1 ∙ others_kept s c field console_count i f
 
-  -- its fields: where the old ones were `old`, the new ones are `new`
-  pub table_stands : c < console_count → length s ≡ commons_size → (old new : ℕ → ℕ → ℕ)
-      → ((j k : ℕ) → j < console_count → k < console_count → Stands s (common_at j k) (word (old j k)))
-      → new c c ≡ x
-      → ((k : ℕ) → k < console_count → (k ≡ c → ⊥) → new c k ≡ field k)
-      → ((k : ℕ) → k < console_count → (k ≡ c → ⊥) → new k c ≡ field k)
-      → ((j k : ℕ) → (j ≡ c → ⊥) → (k ≡ c → ⊥) → new j k ≡ old j k)
-      → (j k : ℕ) → j < console_count → k < console_count → Stands table (common_at j k) (word (new j k))
-  table_stands cl long old new stand self row column other j k jl kl =
-      let t = put_others s c field console_count in
-      let both = others_stand s c field cl long console_count in
-      head_stands t c x cl (others_length s c field console_count ∙ long) new self j k jl kl
-      (λ ne.
-      elim (ℕ_discrete j c) [
-        | yes e ↦ let kc : k ≡ c → ⊥ = ne e in rw (e, row k kl kc) (both k (omega arith) kl kc).0
-        | no jc ↦
-            elim (ℕ_discrete k c) [
-              | yes f ↦ rw (f, column j jl jc) (both j (omega arith) jl jc).1
-              | no kc ↦ rw (other j k jc kc) (stands_kept (stand j k jl kl) (λ i l m. others_kept s c field console_count i (λ n nl. omega arith)))
-            ]
-      ])
+    -- and so those before and behind the table
+    pub table_outside : (i : ℕ) → (commons_at ≤ i → i < commons_end → ⊥) → get_or table i 0 ≡ get_or s i 0
+    table_outside i o =
+        table_kept i
+        (λ k kl. (
+          λ e. o (omega arith) (omega arith),
+          λ e. o (omega arith) (omega arith),
+          λ e. o (omega arith) (omega arith),
+          λ e. o (omega arith) (omega arith),
+        ))
+
+    -- its fields: where the old ones were `old`, the new ones are `new`
+    pub table_stands : header_size ≤ length s → (old new : ℕ → ℕ → ℕ)
+        → ((j k : ℕ) → j < console_count → k < console_count → Stands s (common_at j k) (word (old j k)))
+        → new c c ≡ x
+        → ((k : ℕ) → k < console_count → (k ≡ c → ⊥) → new c k ≡ field k)
+        → ((k : ℕ) → k < console_count → (k ≡ c → ⊥) → new k c ≡ field k)
+        → ((j k : ℕ) → (j ≡ c → ⊥) → (k ≡ c → ⊥) → new j k ≡ old j k)
+        → (j k : ℕ) → j < console_count → k < console_count → Stands table (common_at j k) (word (new j k))
+    table_stands long old new stand self row column other j k jl kl =
+        let t = put_others s c field console_count in
+        let both = others_stand s c field cl long console_count in
+        let headed : (common_at j k ≡ common_at c c → ⊥) → Stands t (common_at j k) (word (new j k)) → Stands table (common_at j k) (word (new j k)) =
+        λ apart h. stands_kept h (λ i l m. put_other_lem t (common_at c c) x i (omega arith) (omega arith)) in
+        elim (ℕ_discrete j c) [
+          | yes e ↦
+              elim (ℕ_discrete k c) [
+                | yes f ↦ rw (e, f, self) (put_stands t (common_at c c) x (omega (arith, others_length s c field console_count)))
+                | no kc ↦ headed (omega arith) (rw (e, row k kl kc) (both k (omega arith) kl kc).0)
+              ]
+          | no jc ↦
+              headed (omega arith)
+              (elim (ℕ_discrete k c) [
+                | yes f ↦ rw (f, column j jl jc) (both j (omega arith) jl jc).1
+                | no kc ↦ rw (other j k jc kc) (stands_kept (stand j k jl kl) (λ i l m. others_kept s c field console_count i (λ n nl. omega arith)))
+              ])
+        ]

@@ -1,11 +1,7 @@
-pub mod Cleared
 pub mod Opened
 pub mod CommonsTable
-pub mod Tables
-pub mod MovedRoom
+pub mod MovedStore
 pub mod Appended
-pub mod Rewritten
-pub mod AppendedBytes
-pub mod GrownBlocks
-pub mod GrownRoom
-pub mod HubRoom
+pub mod AppendedBlocks
+pub mod GrownStore
+pub mod HubStore

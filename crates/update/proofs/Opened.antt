@@ -1,176 +1,192 @@
--- A buffer cleared at its front and given the parts of a fresh room begins with that room, and with its tail cleared too holds its store.
+-- A buffer cleared and given the parts of a fresh room holds the fresh room's store.
 -- Assumes nothing.
-use mathlib.Core.Path.{◌≡◌, refl, ◌∙◌, subst}
-use mathlib.Core.Bool.{true}
+use mathlib.Core.Path.{◌≡◌, refl, sym, ap, ◌∙◌, subst}
+use mathlib.Core.Bool.{false, ◌&&◌, true}
 use mathlib.Core.List.{List, [], ◌∷◌, ◌++◌}
-use Prim.Native.Nat.{ℕ, ◌+◌, ◌-◌, ◌≤◌, ◌<◌}
+use mathlib.Core.Option.{none}
+use Prim.Native.Nat.{ℕ, zero, suc, ◌+◌, ◌-◌, ◌*◌, ◌≤◌, ◌<◌}
 use native.Mathlib.Omega.{arith}
-use lib.ListN.{length, get_or, set, take, drop, length-append}
-use lib.Seq.{length-take-le}
-use Rattle.buffer.specs.Field.{word, zeros, put_word, part, with_part, overwrite}
-use Rattle.buffer.specs.Blocks.{block_at, block_in}
+use lib.ListN.{length, get_or, set, take, drop, length-append, length-drop, length-replicate, get_or-replicate, get_or-append}
+use lib.Seq.{length-take-le, get_or-drop, get_or-append-add}
+use Rattle.buffer.specs.Field.{word, zeros, put_word, with_part, overwrite}
 use Rattle.buffer.proofs.Fields.{zeros_length}
-use Rattle.buffer.proofs.Rows.{row_from-length}
-use Rattle.buffer.proofs.Stands.{Stands, stands_kept}
-use Rattle.buffer.proofs.Parts.{stands_join, stands_part}
-use Rattle.buffer.proofs.Patches.{set_part, with_length, with_outside, with_stands, with_kept, with_part_lem, word_part, put_lent}
-use Rattle.buffer.proofs.Blocks.{block_first, block_next}
-use Rattle.graph.specs.Below.{every_below, highest_below}
-use Rattle.graph.specs.Graph.{ancestor, is_meet, meet, node_of}
+use Rattle.buffer.proofs.Stands.{Stands}
+use Rattle.buffer.proofs.Parts.{stands_join}
+use Rattle.buffer.proofs.Patches.{set_part, with_length, with_outside, with_stands, with_kept, word_part}
+use Rattle.graph.specs.Graph.{node_of, is_some}
+use Rattle.graph.proofs.Meet.{meet_number-self}
 use Rattle.command.specs.Code.{console_count}
-use Rattle.room.specs.Room.{Room, common, fresh_room}
+use Rattle.room.specs.Room.{Room, present, common, fresh_room}
 use Rattle.room.specs.declared.Settings.{Settings}
 use Rattle.room.specs.Sound.{settings_in_range}
-use Rattle.room.specs.Boards.{board_of, board_bytes, rules_of}
+use Rattle.room.specs.Boards.{board_of}
+use Rattle.room.proofs.Sound.{capacity_range}
 use Rattle.room.proofs.Steps.{fresh_sound}
-use Rattle.store.specs.Layout.{header_size, node_size, row_size, block_size, room_size, settings_at, count_at, spare_at, entries_at, commons_at, commons_size, commons_end, row_at, board_at, common_fields, common_table, settings_bytes, node_bytes, block, blocks_in, room_bytes, encode}
+use Rattle.store.specs.Layout.{header_size, node_size, row_size, block_size, store_size, settings_at, settings_end, count_at, spare_at, entries_at, commons_end, common_at, head_at, block_at, row_at, board_at, common_field, settings_bytes, node_bytes, block, encode}
+use Rattle.board.specs.Board.{board_size}
 use Rattle.store.proofs.Behind.{empty_row}
-use Rattle.store.proofs.Lineage.{lineage, root_lineage}
-use Rattle.store.proofs.Blocks.{common_table-length, block_size_lem, block_length, table_of}
-use Rattle.store.proofs.Joined.{Placed}
-use Rattle.store.proofs.Overwritten.{overwritten, tail_written}
-use Rattle.update.specs.Commons.{put_head}
-use Rattle.update.proofs.Cleared.{cleared, cleared_length, cleared_stands, cleared_rest}
+use Rattle.store.proofs.Lineage.{root_lineage}
+use Rattle.store.proofs.Joined.{Placed, join_block, join_encode}
+use Rattle.store.proofs.Overwritten.{overwritten}
 
--- the table of a fresh room: console 0 alone is present, on version 0
-fresh_table : (settings : Settings) → put_head (zeros commons_size) 0 1 ≡ common_table (fresh_room settings) 0 console_count
-unfolding common_table common_fields common meet is_meet highest_below every_below ancestor
-fresh_table settings = refl
+-- no byte of the parts that are written
+abbrev Unwritten : ℕ → Type 0
+Unwritten k =
+    (settings_at ≤ k → k < settings_end → ⊥) × (count_at ≤ k → k < count_at + 2 → ⊥) × (head_at 0 ≤ k → k < head_at 0 + 2 → ⊥)
+    × (row_at 0 ≤ k → k < row_at 0 + 1 → ⊥)
 
--- the bytes of a room with one version: a header and a block
-pub one_block : (settings : Settings) → room_size settings 1 ≡ header_size + board_at + board_bytes settings
-one_block settings = omega (arith, block_first (block_size settings), block_next (block_size settings) 0, block_size_lem settings)
+-- the bytes of a fresh store: these parts, zero elsewhere, and behind the store the old ones
+record Opened (s t : List ℕ) (settings : Settings) : Type 0 where
+  long : length t ≡ length s
+  set_to : Stands t settings_at (settings_bytes settings)
+  one : Stands t count_at (word 1)
+  field : Stands t (head_at 0) (word 1)
+  own : Stands t (row_at 0) (1 ∷ [])
+  none : (k : ℕ) → Unwritten k → k < store_size settings.capacity → get_or t k 0 ≡ 0
+  kept : (k : ℕ) → store_size settings.capacity ≤ k → get_or t k 0 ≡ get_or s k 0
 
--- The parts of a fresh room written one after the other: settings, count, table, and the bit of version 0 in its own row. The rest of header and
--- block stays zero.
-module _ (s : List ℕ) (settings : Settings) (fits : room_size settings 1 ≤ length s) where
+module _ {s t : List ℕ} {settings : Settings} (room : 1 ≤ settings.capacity) (o : Opened s t settings) where
   abbrev r : Room
   r = fresh_room settings
 
-  abbrev zero : List ℕ
-  zero = cleared s (room_size settings 1) fits
+  -- a run of zeros that meets none of those parts
+  zeros_stand : (at n : ℕ) → at + n ≤ store_size settings.capacity → ((k : ℕ) → at ≤ k → k < at + n → Unwritten k) → Stands t at (zeros n)
+  zeros_stand at n high apart =
+      record {
+        read = λ i l.
+            let l' : i < n = rw (zeros_length n) at l in
+            o.none (at + i) (apart (at + i) (omega arith) (omega arith)) (omega arith) ∙ sym (get_or-replicate n i 0 0 l');
+      }
 
+  away : (c : ℕ) → 0 < c → c < console_count → present r c ≡ false
+  away zero l k = absurd (omega arith)
+  away (suc c) l k = ap is_some (get_or-replicate (console_count - 1) c none none (omega arith))
+
+  -- the table: console 0 alone is present, on version 0
+  no_field : (c d : ℕ) → present r c && present r d ≡ false → 0 < c + d → c < console_count → d < console_count
+      → Stands t (common_at c d) (word (common_field r c d))
+  no_field c d e l i j = rw e (zeros_stand (common_at c d) 2 (omega (arith, room)) (λ k a b. omega arith))
+
+  fields : (c d : ℕ) → c < console_count → d < console_count → Stands t (common_at c d) (word (common_field r c d))
+  unfolding common
+  fields zero zero i j = rw (meet_number-self [] 0 (omega arith)) o.field
+  fields zero (suc d) i j = no_field zero (suc d) (rw (away (suc d) (omega arith) j)) (omega arith) i j
+  fields (suc c) d i j = no_field (suc c) d (rw (away (suc c) (omega arith) i)) (omega arith) i j
+
+  -- the block of version 0
+  root : Stands t (block_at 0) (block [] 0)
+  unfolding node_bytes node_of board_of
+  root =
+      join_block [] 0
+      (zeros_stand (block_at 0) node_size (omega (arith, room)) (λ k a b. omega arith))
+      (subst (Stands t (row_at 0)) root_lineage
+      (stands_join (1 ∷ []) (zeros (row_size - 1)) o.own (zeros_stand (row_at 0 + 1) (row_size - 1) (omega (arith, room)) (λ k a b. omega arith)) refl))
+      (zeros_stand (board_at 0) board_size (omega (arith, room)) (λ k a b. omega arith))
+
+  placed : Placed t r
+  unfolding node_of
+  placed =
+      record {
+        settings = o.set_to;
+        count = o.one;
+        gap = zeros_stand spare_at (entries_at - spare_at) (omega arith) (λ k a b. omega arith);
+        entries = subst (Stands t entries_at) empty_row (zeros_stand entries_at row_size (omega arith) (λ k a b. omega arith));
+        commons = fields;
+        rest = zeros_stand commons_end (header_size - commons_end) (omega arith) (λ k a b. omega arith);
+        versions = λ v l. let e : v ≡ 0 = omega arith in rw e root;
+        free = zeros_stand (block_at 1) (block_size * (settings.capacity - 1)) (omega (arith, room)) (λ k a b. omega arith);
+      }
+
+-- a list with the parts of a fresh room, one written after the other
+module _ (l : List ℕ) (settings : Settings) where
   abbrev first : List ℕ
-  first = with_part zero settings_at (settings_bytes settings)
+  first = with_part l settings_at (settings_bytes settings)
 
   abbrev second : List ℕ
   second = with_part first count_at (word 1)
 
   abbrev third : List ℕ
-  third = with_part second commons_at (table_of r)
+  third = with_part second (head_at 0) (word 1)
 
   abbrev filled : List ℕ
-  filled = with_part third (header_size + row_at) (1 ∷ [])
+  filled = with_part third (row_at 0) (1 ∷ [])
 
-  zero_long : length zero ≡ length s
-  zero_long = cleared_length s (room_size settings 1) fits
+  module _ (long : block_at 1 ≤ length l) where
+    first_long : length first ≡ length l
+    first_long = with_length l (settings_bytes settings) settings_at (omega arith)
 
-  first_fits : settings_at + length (settings_bytes settings) ≤ length zero
-  first_fits = omega (arith, zero_long)
+    second_long : length second ≡ length l
+    second_long = with_length first (word 1) count_at (omega (arith, first_long)) ∙ first_long
 
-  first_long : length first ≡ length s
-  first_long = with_length zero (settings_bytes settings) settings_at first_fits ∙ zero_long
+    third_long : length third ≡ length l
+    third_long = with_length second (word 1) (head_at 0) (omega (arith, second_long)) ∙ second_long
 
-  second_fits : count_at + length (word 1) ≤ length first
-  second_fits = omega (arith, first_long)
+    others : (k : ℕ) → Unwritten k → get_or filled k 0 ≡ get_or l k 0
+    others k e =
+        with_outside third (1 ∷ []) (row_at 0) (omega (arith, third_long)) k e.3
+        ∙ with_outside second (word 1) (head_at 0) (omega (arith, second_long)) k e.2
+        ∙ with_outside first (word 1) count_at (omega (arith, first_long)) k e.1
+        ∙ with_outside l (settings_bytes settings) settings_at (omega arith) k e.0
 
-  second_long : length second ≡ length s
-  second_long = with_length first (word 1) count_at second_fits ∙ first_long
+    -- what the later writes leave standing
+    past_third : {at : ℕ} {xs : List ℕ} → Stands third at xs → at + length xs ≤ row_at 0 → Stands filled at xs
+    past_third h b = with_kept third (1 ∷ []) (row_at 0) (omega (arith, third_long)) h (λ k x y. omega arith)
 
-  table_long : length (table_of r) ≡ commons_size
-  table_long = common_table-length r 0 console_count
+    past_second : {at : ℕ} {xs : List ℕ} → Stands second at xs → at + length xs ≤ head_at 0 → Stands filled at xs
+    past_second h b =
+        past_third (with_kept second (word 1) (head_at 0) (omega (arith, second_long)) h (λ k x y. omega arith)) (omega arith)
 
-  third_fits : commons_at + length (table_of r) ≤ length second
-  third_fits = omega (arith, second_long, table_long)
+    filled_opened : (s : List ℕ) → length l ≡ length s → ((k : ℕ) → k < store_size settings.capacity → get_or l k 0 ≡ 0)
+        → ((k : ℕ) → store_size settings.capacity ≤ k → get_or l k 0 ≡ get_or s k 0) → 1 ≤ settings.capacity → Opened s filled settings
+    filled_opened s e clear kept room =
+        let there = with_stands l (settings_bytes settings) settings_at (omega arith) in
+        record {
+          long = with_length third (1 ∷ []) (row_at 0) (omega (arith, third_long)) ∙ third_long ∙ e;
+          set_to = past_second (with_kept first (word 1) count_at (omega (arith, first_long)) there (λ k x y. omega arith)) (omega arith);
+          one = past_second (with_stands first (word 1) count_at (omega (arith, first_long))) (omega arith);
+          field = past_third (with_stands second (word 1) (head_at 0) (omega (arith, second_long))) (omega arith);
+          own = with_stands third (1 ∷ []) (row_at 0) (omega (arith, third_long));
+          none = λ k a b. others k a ∙ clear k b;
+          kept = λ k a. others k (omega arith) ∙ kept k a;
+        }
 
-  third_long : length third ≡ length s
-  third_long = with_length second (table_of r) commons_at third_fits ∙ second_long
+-- a cleared front, and the bytes behind it
+module _ (s : List ℕ) (n : ℕ) (fits : n ≤ length s) where
+  abbrev cleared : List ℕ
+  cleared = zeros n ++ drop n s
 
-  filled_fits : header_size + row_at + 1 ≤ length third
-  filled_fits = omega (arith, third_long, one_block settings)
+  cleared_length : length cleared ≡ length s
+  cleared_length = simp (length-append, length-replicate, length-drop) (omega arith)
 
-  filled_long : length filled ≡ length s
-  filled_long = with_length third (1 ∷ []) (header_size + row_at) filled_fits ∙ third_long
+  cleared_front : (k : ℕ) → k < n → get_or cleared k 0 ≡ 0
+  cleared_front k l = get_or-append (zeros n) (drop n s) 0 k (rw (zeros_length n) l) ∙ get_or-replicate n k 0 0 l
 
-  -- what the later writes leave standing
-  past_third : {at : ℕ} {xs : List ℕ} → Stands third at xs → at + length xs ≤ header_size → Stands filled at xs
-  past_third h l = with_kept third (1 ∷ []) (header_size + row_at) filled_fits h (λ k a b. omega arith)
+  cleared_rest : (k : ℕ) → n ≤ k → get_or cleared k 0 ≡ get_or s k 0
+  cleared_rest k l =
+      let at : length (zeros n) + (k - n) ≡ k = rw (zeros_length n) (omega arith) in
+      let past : n + (k - n) ≡ k = omega arith in
+      ap (λ (i : ℕ). get_or cleared i 0) (sym at) ∙ get_or-append-add (zeros n) (drop n s) (k - n) 0 ∙ get_or-drop n s (k - n) 0
+      ∙ ap (λ (i : ℕ). get_or s i 0) past
 
-  past_second : {at : ℕ} {xs : List ℕ} → Stands second at xs → at + length xs ≤ commons_at → Stands filled at xs
-  past_second h l = past_third (with_kept second (table_of r) commons_at third_fits h (λ k a b. omega arith)) (omega arith)
+filled_fresh : (s : List ℕ) (settings : Settings) → settings_in_range settings ≡ true → (fits : store_size settings.capacity ≤ length s)
+    → filled (cleared s (store_size settings.capacity) fits) settings ≡ overwrite (encode (fresh_room settings)) s
+filled_fresh s settings range fits =
+    let n = store_size settings.capacity in
+    let room = (capacity_range settings range).0 in
+    let long = cleared_length s n fits in
+    let o = filled_opened (cleared s n fits) settings (omega arith) s long (cleared_front s n fits) (cleared_rest s n fits) room in
+    overwritten s _ (fresh_room settings) (fresh_sound settings range) (join_encode (fresh_room settings) (placed room o)) fits o.long o.kept
 
-  -- no byte of the parts that are written
-  abbrev Unwritten : ℕ → Type 0
-  Unwritten k = (k < spare_at → ⊥) × (commons_at ≤ k → k < commons_end → ⊥) × (k ≡ header_size + row_at → ⊥)
-
-  others : (k : ℕ) → Unwritten k → get_or filled k 0 ≡ get_or zero k 0
-  others k o =
-      with_outside third (1 ∷ []) (header_size + row_at) filled_fits k (λ a b. o.2 (omega arith))
-      ∙ with_outside second (table_of r) commons_at third_fits k (λ a b. o.1 a (omega (arith, table_long)))
-      ∙ with_outside first (word 1) count_at second_fits k (λ a b. o.0 (omega arith))
-      ∙ with_outside zero (settings_bytes settings) settings_at first_fits k (λ a b. o.0 (omega arith))
-
-  zeros_stand : (at n : ℕ) → at + n ≤ room_size settings 1 → ((k : ℕ) → at ≤ k → k < at + n → Unwritten k) → Stands filled at (zeros n)
-  zeros_stand at n l apart =
-      stands_kept (cleared_stands s (room_size settings 1) fits at n l)
-      (λ i a b. let long = zeros_length n in others i (apart i a (omega arith)))
-
-  -- the block of version 0
-  root : Stands filled header_size (block (rules_of settings) [] 0)
-  unfolding block node_bytes node_of board_of
-  root =
-      let one = one_block settings in
-      let own = with_stands third (1 ∷ []) (header_size + row_at) filled_fits in
-      let line = subst (Stands filled (header_size + row_at)) root_lineage
-      (stands_join (1 ∷ []) (zeros (row_size - 1)) own (zeros_stand (header_size + row_at + 1) (row_size - 1) (omega arith) (λ k a b. omega arith)) refl) in
-      stands_join (zeros node_size ++ lineage [] 0) (zeros (board_bytes settings))
-      (stands_join (zeros node_size) (lineage [] 0) (zeros_stand header_size node_size (omega arith) (λ k a b. omega arith)) line refl)
-      (zeros_stand (header_size + board_at) (board_bytes settings) (omega arith) (λ k a b. omega arith)) (rw (length-append, row_from-length))
-
-  root_block : block_in (block_size settings) (blocks_in filled) 0 ≡ block (rules_of settings) [] 0
-  root_block =
-      rw (block_first (block_size settings))
-      (stands_part (block_size settings) root (block_length settings [] 0) (omega (arith, filled_long, one_block settings, block_size_lem settings)))
-
-  fresh_placed : Placed filled r
-  unfolding node_of
-  fresh_placed =
-      record {
-        settings = past_second (with_kept first (word 1) count_at second_fits (with_stands zero (settings_bytes settings) settings_at first_fits) (λ k a b. omega arith)) (omega arith);
-        count = past_second (with_stands first (word 1) count_at second_fits) (omega arith);
-        gap = zeros_stand spare_at (entries_at - spare_at) (omega arith) (λ k a b. omega arith);
-        entries = subst (Stands filled entries_at) empty_row (zeros_stand entries_at row_size (omega arith) (λ k a b. omega arith));
-        table = past_third (with_stands second (table_of r) commons_at third_fits) (omega (arith, table_long));
-        rest = zeros_stand commons_end (header_size - commons_end) (omega arith) (λ k a b. omega arith);
-        versions = λ v l. let e : v ≡ 0 = omega arith in rw e root_block;
-      }
-
-  fresh_filled : filled ≡ overwrite (room_bytes (fresh_room settings)) s
-  fresh_filled =
-      overwritten s filled r fresh_placed fits filled_long
-      (λ k l. others k (omega (arith, one_block settings)) ∙ cleared_rest s (room_size settings 1) fits k l)
-
-  -- the part of the table is zero before it is written
-  table_zero : part second commons_at commons_size ≡ zeros commons_size
-  table_zero =
-      with_part_lem first (word 1) count_at second_fits commons_at commons_size (omega (arith, first_long)) (λ k l a b. omega arith)
-      ∙ with_part_lem zero (settings_bytes settings) settings_at first_fits commons_at commons_size (omega (arith, zero_long)) (λ k l a b. omega arith)
-      ∙ stands_part commons_size (cleared_stands s (room_size settings 1) fits commons_at commons_size (omega arith)) (zeros_length commons_size)
-      (omega (arith, zero_long))
-
-  -- write by write
-  pub opened_room : (x a b t : List ℕ) (end : ℕ) → end ≡ room_size settings 1 → x ≡ zeros (length (take end s))
-      → a ≡ with_part (x ++ drop end s) settings_at (settings_bytes settings) → b ≡ put_word a count_at 1 → t ≡ put_head (part b commons_at commons_size) 0 1
-      → set (take commons_at b ++ (t ++ drop commons_size (drop commons_at b))) (header_size + row_at) 1 ≡ overwrite (room_bytes (fresh_room settings)) s
-  opened_room x a b t end there front e₁ e₂ e₃ =
-      let is₁ : a ≡ first = rw (e₁, front, there, length-take-le (room_size settings 1) s fits) in
-      let is₂ : b ≡ second = e₂ ∙ rw is₁ (word_part first count_at 1 (omega (arith, first_long))) in
-      let table : t ≡ table_of r = e₃ ∙ rw (is₂, table_zero) (fresh_table settings) in
-      let is₃ : take commons_at b ++ (t ++ drop commons_size (drop commons_at b)) ≡ third =
-      rw is₂ (put_lent second t (table_of r) commons_at commons_at commons_size refl table table_long) in
-      rw is₃ (set_part third (header_size + row_at) 1 (omega (arith, third_long, one_block settings))) ∙ fresh_filled
-
--- and the tail
-pub opened_store : (s a b : List ℕ) (settings : Settings) → settings_in_range settings ≡ true → a ≡ overwrite (room_bytes (fresh_room settings)) s
-    → b ≡ with_part a (room_size settings 1) (zeros (block_at (block_size settings) (settings.capacity - 1))) → b ≡ overwrite (encode (fresh_room settings)) s
-opened_store s a b settings range e f = f ∙ rw e (tail_written s (fresh_room settings) (fresh_sound settings range))
+-- the same, write by write
+pub opened : (s x a b d : List ℕ) (settings : Settings) (end : ℕ) → settings_in_range settings ≡ true → store_size settings.capacity ≤ length s
+    → end ≡ store_size settings.capacity → x ≡ zeros (length (take end s)) → a ≡ with_part (x ++ drop end s) settings_at (settings_bytes settings)
+    → b ≡ put_word a count_at 1 → d ≡ put_word b (head_at 0) 1 → set d (row_at 0) 1 ≡ overwrite (encode (fresh_room settings)) s
+opened s x a b d settings end range fits there front e₁ e₂ e₃ =
+    let n = store_size settings.capacity in
+    let room = (capacity_range settings range).0 in
+    let l : List ℕ = cleared s n fits in
+    let long : block_at 1 ≤ length l = omega (arith, cleared_length s n fits) in
+    let is₁ : a ≡ first l settings = rw (e₁, front, there, length-take-le n s fits) in
+    let is₂ : b ≡ second l settings = e₂ ∙ rw is₁ (word_part (first l settings) count_at 1 (omega (arith, first_long l settings long))) in
+    let is₃ : d ≡ third l settings = e₃ ∙ rw is₂ (word_part (second l settings) (head_at 0) 1 (omega (arith, second_long l settings long))) in
+    rw is₃ (set_part (third l settings) (row_at 0) 1 (omega (arith, third_long l settings long))) ∙ filled_fresh s settings range fits

@@ -1,8 +1,7 @@
--- What the code writes into the table of common versions for one console. That this gives the table of the room in which the console
+-- What the code writes into the table of common versions for one console. That this gives the encoding of the room in which the console
 -- has moved or left is a theorem, so a reader need not believe this file.
 use Rattle.std.specs.Prelude.{ℕ, zero, suc, max, cond, List, eqb}
 use Rattle.buffer.specs.Field.{put_word}
-use Rattle.command.specs.Code.{console_count}
 use Rattle.store.specs.Layout.{common_at, head_at}
 use Rattle.store.specs.Check.{common_in}
 
@@ -26,11 +25,3 @@ joined_field s c d k = max (common_in s c k) (common_in s d k)
 -- the head of console c
 abbrev pub put_head : List ℕ → ℕ → ℕ → List ℕ
 put_head s c field = put_word s (head_at c) field
-
--- console c joined to console d: at each other console the later of what the two have in common with it, and a new head
-unfoldable pub joined_table : List ℕ → ℕ → ℕ → ℕ → List ℕ
-joined_table t c d field = put_head (put_others t c (joined_field t c d) console_count) c field
-
--- console c taken out
-unfoldable pub left_table : List ℕ → ℕ → List ℕ
-left_table t c = put_head (put_others t c (λ k. 0) console_count) c 0

@@ -3,6 +3,7 @@
 use native.Mathlib.Omega.{arith}
 use Prim.Native.Nat.{◌-◌}
 use Rattle.command.specs.Code.{shape_of, length_of}
+use Rattle.store.proofs.Whole.{whole_block}
 use Rattle.pause.proofs.Tapes.{tape_size}
 use Rattle.pause.proofs.tape_length.Statement.{statement}
 use Rattle.pause.proofs.tape_length.Tie as tie
@@ -11,7 +12,9 @@ version-count-requires : tie.Need-version-count-requires
 version-count-requires c κs = c.before.before.requires
 
 versions-length-requires : tie.Need-versions-length-requires
-versions-length-requires c κs = (c.before.before.before.requires, omega arith)
+versions-length-requires c κs =
+    let start = c.before.before.before in
+    (omega arith, whole_block start.args.s.now start.requires (c.version-count.result - 1) (omega arith))
 
 add-result : tie.Need-overflow-add-result
 unfolding shape_of length_of

@@ -5,6 +5,7 @@ use mathlib.Core.Path.{refl}
 use Prim.Native.Nat.{◌-◌}
 use lib.ListN.{length}
 use Rattle.store.specs.Layout.{room_in}
+use Rattle.store.proofs.Whole.{whole_block}
 use Rattle.pause.proofs.Tapes.{tape_size, records_written}
 use Rattle.pause.proofs.write_tape.Statement.{statement}
 use Rattle.pause.proofs.write_tape.Tie as tie
@@ -23,7 +24,8 @@ put-version-records-requires : tie.Need-put-version-records-requires
 put-version-records-requires c κs =
     let count = c.before in
     let start = count.before.before.before.before.before.before.before.before in
-    (start.requires.0, (omega arith, omega (arith, tape_size start.args.s.now (count.version-count.result - 1) (omega arith))))
+    let n = count.version-count.result - 1 in
+    ((omega arith, whole_block start.args.s.now start.requires.0 n (omega arith)), omega (arith, tape_size start.args.s.now n (omega arith)))
 
 put-head-records-requires : tie.Need-put-head-records-requires
 put-head-records-requires c κs =

@@ -5,7 +5,6 @@ use mathlib.Core.Path.{◌∙◌, ap}
 use Prim.Native.Nat.{◌-◌}
 use lib.ListN.{length}
 use Rattle.graph.specs.declared.Node.{Node}
-use Rattle.store.proofs.Whole.{whole_small}
 use Rattle.tape.specs.Record.{version_bytes}
 use Rattle.pause.specs.Pieces.{version_pieces}
 use Rattle.pause.proofs.Piled.{Measured, measured_none, measured_more, measured_all}
@@ -22,19 +21,10 @@ decreases-loop s n sum₀ k₀ sum k = n - k
 loop-holds : tie.Need-loop-init invariant-loop decreases-loop
 loop-holds c = measured_none (version_pieces_lem c.before.args.s.now) _
 
-version-node-requires : tie.Need-version-node-requires invariant-loop decreases-loop
-version-node-requires c κs = (c.before.before.before.requires.0, omega arith)
-
--- no room has so many versions that their records are too many
-add-sum : tie.Need-overflow-add-sum invariant-loop decreases-loop
-add-sum c =
-    let start = c.before.before.before.before.before in
-    omega (arith, whole_small start.args.s.now start.requires.0)
-
 loop-again : tie.Need-loop-preserved invariant-loop decreases-loop
 loop-again c =
     let loop = c.before.before in
-    let found = ap (λ (x : Node). length (version_bytes x)) c.before.version-node.ensures in
+    let found = ap (λ (x : Node). length (version_bytes x)) c.before.read-node.ensures in
     measured_more (version_pieces_lem loop.before.before.before.args.s.now) loop.before.loop.invariant loop.loop-test.true (c.version-length.ensures.0 ∙ found) c.version-length.ensures.1
 
 returns : tie.Need-returns invariant-loop decreases-loop
@@ -43,4 +33,4 @@ returns c = measured_all c.before.loop.invariant (omega arith)
 pub versions-length-spec : {M : Type 1} → statement M
 versions-length-spec =
     tie.close
-    (tie.spec invariant-loop decreases-loop loop-holds (λ c. omega arith) version-node-requires (λ c κs. tt) add-sum (λ c. omega arith) loop-again returns)
+    (tie.spec invariant-loop decreases-loop loop-holds (λ c. omega arith) (λ c κs. omega arith) (λ c κs. tt) (λ c. omega arith) (λ c. omega arith) loop-again returns)

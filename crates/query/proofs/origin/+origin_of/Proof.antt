@@ -4,9 +4,9 @@ use mathlib.Core.Path.{◌≡◌, sym, ◌∙◌}
 use Prim.Native.Nat.{ℕ, ◌<◌}
 use native.Mathlib.Omega.{arith}
 use Rattle.laws.proofs.Logic.{cond_true, cond_false}
-use Rattle.room.specs.Boards.{rules_of}
 use Rattle.room.proofs.Origins.{origin_first}
 use Rattle.store.specs.Layout.{room_in}
+use Rattle.store.proofs.Whole.{whole_small, whole_block}
 use Rattle.query.proofs.Origins.{node_there, walk_falls, walk_step}
 use borrow.Fn.Kinds.{In}
 use borrow.Fn.PlainCycle.{Measures, is, falls, and}
@@ -16,7 +16,7 @@ use Rattle.query.proofs.origin.+origin_of.Lts-origin_of as origin_of_lts
 use Rattle.query.proofs.origin.leads_to.Reads as leads_to_reads
 use Rattle.query.proofs.origin.past_entry.Reads as past_entry_reads
 use Rattle.query.proofs.origin.writes_cell.Reads as writes_cell_reads
-use Rattle.query.proofs.version_node.Reads as version_node_reads
+use Rattle.store.proofs.nodes.read_node.Reads as read_node_reads
 use Rattle.query.proofs.origin.+origin_of.{statement}
 use Rattle.query.proofs.origin.+origin_of.Tie.{close}
 
@@ -32,8 +32,8 @@ origin-of-below t = and 1 origin_of_kinds.ps (falls 1 origin_of_kinds.ps ◌<◌
 module _ (t : ℕ) where
   abbrev called : origin_of_lts.Claims
   called = (
-    version_node_reads.Asked,
-    version_node_reads.Learnt,
+    read_node_reads.Asked,
+    read_node_reads.Learnt,
     writes_cell_reads.Asked,
     writes_cell_reads.Learnt,
     leads_to_reads.Asked,
@@ -48,18 +48,21 @@ module _ (t : ℕ) where
   returns c =
       let a = c.before.before.before.args in
       let none : a.v.0 ≡ 0 = omega arith in
-      rw none (sym (origin_first (rules_of (room_in a.s.now).settings) a.cell a.strip.0 (room_in a.s.now).versions))
+      rw none (sym (origin_first a.cell a.strip.0 (room_in a.s.now).versions))
 
-  version-node-requires : origin_of_lts.Need-version-node-requires called (origin-of-at t) origin_of_lem.Post
-  version-node-requires c κs =
-      let p = c.before.before.before.requires.1 in (p.0, p.1.0)
+  read-node-requires : origin_of_lts.Need-read-node-requires called (origin-of-at t) origin_of_lem.Post
+  read-node-requires c κs =
+      let start = c.before.before.before in
+      let a = start.args in
+      let p = start.requires.1 in
+      (omega (arith, whole_small a.s.now p.0), whole_block a.s.now p.0 a.v.0 p.1.0)
 
   returns-2 : origin_of_lts.Need-returns-2 called (origin-of-at t) origin_of_lem.Post
   returns-2 c =
       let start = c.before.before.before.before.before.before in
       let a = start.args in
       let p = start.requires.1 in
-      let node = c.before.before.version-node in
+      let node = c.before.before.read-node in
       sym (walk_step a.s.now p.0 a.v.0 node.result node.ensures (omega arith) p.1.0 a.cell a.strip.0
       ∙ cond_true _ _ _ (sym c.before.writes-cell.ensures ∙ c.if2.true))
 
@@ -68,7 +71,7 @@ module _ (t : ℕ) where
       let start = c.before.before.before.before.before.before in
       let a = start.args in
       let p = start.requires.1 in
-      let node = c.before.before.version-node in
+      let node = c.before.before.read-node in
       (p.0, (node_there a.s.now p.0 a.v.0 node.result node.ensures (omega arith) p.1.0, p.1.1))
 
   past-entry-requires : origin_of_lts.Need-past-entry-requires called (origin-of-at t) origin_of_lem.Post
@@ -76,7 +79,7 @@ module _ (t : ℕ) where
       let start = c.before.before.before.before.before.before.before in
       let a = start.args in
       let p = start.requires.1 in
-      let node = c.before.before.before.version-node in
+      let node = c.before.before.before.read-node in
       let less = walk_falls a.s.now p.0 a.v.0 node.result node.ensures (omega arith) p.1.0 a.cell a.strip.0 in
       (p.0, omega (arith, less, c.leads-to.ensures, p.1.0))
 
@@ -85,7 +88,7 @@ module _ (t : ℕ) where
       let start = c.before.before.before.before.before.before.before.before in
       let a = start.args in
       let p = start.requires.1 in
-      let node = c.before.before.before.before.version-node in
+      let node = c.before.before.before.before.read-node in
       let less = walk_falls a.s.now p.0 a.v.0 node.result node.ensures (omega arith) p.1.0 a.cell a.strip.0 in
       let past = c.past-entry.ensures.1 in
       let next = c.before.leads-to.ensures in
@@ -96,7 +99,7 @@ module _ (t : ℕ) where
       let start = c.before.before.before.before.before.before.before.before.before in
       let a = start.args in
       let p = start.requires.1 in
-      let node = c.before.before.before.before.before.version-node in
+      let node = c.before.before.before.before.before.read-node in
       c.origin_of_lem.ensures
       ∙ rw c.before.before.leads-to.ensures at c.before.past-entry.ensures.0
       ∙ sym (walk_step a.s.now p.0 a.v.0 node.result node.ensures (omega arith) p.1.0 a.cell a.strip.0
@@ -104,4 +107,4 @@ module _ (t : ℕ) where
 
 pub +origin-of-spec : {M : Type 1} → statement M
 +origin-of-spec =
-    close μ-origin-of (λ t. origin_of_lts.spec (called t) (origin-of-at t) origin_of_lem.Post (returns t) (version-node-requires t) (λ c κs. tt) (returns-2 t) (leads-to-requires t) (past-entry-requires t) (origin-of-requires t) (returns-3 t))
+    close μ-origin-of (λ t. origin_of_lts.spec (called t) (origin-of-at t) origin_of_lem.Post (returns t) (read-node-requires t) (λ c κs. tt) (returns-2 t) (leads-to-requires t) (past-entry-requires t) (origin-of-requires t) (returns-3 t))

@@ -8,10 +8,10 @@ use Rattle.resume.proofs.commons.build_console.Statement.{statement}
 use Rattle.resume.proofs.commons.build_console.Tie as tie
 
 abbrev invariant-loop : tie.invariant-loop
-invariant-loop rows table₀ c ok₀ k₀ end table ok k = (end ≡ c.0) × Paired rows table₀ c.0 k table ok
+invariant-loop rows header₀ c ok₀ k₀ end header ok k = (end ≡ c.0) × Paired rows header₀ c.0 k header ok
 
 abbrev decreases-loop : tie.decreases-loop
-decreases-loop rows table₀ c ok₀ k₀ end table ok k = end - k
+decreases-loop rows header₀ c ok₀ k₀ end header ok k = end - k
 
 loop-holds : tie.Need-loop-init invariant-loop decreases-loop
 loop-holds c = (refl, paired_none _ _ _ c.before.before.requires.1.0)

@@ -12,7 +12,7 @@ returns c =
     let written = c.before.before.before.before.before in
     let made = written.before.before in
     let a = made.before.before.before.args in
-    (pair_answer a.rows.now a.x.0 a.y.0 made.pair_field_lem.ensures, written.put-common.ensures ∙ ap (put_common a.table.now a.c.0 a.d.0) made.pair_field_lem.ensures)
+    (pair_answer a.rows.now a.x.0 a.y.0 made.pair_field_lem.ensures, written.put-common.ensures ∙ ap (put_common a.header.now a.c.0 a.d.0) made.pair_field_lem.ensures)
 
 pub build-pair-spec : {M : Type 1} → statement M
 build-pair-spec = tie.close (tie.spec (λ c κs. omega arith) (λ c κs. omega arith) (λ c. omega arith) returns)

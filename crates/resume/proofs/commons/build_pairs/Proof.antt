@@ -8,10 +8,10 @@ use Rattle.resume.proofs.commons.build_pairs.Statement.{statement}
 use Rattle.resume.proofs.commons.build_pairs.Tie as tie
 
 abbrev invariant-loop : tie.invariant-loop
-invariant-loop rows table₀ ok₀ c₀ table ok c = Tabled rows table₀ c table ok
+invariant-loop rows header₀ ok₀ c₀ header ok c = Tabled rows header₀ c header ok
 
 abbrev decreases-loop : tie.decreases-loop
-decreases-loop rows table₀ ok₀ c₀ table ok c = console_count - c
+decreases-loop rows header₀ ok₀ c₀ header ok c = console_count - c
 
 loop-holds : tie.Need-loop-init invariant-loop decreases-loop
 loop-holds c = tabled_none _ _ c.before.before.requires.1.0

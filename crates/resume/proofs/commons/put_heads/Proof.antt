@@ -1,4 +1,4 @@
--- `resume::commons::put_heads` meets its contract. The loop's invariant: the first `j` heads stand in the table.
+-- `resume::commons::put_heads` meets its contract. The loop's invariant: the first `j` heads stand in the header.
 -- Assumes nothing.
 use Prim.Native.Nat.{◌-◌}
 use Rattle.resume.specs.Content.{content_in}
@@ -9,10 +9,10 @@ use Rattle.resume.proofs.commons.put_heads.Statement.{statement}
 use Rattle.resume.proofs.commons.put_heads.Tie as tie
 
 abbrev invariant-loop : tie.invariant-loop
-invariant-loop tape from heads table₀ at₀ j₀ table at j = Heads (content_in tape) (Headed table) j at
+invariant-loop tape from heads header₀ at₀ j₀ header at j = Heads (content_in tape) (Headed header) j at
 
 abbrev decreases-loop : tie.decreases-loop
-decreases-loop tape from heads table₀ at₀ j₀ table at j = heads - j
+decreases-loop tape from heads header₀ at₀ j₀ header at j = heads - j
 
 loop-holds : tie.Need-loop-init invariant-loop decreases-loop
 loop-holds c = let p = c.before.before.requires in headed_none (content_in c.before.before.args.tape.now) p.1.1.0.1 p.1.1.1.0 p.1.1.1.1

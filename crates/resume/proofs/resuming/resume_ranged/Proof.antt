@@ -8,7 +8,7 @@ use borrow.Author.Tests.{ltb-false}
 use Rattle.buffer.proofs.Fields.{zeros_length}
 use Rattle.room.specs.declared.Settings.{Settings}
 use Rattle.room.proofs.Sound.{capacity_range}
-use Rattle.store.specs.Layout.{store_size, commons_size}
+use Rattle.store.specs.Layout.{header_size, store_size}
 use Rattle.resume.specs.Content.{content_in}
 use Rattle.resume.specs.Rows.{rows_size}
 use Rattle.resume.proofs.Resumes.{none_left, last_refused, resumed}
@@ -18,7 +18,7 @@ use Rattle.resume.proofs.resuming.resume_ranged.Tie as tie
 gives-sound-room-requires : tie.Need-gives-sound-room-requires
 gives-sound-room-requires c κs =
     let p = c.before.before.before.before.requires in
-    (p.0, ((p.1.1.0, p.1.1.1), ((p.1.0.1, p.1.0.2, p.1.0.3, ap (λ (x : Settings). x.hub) p.1.0.0), (zeros_length rows_size, (zeros_length commons_size, refl)))))
+    (p.0, ((p.1.1.0, p.1.1.1), ((p.1.0.1, p.1.0.2, p.1.0.3, ap (λ (x : Settings). x.hub) p.1.0.0), (zeros_length rows_size, (zeros_length header_size, refl)))))
 
 store-size-requires : tie.Need-store-size-requires
 store-size-requires c κs =
@@ -38,7 +38,7 @@ write-store-requires c κs =
     let told = judged.gives-sound-room.ensures in
     let fits = none_left judged.gives-sound-room.result _ (sym answered.last-refusal.ensures ∙ then.if1.true) in
     let long = ltb-false (length start.args.store.now) sized.store-size.result fits.1 in
-    (p.0, ((p.1.0.0, p.1.0.1), ((sym told.0 ∙ fits.0, told.1), (told.2 fits.0, omega (arith, long)))))
+    (p.0, ((p.1.0.0, p.1.0.1), ((sym told.0 ∙ fits.0, told.1), ((omega arith, told.2 fits.0), omega (arith, long)))))
 
 returns : tie.Need-returns
 returns c =
@@ -50,7 +50,7 @@ returns c =
     let start = judged.before.before.before.before.before in
     let p = start.requires in
     resumed (content_in start.args.tape.now) start.args.store.now p.1.1.0 p.1.1.1 judged.gives-sound-room.ensures.0
-    (ap (ltb (length start.args.store.now)) (sized.store-size.ensures ∙ ap store_size p.1.0.0)) answered.last-refusal.ensures then.if1.true written.write_Store.ensures
+    (ap (ltb (length start.args.store.now)) (sized.store-size.ensures ∙ ap (λ (x : Settings). store_size x.capacity) p.1.0.0)) answered.last-refusal.ensures then.if1.true written.write_Store.ensures
 
 returns-2 : tie.Need-returns-2
 returns-2 c =
@@ -60,7 +60,7 @@ returns-2 c =
     let start = judged.before.before.before.before.before in
     let p = start.requires in
     last_refused (content_in start.args.tape.now) start.args.store.now p.1.1.0 p.1.1.1 judged.gives-sound-room.ensures.0
-    (ap (ltb (length start.args.store.now)) (sized.store-size.ensures ∙ ap store_size p.1.0.0)) answered.last-refusal.ensures c.if1.false
+    (ap (ltb (length start.args.store.now)) (sized.store-size.ensures ∙ ap (λ (x : Settings). store_size x.capacity) p.1.0.0)) answered.last-refusal.ensures c.if1.false
 
 pub resume-ranged-spec : {M : Type 1} → statement M
 resume-ranged-spec =

@@ -6,7 +6,7 @@ use mathlib.Core.Bool.{◌&&◌}
 use borrow.Author.Tests.{not-true, not-false}
 use Rattle.laws.proofs.Logic.{and_i, clash}
 use Rattle.resume.specs.Content.{content_in}
-use Rattle.resume.proofs.HeadsJudged.{heads_within, rows_inside, first_inside, behind_told, fields_low, hub_judged}
+use Rattle.resume.proofs.HeadsJudged.{rows_inside, behind_told, fields_low, hub_judged}
 use Rattle.resume.proofs.RoomJudged.{range_facts, versions_fail, heads_fail, behind_decides}
 use Rattle.resume.proofs.soundness.gives_sound_room.Statement.{statement}
 use Rattle.resume.proofs.soundness.gives_sound_room.Tie as tie
@@ -73,9 +73,8 @@ heads-reach-all-requires c κs =
     let k = range_facts t p.1.0.0 p.1.0.1 in
     let shown = made.build-rows.ensures.1 in
     let ok = not-false met.build-commons.result c.before.before.if2.false in
-    let written = met.build-commons.ensures.1 ok in
-    let within = heads_within t k.rise k.named k.small shown written in
-    ((omega arith, omega arith, rows_inside t k.rise k.named k.small shown written (omega arith)), λ d l. omega (arith, within d l))
+    let header = met.build-commons.new.1.1.1.1.0 in
+    (omega arith, rows_inside t k.rise k.named k.small shown header (omega arith) (met.build-commons.ensures.1 ok))
 
 hub-right-requires : tie.Need-hub-right-requires
 hub-right-requires c κs =
@@ -87,9 +86,10 @@ hub-right-requires c κs =
     let k = range_facts t p.1.0.0 p.1.0.1 in
     let shown = made.build-rows.ensures.1 in
     let ok = not-false met.build-commons.result c.before.before.before.before.before.if2.false in
+    let header = met.build-commons.new.1.1.1.1.0 in
     let written = met.build-commons.ensures.1 ok in
-    let low = fields_low t k.rise k.named k.small shown written in
-    (omega arith, (first_inside t k.rise k.named k.small shown written, λ a b l m. low a b l (omega arith)))
+    let low = fields_low t k.rise k.named k.small shown header (omega arith) written in
+    (omega arith, (omega (arith, low 0 0 (omega arith) (omega arith), shown.long), λ a b l m. low a b l (omega arith)))
 
 returns-3 : tie.Need-returns-3
 returns-3 c =
@@ -103,8 +103,9 @@ returns-3 c =
     let based = not-false made.build-rows.result met.before.before.before.if1.false in
     let ok = not-false met.build-commons.result c.before.before.before.before.before.before.if2.false in
     let written = met.build-commons.ensures.1 ok in
-    let behind = behind_told t k.rise k.named k.small told.1 written (omega arith) c.before.before.before.heads-reach-all.ensures in
-    let hub = hub_judged t k.rise k.named k.small told.1 written p.1.1.0.3 c.hub-right.ensures in
+    let header = met.build-commons.new.1.1.1.1.0 in
+    let behind = behind_told t k.rise k.named k.small told.1 header (omega arith) written (omega arith) c.before.before.before.heads-reach-all.ensures in
+    let hub = hub_judged t k.rise k.named k.small told.1 header (omega arith) written p.1.1.0.3 c.hub-right.ensures in
     (behind_decides t p.1.0.0 p.1.0.1 told.0 based met.build-commons.ensures.0 ok (ap₂ ◌&&◌ behind hub), told.1, λ _. written)
 
 pub gives-sound-room-spec : {M : Type 1} → statement M

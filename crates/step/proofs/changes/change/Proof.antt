@@ -1,31 +1,27 @@
 -- `step::changes::change` meets its contract: a command that is not refused has what its change asks for.
 -- Assumes nothing.
-use Prim.Native.Nat.{ℕ, ◌≤◌, ◌<◌}
+use Prim.Native.Nat.{ℕ, ◌<◌}
 use mathlib.Core.Path.{◌≡◌, refl, subst}
 use mathlib.Core.Bool.{true}
 use mathlib.Core.List.{List}
 use native.Mathlib.Omega.{arith}
-use lib.ListN.{length}
 use borrow.Author.Tests.{ltb-true}
 use borrow.Author.Rules.{rules}
 use Rattle.laws.proofs.Logic.{and_l, and_r}
 use Rattle.command.specs.declared.Command.{Command}
 use Rattle.graph.specs.declared.Console.{Console}
-use Rattle.graph.specs.Graph.{version_count}
 use Rattle.command.specs.Code.{console_count}
 use Rattle.command.specs.Decoding.{TwoConsoles, InRange}
 use Rattle.room.specs.Room.{present}
 use Rattle.room.specs.Step.{behind, step_refusal, step, clash_count}
 use Rattle.room.proofs.Accepted.{Through, MayMove, fork_accepted, forward_accepted, entry_accepted, merge_accepted, leave_accepted, hub_accepted}
-use Rattle.store.specs.Layout.{room_size, room_in}
+use Rattle.store.specs.Layout.{room_in}
 use Rattle.step.proofs.changes.change.Statement.{statement}
 use Rattle.step.proofs.changes.change.Tie as tie
 
--- a command whose numbers are in range and that is not refused, where the room after it has room
+-- a command whose numbers are in range and that is not refused
 abbrev Accepted : List ℕ → Command → Type 0
-Accepted s c =
-    InRange c
-    × ((step_refusal (room_in s) c ≡ 0) × (room_size (room_in s).settings (version_count (step (room_in s) c).versions) ≤ length s))
+Accepted s c = InRange c × (step_refusal (room_in s) c ≡ 0)
 
 -- what `move_console` asks for, of a fork and of a fast-forward
 move_asks : (s : List ℕ) (c d : Console) → TwoConsoles c.0 d.0 → MayMove (room_in s) c.0 d.0
@@ -38,49 +34,46 @@ move-console-requires c κs =
     let start = c.before.before.before.before.before in
     let s = start.args.s.now in
     let accepted = subst (Accepted s) c.before.before.c.given.1 start.requires.1 in
-    (start.requires.0, move_asks s _ _ accepted.0 (fork_accepted _ _ _ accepted.1.0))
+    (start.requires.0, move_asks s _ _ accepted.0 (fork_accepted _ _ _ accepted.1))
 
 enter-requires : tie.Need-enter-requires
-unfolding step
 enter-requires c κs =
     let start = c.before.before.before.before.before in
     let s = start.args.s.now in
     let accepted = subst (Accepted s) c.before.before.c2.given.1 start.requires.1 in
-    let may = entry_accepted _ _ _ _ _ accepted.1.0 in
-    let range = accepted.0 in
-    (start.requires.0, ((range.0, search (and_l, and_r, ltb-true, range)), (search (and_l, and_r, range), (may.0, (may.1, accepted.1.1)))))
+    let may = entry_accepted _ _ _ _ _ accepted.1 in
+    (start.requires.0, search (and_l, and_r, ltb-true, may, accepted))
 
 merge-requires : tie.Need-merge-requires
-unfolding step
 merge-requires c κs =
     let start = c.before.before.before.before.before in
     let s = start.args.s.now in
     let accepted = subst (Accepted s) c.before.before.c3.given.1 start.requires.1 in
-    let may = merge_accepted _ _ _ accepted.1.0 in
+    let may = merge_accepted _ _ _ accepted.1 in
     let two = accepted.0 in
     let take = may.take in
-    (start.requires.0, ((two.0, two.1), ((take.receiver, take.giver), ((take.ahead, may.back), ((may.unsplit, take.through), (ltb-true _ _ may.is_free, accepted.1.1))))))
+    (start.requires.0, ((two.0, two.1), ((take.receiver, take.giver), ((take.ahead, may.back), ((may.unsplit, take.through), ltb-true _ _ may.is_free)))))
 
 move-console-requires-2 : tie.Need-move-console-requires-2
 move-console-requires-2 c κs =
     let start = c.before.before.before.before.before in
     let s = start.args.s.now in
     let accepted = subst (Accepted s) c.before.before.c4.given.1 start.requires.1 in
-    (start.requires.0, move_asks s _ _ accepted.0 (forward_accepted _ _ _ accepted.1.0))
+    (start.requires.0, move_asks s _ _ accepted.0 (forward_accepted _ _ _ accepted.1))
 
 remove-console-requires : tie.Need-remove-console-requires
 remove-console-requires c κs =
     let start = c.before.before.before.before.before in
     let s = start.args.s.now in
     let accepted = subst (Accepted s) c.before.before.c5.given.1 start.requires.1 in
-    (start.requires.0, (accepted.0, (leave_accepted _ _ accepted.1.0).1))
+    (start.requires.0, (accepted.0, (leave_accepted _ _ accepted.1).1))
 
 make-hub-requires : tie.Need-make-hub-requires
 make-hub-requires c κs =
     let start = c.before.before.before.before in
     let s = start.args.s.now in
     let accepted = subst (Accepted s) c.before.enum_told.given.1 start.requires.1 in
-    (start.requires.0, hub_accepted _ accepted.1.0)
+    (start.requires.0, hub_accepted _ accepted.1)
 
 returns : tie.Need-returns
 unfolding step clash_count

@@ -4,22 +4,22 @@ use Prim.Native.Nat.{◌-◌}
 use native.Mathlib.Omega.{arith}
 use Rattle.graph.proofs.Passing.{Passing, passing_none, passing_again, passing_all, passing_fails}
 use Rattle.command.specs.Code.{console_count}
-use Rattle.store.specs.Check.{row_in, console_right}
+use Rattle.store.specs.Check.{console_right}
 use Rattle.store.proofs.Heads.{heads_versions}
 use Rattle.store.proofs.consoles.consoles_right.Statement.{statement}
 use Rattle.store.proofs.consoles.consoles_right.Tie as tie
 
 abbrev invariant-loop : tie.invariant-loop
-invariant-loop table blocks size at n c₀ c = Passing console_count (console_right (row_in size at blocks) table n) c
+invariant-loop s n c₀ c = Passing console_count (console_right s n) c
 
 abbrev decreases-loop : tie.decreases-loop
-decreases-loop table blocks size at n c₀ c = console_count - c
+decreases-loop s n c₀ c = console_count - c
 
 console-right-requires : tie.Need-console-right-requires invariant-loop decreases-loop
 console-right-requires c κs =
     let w = c.before in
-    let a = w.before.before.before.args in
-    (omega arith, (omega arith, heads_versions (row_in a.size a.at a.blocks.now) a.table.now a.n w.loop.c w.loop.invariant.told))
+    let a = w.before.before.args in
+    (omega arith, (omega arith, heads_versions a.s.now a.n w.loop.c w.loop.invariant.told))
 
 returns : tie.Need-returns invariant-loop decreases-loop
 returns c = passing_fails _ _ (omega arith) c.before.console-right.ensures c.if1.true

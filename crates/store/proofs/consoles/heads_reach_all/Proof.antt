@@ -1,23 +1,28 @@
 -- `store::consoles::heads_reach_all` meets its contract. The loop's invariant: `acc` has the versions behind the heads of the consoles before `c`.
 -- Assumes nothing.
-use Prim.Native.Nat.{◌-◌, ◌≤◌}
-use mathlib.Core.Path.{◌≡◌, refl, ◌∙◌}
+use Prim.Native.Nat.{ℕ, pred, ◌+◌, ◌-◌, ◌*◌, ◌≤◌, ◌<◌}
+use mathlib.Core.Path.{◌≡◌, refl, sym, subst, ◌∙◌}
+use mathlib.Core.List.{List}
 use native.Mathlib.Omega.{arith}
 use lib.ListN.{length}
-use Rattle.buffer.proofs.Blocks.{block_most}
+use Rattle.buffer.specs.Field.{part}
 use Rattle.command.specs.Code.{console_count}
 use Rattle.store.specs.Layout.{row_size}
-use Rattle.store.specs.Check.{row_in, behind_heads}
+use Rattle.store.specs.Check.{behind_heads}
 use Rattle.store.proofs.Heads.{behind_none, behind_more}
 use Rattle.store.proofs.consoles.heads_reach_all.Statement.{statement}
 use Rattle.store.proofs.consoles.heads_reach_all.Tie as tie
 
+-- the row of version v
+abbrev row_of : List ℕ → ℕ → ℕ → ℕ → List ℕ
+row_of rows first stride v = part rows (first + stride * v) row_size
+
 abbrev invariant-loop : tie.invariant-loop
-invariant-loop table blocks size at n acc₀ c₀ acc c =
-    (c ≤ console_count) × (length acc ≡ row_size) × (acc ≡ behind_heads table (row_in size at blocks) c)
+invariant-loop header rows first stride n acc₀ c₀ acc c =
+    (c ≤ console_count) × (length acc ≡ row_size) × (acc ≡ behind_heads header (row_of rows first stride) c)
 
 abbrev decreases-loop : tie.decreases-loop
-decreases-loop table blocks size at n acc₀ c₀ acc c = console_count - c
+decreases-loop header rows first stride n acc₀ c₀ acc c = console_count - c
 
 loop-holds : tie.Need-loop-init invariant-loop decreases-loop
 loop-holds c = (omega arith, refl, behind_none _ _)
@@ -27,9 +32,10 @@ add-head-requires c κs =
     let turn = c.before.before.before in
     let start = turn.before.before.before in
     let a = start.args in
-    let field = c.before.common-in in
-    let named = start.requires.1 turn.loop.c (omega arith) in
-    ((turn.loop.invariant.1, omega arith), omega (arith, block_most a.size field.result.0 a.n (omega (arith, field.ensures.0))))
+    let field = c.before.common-in.ensures.0 in (
+      turn.loop.invariant.1,
+      subst (λ (x : ℕ). 0 < x → a.first + a.stride * pred x + row_size ≤ length a.rows.now) (sym field) (start.requires.1 turn.loop.c (omega arith)),
+    )
 
 loop-again : tie.Need-loop-preserved invariant-loop decreases-loop
 loop-again c =
@@ -39,7 +45,7 @@ loop-again c =
       omega arith,
       omega arith,
       c.before.add-head.ensures
-          ∙ behind_more a.table.now (row_in a.size a.at a.blocks.now) turn.loop.acc turn.loop.c field.result.0 turn.loop.invariant.2 field.ensures.0,
+          ∙ behind_more a.header.now (row_of a.rows.now a.first a.stride) turn.loop.acc turn.loop.c field.result.0 turn.loop.invariant.2 field.ensures.0,
     )
 
 returns : tie.Need-returns invariant-loop decreases-loop
@@ -47,7 +53,7 @@ returns c =
     let turn = c.before.before.before in
     let a = turn.before.before.before.args in
     let e : turn.loop.c ≡ console_count = omega arith in
-    let done : turn.loop.acc ≡ behind_heads a.table.now (row_in a.size a.at a.blocks.now) console_count = rw e at turn.loop.invariant.2 in
+    let done : turn.loop.acc ≡ behind_heads a.header.now (row_of a.rows.now a.first a.stride) console_count = rw e at turn.loop.invariant.2 in
     rw (c.has-all-below.ensures, done)
 
 pub heads-reach-all-spec : {M : Type 1} → statement M

@@ -2,7 +2,7 @@
 -- Assumes nothing.
 use borrow.Author.Tests.{eq-eqb, ne_eqb, lt-ltb, le-ltb, le-leb, lt-leb}
 use native.Mathlib.Omega.{arith}
-use Rattle.store.proofs.Heads.{field_inside}
+use borrow.Author.Rules.{rules}
 use Rattle.store.proofs.consoles.meet_right.Statement.{statement}
 use Rattle.store.proofs.consoles.meet_right.Tie as tie
 
@@ -24,24 +24,6 @@ returns-4 c =
     let a = c.before.before.before.before.before.before.before.before.before.args in
     simp (ne_eqb a.u.0 0 (omega arith), ne_eqb a.v.0 0 (omega arith), lt-ltb 0 a.m.0 (omega arith), lt-leb a.m.0 a.n (omega arith))
 
-rows-meet-requires : tie.Need-rows-meet-requires
-rows-meet-requires c κs =
-    let u = c.before in
-    let m = u.before in
-    let start = m.before.before.before.before.before.before.before.before.before.before in
-    let a = start.args in
-    let p = start.requires in
-    rw (m.version_of.ensures, u.version-of2.ensures, c.version-of3.ensures) (
-      p.0.0,
-      (
-        field_inside a.size a.n a.m.0 _ m.before.before.before.if3.false (omega arith) p.0.1,
-        (
-          field_inside a.size a.n a.u.0 _ m.before.before.before.before.before.before.before.if1.false p.1.0 p.0.1,
-          field_inside a.size a.n a.v.0 _ m.before.before.before.before.before.if2.false p.1.1 p.0.1,
-        ),
-      ),
-    )
-
 returns-5 : tie.Need-returns-5
 returns-5 c =
     let v = c.before in
@@ -49,7 +31,7 @@ returns-5 c =
     let m = u.before in
     let a = m.before.before.before.before.before.before.before.before.before.before.args in
     simp (
-      c.rows-meet.ensures,
+      c.rows_meet_lem.ensures,
       m.version_of.ensures,
       u.version-of2.ensures,
       v.version-of3.ensures,
@@ -61,4 +43,4 @@ returns-5 c =
 
 pub meet-right-spec : {M : Type 1} → statement M
 meet-right-spec =
-    tie.close (tie.spec returns returns-2 returns-3 returns-4 (λ c κs. tt) (λ c κs. tt) (λ c κs. tt) rows-meet-requires returns-5)
+    tie.close (tie.spec returns returns-2 returns-3 returns-4 (λ c κs. search rules) (λ c κs. search rules) (λ c κs. search rules) (λ c κs. omega arith) returns-5)

@@ -7,7 +7,7 @@ use Rattle.store.proofs.consoles.rows_meet.Tie as tie
 returns : tie.Need-returns
 returns c =
     let d = c.before in
-    rw (c.is-intersection.ensures, d.before.before.row_in.ensures.0, d.before.row-in2.ensures.0, d.row-in3.ensures.0)
+    rw (c.is-intersection.ensures, d.before.before.row-part.ensures.0, d.before.row-part2.ensures.0, d.row-part3.ensures.0)
 
 pub rows-meet-spec : {M : Type 1} → statement M
 rows-meet-spec =

@@ -10,10 +10,10 @@ use Rattle.store.proofs.hub.commons_in_row.Statement.{statement}
 use Rattle.store.proofs.hub.commons_in_row.Tie as tie
 
 abbrev invariant-loop : tie.invariant-loop
-invariant-loop table members c₀ c = Passing console_count (λ k. every_below k (common_in_row table members k)) c
+invariant-loop header members c₀ c = Passing console_count (λ k. every_below k (common_in_row header members k)) c
 
 abbrev decreases-loop : tie.decreases-loop
-decreases-loop table members c₀ c = console_count - c
+decreases-loop header members c₀ c = console_count - c
 
 returns : tie.Need-returns invariant-loop decreases-loop
 unfolding commons_in_row

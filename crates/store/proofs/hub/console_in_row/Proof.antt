@@ -9,10 +9,10 @@ use Rattle.store.proofs.hub.console_in_row.Statement.{statement}
 use Rattle.store.proofs.hub.console_in_row.Tie as tie
 
 abbrev invariant-loop : tie.invariant-loop
-invariant-loop table members c d₀ d-end d = (d-end ≡ c.0) × Passing c.0 (common_in_row table members c.0) d
+invariant-loop header members c d₀ d-end d = (d-end ≡ c.0) × Passing c.0 (common_in_row header members c.0) d
 
 abbrev decreases-loop : tie.decreases-loop
-decreases-loop table members c d₀ d-end d = d-end - d
+decreases-loop header members c d₀ d-end d = d-end - d
 
 returns : tie.Need-returns invariant-loop decreases-loop
 returns c = let end = c.before.before.before.loop.invariant.0 in passing_fails _ _ (omega arith) c.before.common-in-row.ensures c.if1.true

@@ -9,22 +9,17 @@ use Rattle.store.proofs.hub.hub_right.Tie as tie
 returns : tie.Need-returns
 returns c = sym (or_l _ _ c.if1.true)
 
-row-in-requires : tie.Need-row-in-requires
-row-in-requires c κs =
-    let read = c.before in
-    let p = read.before.before.before.before.requires in
-    rw (c.version_of.ensures, read.common-in.ensures.0) (p.0.1, p.1.0)
+row-of-field-requires : tie.Need-row-of-field-requires
+row-of-field-requires c κs = rw c.common-in.ensures.0 c.before.before.before.before.requires.1.0
 
 commons-in-row-requires : tie.Need-commons-in-row-requires
-commons-in-row-requires c κs = let p = c.before.before.before.before.before.before.requires in ((p.0.0, c.row_in.ensures.1), p.1.1)
+commons-in-row-requires c κs = let p = c.before.before.before.before.before.requires in ((p.0, c.row-of-field.ensures.1), p.1.1)
 
 returns-2 : tie.Need-returns-2
 returns-2 c =
     let row = c.before in
-    let version = row.before in
-    let read = version.before in
-    c.commons-in-row.ensures
-    ∙ rw (row.row_in.ensures.0, version.version_of.ensures, read.common-in.ensures.0) (sym (or_rest _ _ read.before.if1.false))
+    let read = row.before in
+    c.commons-in-row.ensures ∙ rw (row.row-of-field.ensures.0, read.common-in.ensures.0) (sym (or_rest _ _ read.before.if1.false))
 
 pub hub-right-spec : {M : Type 1} → statement M
-hub-right-spec = tie.close (tie.spec returns (λ c κs. omega arith) (λ c κs. tt) row-in-requires commons-in-row-requires returns-2)
+hub-right-spec = tie.close (tie.spec returns (λ c κs. omega arith) row-of-field-requires commons-in-row-requires returns-2)

@@ -5,7 +5,7 @@ use Rattle.store.proofs.rules.node_in_range.Statement.{statement}
 use Rattle.store.proofs.rules.node_in_range.Tie as tie
 
 returns : tie.Need-returns
-returns c = rw c.before.before.node.given.1 c.entry-in-range.ensures
+returns c = rw c.before.before.node.given.1 c.entry_in_range_lem.ensures
 
 returns-2 : tie.Need-returns-2
 returns-2 c = rw c.before.before.node2.given.1 c.both_below.ensures

@@ -24,7 +24,7 @@ returns c =
     let a = tested.before.before.before.args in
     c.first_of.ensures
     ∙ rw (c.before.when2.ensures, sized.before.when.ensures, sized.store-size.ensures, tested.settings-in-range.ensures, tested.before.settings-for.ensures)
-    (buffer_first (8 when not (settings_in_range (open_settings a.capacity)) ∷ []) a.store.now (store_size (open_settings a.capacity)) refl refl)
+    (buffer_first (8 when not (settings_in_range (open_settings a.capacity)) ∷ []) a.store.now (store_size a.capacity) refl refl)
 
 pub opening-refusal-spec : {M : Type 1} → statement M
 opening-refusal-spec =

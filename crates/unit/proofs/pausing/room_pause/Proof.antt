@@ -6,7 +6,6 @@ use lib.ListN.{length}
 use borrow.Author.Tests.{lt-ltb, le-ltb, not-true, not-false}
 use Rattle.refusal.specs.Refusal.{first_refusal}
 use Rattle.store.specs.Layout.{room_in}
-use Rattle.store.proofs.RoundTrip.{store_room}
 use Rattle.tape.specs.Tape.{tape_of}
 use Rattle.unit.specs.Calls.{pause_outcome}
 use Rattle.unit.proofs.pausing.room_pause.Statement.{statement}
@@ -17,7 +16,7 @@ unfolding pause_outcome first_refusal
 returns c = rw (c.reply-of.ensures, sym c.before.before.holds.ensures ∙ not-true _ c.before.if1.true) (refl, refl)
 
 tape-length-requires : tie.Need-tape-length-requires
-tape-length-requires c κs = store_room _ (sym c.before.holds.ensures ∙ not-false _ c.if1.false)
+tape-length-requires c κs = sym c.before.holds.ensures ∙ not-false _ c.if1.false
 
 returns-2 : tie.Need-returns-2
 unfolding pause_outcome first_refusal
@@ -32,10 +31,7 @@ returns-2 c =
     ) (refl, refl)
 
 write-tape-requires : tie.Need-write-tape-requires
-write-tape-requires c κs =
-    let measured = c.before.before in
-    let told = measured.before.before in
-    (store_room _ (sym told.holds.ensures ∙ not-false _ measured.before.if1.false), omega (arith, measured.tape-length.ensures.0))
+write-tape-requires c κs = (sym c.before.before.before.before.holds.ensures ∙ not-false _ c.before.before.before.if1.false, omega (arith, c.before.before.tape-length.ensures.0))
 
 returns-3 : tie.Need-returns-3
 unfolding pause_outcome first_refusal

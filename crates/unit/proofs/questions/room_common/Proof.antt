@@ -3,7 +3,6 @@
 use native.Mathlib.Omega.{arith}
 use Rattle.room.specs.Room.{common}
 use Rattle.store.specs.Layout.{room_in}
-use Rattle.store.proofs.RoundTrip.{store_room}
 use Rattle.store.proofs.Whole.{whole_small}
 use Rattle.unit.specs.Calls.{common_reply}
 use Rattle.unit.proofs.Answered.{replied_refused, replied_done, pair_allowed}
@@ -20,13 +19,13 @@ common-of-requires : tie.Need-common-of-requires
 common-of-requires c κs =
     let a = c.before.before.before.before.before.args in
     let p = pair_allowed a.store.now a.first a.second c.before.before.before.pair-refusal.ensures (omega arith) in
-    rw (c.before.size.ensures, c.size2.ensures) (store_room _ p.held, ((search, search), (search, search)))
+    rw (c.before.size.ensures, c.size2.ensures) (p.held, ((search, search), (search, search)))
 
 counted-requires : tie.Need-counted-requires
 counted-requires c κs =
     let a = c.before.before.before.before.before.before.args in
     let p = pair_allowed a.store.now a.first a.second c.before.before.before.before.pair-refusal.ensures (omega arith) in
-    omega (arith, whole_small a.store.now (store_room _ p.held))
+    omega (arith, whole_small a.store.now p.held)
 
 returns-2 : tie.Need-returns-2
 unfolding common_reply

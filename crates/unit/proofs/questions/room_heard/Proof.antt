@@ -4,7 +4,6 @@ use mathlib.Core.Path.{◌∙◌}
 use native.Mathlib.Omega.{arith}
 use Rattle.room.specs.Room.{heard_count}
 use Rattle.store.specs.Layout.{room_in}
-use Rattle.store.proofs.RoundTrip.{store_room}
 use Rattle.unit.specs.Calls.{heard_reply}
 use Rattle.unit.proofs.Answered.{replied_refused, replied_done, pair_allowed, pair_sole}
 use Rattle.unit.proofs.questions.room_heard.Statement.{statement}
@@ -21,7 +20,7 @@ heard-count-requires : tie.Need-heard-count-requires
 heard-count-requires c κs =
     let a = c.before.before.before.before.args in
     let p = pair_allowed a.store.now a.console a.console c.before.before.pair-refusal.ensures (omega arith) in
-    rw c.size.ensures (store_room _ p.held, p.first)
+    rw c.size.ensures (p.held, p.first)
 
 returns-2 : tie.Need-returns-2
 unfolding heard_reply

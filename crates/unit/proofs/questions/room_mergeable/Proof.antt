@@ -6,7 +6,6 @@ use borrow.Author.Tests.{not-true, not-false}
 use Rattle.refusal.specs.Refusal.{first_refusal}
 use Rattle.room.proofs.Mergeable.{mergeable_small}
 use Rattle.store.specs.Layout.{room_in}
-use Rattle.store.proofs.RoundTrip.{store_room}
 use Rattle.unit.specs.Calls.{mergeable_reply}
 use Rattle.unit.proofs.questions.room_mergeable.Statement.{statement}
 use Rattle.unit.proofs.questions.room_mergeable.Tie as tie
@@ -16,7 +15,7 @@ unfolding mergeable_reply first_refusal
 returns c = rw (c.reply-of.ensures, sym c.before.before.holds.ensures ∙ not-true _ c.before.if1.true)
 
 mergeable-pair-requires : tie.Need-mergeable-pair-requires
-mergeable-pair-requires c κs = store_room _ (sym c.before.holds.ensures ∙ not-false _ c.if1.false)
+mergeable-pair-requires c κs = sym c.before.holds.ensures ∙ not-false _ c.if1.false
 
 counted-requires : tie.Need-counted-requires
 counted-requires c κs = omega (arith, c.mergeable-pair.ensures, mergeable_small (room_in c.before.before.before.before.args.store.now))

@@ -3,10 +3,8 @@
 use native.Mathlib.Omega.{arith}
 use Rattle.board.specs.Board.{cell_of}
 use Rattle.room.specs.Origin.{origin}
-use Rattle.room.specs.Boards.{rules_of}
 use Rattle.room.proofs.Origins.{origin_below}
 use Rattle.store.specs.Layout.{room_in}
-use Rattle.store.proofs.RoundTrip.{store_room}
 use Rattle.store.proofs.Whole.{whole_small}
 use Rattle.unit.specs.Calls.{origin_reply}
 use Rattle.unit.proofs.Answered.{replied_refused, replied_done, origin_allowed}
@@ -25,7 +23,7 @@ head-of-requires c κs =
     let judged = c.before.before in
     let a = judged.before.before.args in
     let p = origin_allowed a.store.now a.console a.strip a.cell judged.origin-refusal.ensures c.before.if1.false in
-    rw c.size.ensures (store_room _ p.held, p.is_console_lem)
+    rw c.size.ensures (p.held, p.is_console_lem)
 
 cell-of-requires : tie.Need-cell-of-requires
 cell-of-requires c κs =
@@ -42,7 +40,7 @@ origin-of-requires c κs =
     let judged = passed.before in
     let a = judged.before.before.args in
     let p = origin_allowed a.store.now a.console a.strip a.cell judged.origin-refusal.ensures passed.if1.false in
-    (store_room _ p.held, (named.before.head_of.ensures.1, rw named.size2.ensures p.is_strip_lem))
+    (p.held, (named.before.head_of.ensures.1, rw named.size2.ensures p.is_strip_lem))
 
 counted-requires : tie.Need-counted-requires
 counted-requires c κs =
@@ -52,7 +50,7 @@ counted-requires c κs =
     let judged = passed.before in
     let a = judged.before.before.args in
     let p = origin_allowed a.store.now a.console a.strip a.cell judged.origin-refusal.ensures passed.if1.false in
-    omega (arith, whole_small a.store.now (store_room _ p.held), found.ensures, origin_below (rules_of (room_in a.store.now).settings) c.before.cell-of.result named.size2.result (room_in a.store.now).versions named.before.head_of.result.0)
+    omega (arith, whole_small a.store.now p.held, found.ensures, origin_below c.before.cell-of.result named.size2.result (room_in a.store.now).versions named.before.head_of.result.0)
 
 returns-2 : tie.Need-returns-2
 unfolding origin_reply origin

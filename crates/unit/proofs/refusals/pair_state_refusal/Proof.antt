@@ -4,7 +4,6 @@ use mathlib.Core.Path.{sym, ◌∙◌}
 use native.Mathlib.Omega.{arith}
 use borrow.Author.Tests.{not-false}
 use Rattle.refusal.proofs.Refusals.{given_here, given_later}
-use Rattle.store.proofs.RoundTrip.{store_room}
 use Rattle.unit.proofs.refusals.pair_state_refusal.Statement.{statement}
 use Rattle.unit.proofs.refusals.pair_state_refusal.Tie as tie
 
@@ -12,10 +11,10 @@ returns : tie.Need-returns
 returns c = given_here 11 _ _ (rw c.before.holds.ensures at c.if1.true)
 
 is-present-requires : tie.Need-is-present-requires
-is-present-requires c κs = (store_room _ (sym c.before.holds.ensures ∙ not-false _ c.if1.false), omega arith)
+is-present-requires c κs = (sym c.before.holds.ensures ∙ not-false _ c.if1.false, omega arith)
 
 is-present-requires-2 : tie.Need-is-present-requires-2
-is-present-requires-2 c κs = (store_room _ (sym c.before.before.holds.ensures ∙ not-false _ c.before.if1.false), omega arith)
+is-present-requires-2 c κs = (sym c.before.before.holds.ensures ∙ not-false _ c.before.if1.false, omega arith)
 
 returns-2 : tie.Need-returns-2
 returns-2 c =

@@ -2,8 +2,7 @@
 -- Assumes nothing.
 use native.Mathlib.Omega.{arith}
 use Rattle.room.specs.Room.{head}
-use Rattle.store.specs.Layout.{board_place, room_in}
-use Rattle.store.proofs.RoundTrip.{store_room}
+use Rattle.store.specs.Layout.{board_at, room_in}
 use Rattle.unit.specs.Calls.{chosen, view_at_reply}
 use Rattle.unit.proofs.Answered.{replied_refused, replied_done}
 use Rattle.unit.proofs.View.{view_allowed, place_low}
@@ -15,9 +14,8 @@ unfolding view_at_reply
 returns c =
     let judged = c.before.before in
     let a = judged.before.before.before.args in
-    let r = room_in (chosen a.choice a.live.now a.frozen.now) in
     rw c.reply-of.ensures
-    (replied_refused (board_place r.settings (head r a.console)) judged.view-refusal.ensures (omega arith))
+    (replied_refused (board_at (head (room_in (chosen a.choice a.live.now a.frozen.now)) a.console)) judged.view-refusal.ensures (omega arith))
 
 returns-2 : tie.Need-returns-2
 unfolding view_at_reply
@@ -34,7 +32,7 @@ shown-at-requires c κs =
     let judged = found.before.before in
     let a = judged.before.before.before.args in
     let p = view_allowed a.live.now a.frozen.now a.console a.choice judged.view-refusal.ensures (omega arith) in
-    rw (found.chosen-store.ensures.0, c.size.ensures) (store_room _ p.held, p.first)
+    rw (found.chosen-store.ensures.0, c.size.ensures) (p.held, p.first)
 
 counted-requires : tie.Need-counted-requires
 counted-requires c κs =

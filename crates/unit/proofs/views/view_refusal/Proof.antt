@@ -4,7 +4,6 @@ use mathlib.Core.Path.{refl, sym, ◌∙◌}
 use borrow.Author.Tests.{ltb-true, not-false}
 use Rattle.refusal.proofs.Refusals.{given_here, given_later, none_applies, first_given, first_later}
 use Rattle.command.specs.Code.{console_count, is_console}
-use Rattle.store.proofs.RoundTrip.{store_room}
 use Rattle.unit.specs.Calls.{view_input_tests}
 use Rattle.unit.proofs.views.view_refusal.Statement.{statement}
 use Rattle.unit.proofs.views.view_refusal.Tie as tie
@@ -43,7 +42,7 @@ is-present-requires c κs =
     let a = input.before.before.before.args in
     let none = none_applies (view_input_tests a.console a.choice) refl (sym input.view-input-refusal.ensures ∙ named.if1.false) in
     rw (found.chosen-store.ensures.0, c.size.ensures)
-    (store_room _ (sym judged.chosen-holds.ensures ∙ not-false _ found.before.if2.false), ltb-true a.console console_count (not-false (is_console a.console) none.0))
+    (sym judged.chosen-holds.ensures ∙ not-false _ found.before.if2.false, ltb-true a.console console_count (not-false (is_console a.console) none.0))
 
 pub view-refusal-spec : {M : Type 1} → statement M
 view-refusal-spec =

@@ -1,19 +1,21 @@
 -- `update::append::append_merge_counted` meets its contract.
 -- Assumes nothing.
 use native.Mathlib.Omega.{arith}
-use Rattle.update.proofs.AppendedBytes.{block_behind, merged_bytes_lem}
+use Rattle.update.proofs.Appended.{merge_appended}
 use Rattle.update.proofs.append.append_merge_counted.Statement.{statement}
 use Rattle.update.proofs.append.append_merge_counted.Tie as tie
 
-put-merge-counted-requires : tie.Need-put-merge-counted-requires
-put-merge-counted-requires c κs =
-    let a = c.before.before.before.args in
-    (block_behind a.settings _ c.before.block_size_lem.ensures a.n.0 _ _ c.before.before.before.requires.1 (omega arith), (omega arith, omega arith, omega arith, omega arith))
-
 returns : tie.Need-returns
 returns c =
-    let a = c.before.before.before.before.before.before.args in
-    merged_bytes_lem a.settings a.s.now _ c.before.before.before.before.block_size_lem.ensures (omega arith) a.n.0 a.p.0 a.q.0 a.l.0 c.before.before.put-merge-counted.ensures
+    let board = c.before.before in
+    let row = board.before.before.before.before in
+    let node = row.before.before.before.before in
+    let start = node.before.before.before in
+    let a = start.args in
+    merge_appended a.s.now a.n.0 (omega arith) a.p.0 a.q.0 a.l.0 (omega arith) (omega arith) (omega arith) _ _ _ _
+    node.put-node.ensures row.put-merge-row.ensures board.put-merge-board-counted.ensures
 
 pub append-merge-counted-spec : {M : Type 1} → statement M
-append-merge-counted-spec = tie.close (tie.spec (λ c κs. tt) (λ c. omega arith) (λ c. omega arith) (λ c. omega arith) put-merge-counted-requires (λ c. omega arith) returns)
+append-merge-counted-spec =
+    tie.close
+    (tie.spec (λ c κs. omega arith) (λ c κs. omega arith) (λ c κs. omega arith) (λ c. omega arith) returns)

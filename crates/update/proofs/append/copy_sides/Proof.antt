@@ -10,9 +10,9 @@ returns c =
     let third = c.before.before in
     let second = third.before.before.before.before.before in
     let first = second.before.before.before.before.before in (
-      first.copy.ensures ∙ first.before.Block-of.ensures.0,
-      second.copy2.ensures ∙ second.before.block-of2.ensures.0,
-      third.copy3.ensures ∙ third.before.block-of3.ensures.0,
+      first.copy.ensures ∙ first.before.board-part.ensures.0,
+      second.copy2.ensures ∙ second.before.board-part2.ensures.0,
+      third.copy3.ensures ∙ third.before.board-part3.ensures.0,
     )
 
 pub copy-sides-spec : {M : Type 1} → statement M

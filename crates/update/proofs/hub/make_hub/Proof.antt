@@ -3,17 +3,20 @@
 use mathlib.Core.Path.{◌∙◌}
 use native.Mathlib.Omega.{arith}
 use Rattle.store.proofs.Whole.{whole_header}
-use Rattle.update.proofs.HubRoom.{hub_room}
+use Rattle.update.proofs.HubStore.{hub_store}
 use Rattle.update.proofs.hub.make_hub.Statement.{statement}
 use Rattle.update.proofs.hub.make_hub.Tie as tie
+
+put-word-requires : tie.Need-put-word-requires
+put-word-requires c κs =
+    let start = c.before.before in
+    omega (arith, whole_header start.args.s.now start.requires.0)
 
 returns : tie.Need-returns
 returns c =
     let written = c.before.before in
-    written.put_word.ensures ∙ hub_room _ written.before.before.before.requires.0
-
-put-word-requires : tie.Need-put-word-requires
-put-word-requires c κs = omega (arith, whole_header _ c.before.before.requires.0)
+    let start = written.before.before.before in
+    written.put_word.ensures ∙ hub_store start.args.s.now start.requires.0 start.requires.1
 
 pub make-hub-spec : {M : Type 1} → statement M
 make-hub-spec = tie.close (tie.spec put-word-requires (λ c. omega arith) returns)
