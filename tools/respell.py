@@ -99,7 +99,9 @@ def main(argv):
         return 1
     for path in sources:
         old = read(path)
-        new = turned(old, turn)
+        # What port.py gave a name to stands in proofs alone; in code the same word is a function's or a variable's.
+        here = turn if path.endswith(".antt") else {o: n for o, n in turn.items() if o != o.lower() or "-" in o}
+        new = turned(old, here)
         if new != old:
             with open(path, "w", encoding="utf-8") as f:
                 f.write(new)

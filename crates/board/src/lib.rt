@@ -1,4 +1,5 @@
 // A board: 32 strips of 12 bytes, and the rules that make the board of a new version.
+#![tactic(auto)]
 pub mod panes;
 pub mod values;
 
@@ -47,14 +48,14 @@ const REST: usize = 11;
 pub const MARK_COUNT: usize = 16;
 
 // Of the cells of a strip, the two that have a value, which has an origin and can clash in a merge.
-#[derive(Drop)]
+#[derive(Clone, Copy)]
 pub enum Cell {
     Level,
     Heading,
 }
 
 // Whoever looks at a board.
-#[derive(Drop)]
+#[derive(Clone, Copy)]
 pub enum Viewer {
     Instructor,
     Student,
@@ -76,7 +77,7 @@ pub const ALERT_ON_ENTRY: usize = 0x07;
 pub const ALERT_OFF_ENTRY: usize = 0x08;
 
 // A level or a heading of a merge, and whether it clashes.
-#[derive(Drop)]
+#[derive(Clone, Copy)]
 pub struct MergedValue {
     pub value: usize,
     pub clash: bool,

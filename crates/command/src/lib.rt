@@ -1,4 +1,5 @@
 // Commands: the lengths and operand widths of codes, and the commands that byte strings decode to.
+#![tactic(auto)]
 use graph::{Console, Strip};
 
 pub mod codes;
@@ -6,7 +7,7 @@ pub mod decoder;
 pub mod numbers;
 
 // The kind of a command, by its code; Unknown is no command's.
-#[derive(Drop)]
+#[derive(Clone, Copy)]
 pub enum Kind {
     Fork,
     Entry,
@@ -18,14 +19,14 @@ pub enum Kind {
 }
 
 // The widths in bytes of what follows a code, in their order; 0 where there is no such operand.
-#[derive(Drop)]
+#[derive(Clone, Copy)]
 pub enum Shape {
     Known(usize, usize, usize, usize),
     Unknown,
 }
 
 // The numbers that follow a code, in their order; 0 where there is no such operand.
-#[derive(Drop)]
+#[derive(Clone, Copy)]
 pub struct Operands {
     pub first: usize,
     pub second: usize,
@@ -33,7 +34,7 @@ pub struct Operands {
     pub fourth: usize,
 }
 
-#[derive(Drop)]
+#[derive(Clone, Copy)]
 pub enum Command {
     Fork {
         new: Console,
@@ -61,7 +62,7 @@ pub enum Command {
 }
 
 // A command is decoded whole, or refused with the number of its refusal.
-#[derive(Drop)]
+#[derive(Clone, Copy)]
 pub enum Decoded {
     Whole(Command),
     Refused(u32),

@@ -1,19 +1,20 @@
 // The version graph: entries and merges, ancestors, and the meet of two versions; and the numbers that are counted apart.
+#![tactic(auto)]
 
 // The number of a version.
-#[derive(Drop)]
+#[derive(Clone, Copy)]
 pub struct Version(pub usize);
 
 // The number of a console.
-#[derive(Drop)]
+#[derive(Clone, Copy)]
 pub struct Console(pub usize);
 
 // The number of a strip of a board.
-#[derive(Drop)]
+#[derive(Clone, Copy)]
 pub struct Strip(pub usize);
 
 // What made a version after version 0; the base of a merge is a function of its parents and of the versions before it.
-#[derive(Drop)]
+#[derive(Clone, Copy)]
 pub enum Node {
     Entry {
         parent: Version,

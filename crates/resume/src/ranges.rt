@@ -32,7 +32,7 @@ fn head_in_range(j: usize, last: Console, count: usize, c: Console, v: Version) 
 }
 
 // What was read of a tape: whether it is in range, and the place past it.
-#[derive(Drop)]
+#[derive(Clone, Copy)]
 pub struct Seen {
     pub ok: bool,
     pub at: usize,

@@ -1,5 +1,6 @@
 // The session program: reads commands from standard input into a store of capacity 64, and prints a line for each: its ordinal, the answer,
 // and the head of the console that its first operand names. What is printed is tested, not proved.
+#![tactic(auto)]
 ghost use Rattle.std.specs.Prelude.{◌≤◌, ◌≡◌, cond, ◌||◌, eqb, ltb, length};
 ghost use Rattle.command.specs.Code.{shape_of, length_of};
 ghost use Rattle.command.specs.Decode.{is_command_code};

@@ -1,4 +1,5 @@
 // The store: a room in the bytes of a lent buffer.
+#![tactic(auto)]
 pub mod consoles;
 pub mod hub;
 pub mod judge;

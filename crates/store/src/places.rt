@@ -45,7 +45,7 @@ pub const COMMONS_END: usize = COMMONS + 2 * CONSOLES * CONSOLES;
 
 // A field of the table of commons: 0 where a console is absent, else 1 more than the version. Only `field_of` and `version_of` turn one into
 // the other.
-#[derive(Drop)]
+#[derive(Clone, Copy)]
 pub struct Field(pub usize);
 
 // The field that stands for a version.

@@ -1,5 +1,6 @@
 // The pause tape: its records, one after the other, and the room that they give. Other crates read and write versions and heads, and write the
 // hub; no other matches a record.
+#![tactic(auto)]
 use graph::{Console, Node, Version};
 use room::Settings;
 
@@ -11,7 +12,7 @@ pub mod writer;
 
 // A record of the tape; Hub says that console 0 is the room's hub; Broken stands for what is none (a code that is no record's, or too few
 // bytes) and is refused with 7.
-#[derive(Drop)]
+#[derive(Clone, Copy)]
 pub enum Record {
     Start { settings: Settings },
     Version { node: Node },

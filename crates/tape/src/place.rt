@@ -15,13 +15,13 @@ use graph::{Console, Node, Strip, Version};
 use room::Settings;
 
 // The reading place.
-#[derive(Drop)]
+#[derive(Clone, Copy)]
 pub struct Place {
     pub at: usize,
 }
 
 // A record that was read, and the place past it.
-#[derive(Drop)]
+#[derive(Clone, Copy)]
 pub struct Taken {
     pub found: Record,
     pub next: usize,

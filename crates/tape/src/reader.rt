@@ -8,14 +8,14 @@ use crate::place::read_at;
 use graph::{Console, Node, Version};
 
 // A version that was read, and the place past its record.
-#[derive(Drop)]
+#[derive(Clone, Copy)]
 pub struct VersionRead {
     pub node: Node,
     pub next: usize,
 }
 
 // A head that was read, and the place past its record.
-#[derive(Drop)]
+#[derive(Clone, Copy)]
 pub struct HeadRead {
     pub console: Console,
     pub version: Version,

@@ -8,7 +8,7 @@ use crate::place::read_at;
 use room::Settings;
 
 // A tape is whole, with what the room is set to and how many versions and heads it has, or it is refused with 7.
-#[derive(Drop)]
+#[derive(Clone, Copy)]
 pub enum Scanned {
     Whole {
         settings: Settings,
@@ -19,7 +19,7 @@ pub enum Scanned {
 }
 
 // What a record is to the scan: one that may not stand there, a version, a head, the hub's, or the end.
-#[derive(Drop)]
+#[derive(Clone, Copy)]
 enum Role {
     Misplaced,
     Version,

@@ -28,8 +28,8 @@ fn opening_refusal(capacity: u32, store: &[u8]) -> u32
 {
     let settings = settings_for(capacity);
     let out_of_range = when(8, !settings_in_range(settings));
-    let too_short_lem = when(19, store.len() < store_size(settings.capacity));
-    first_of(out_of_range, too_short_lem)
+    let too_short = when(19, store.len() < store_size(settings.capacity));
+    first_of(out_of_range, too_short)
 }
 
 // Opens a room: a store of version 0 with console 0 on it, at the front of the lent buffer.

@@ -35,7 +35,7 @@ pub fn put_common(s: &mut [u8], c: Console, k: Console, field: Field)
 }
 
 // Writes the field of console c with another one; its field with itself stands for its head, and stays.
-fn put_other_lem(s: &mut [u8], c: Console, k: Console, field: Field)
+fn put_other(s: &mut [u8], c: Console, k: Console, field: Field)
     requires header_size_in_bounds { header_size ≤ length s.old }
     requires c_lt_console_count { (c.0 < console_count) × (k.0 < console_count) }
     ensures { s.new ≡ put_other s.old c.0 k.0 field.0 }
@@ -63,7 +63,7 @@ pub fn join_commons(s: &mut [u8], c: Console, d: Console)
 {
     for k in 0..CONSOLES {
         let field = joined_field(s, c, d, Console(k));
-        put_other_lem(s, c, Console(k), field);
+        put_other(s, c, Console(k), field);
     }
 }
 
@@ -74,7 +74,7 @@ fn clear_commons(s: &mut [u8], c: Console)
     ensures { s.new ≡ put_others s.old c.0 (λ k. 0) console_count }
 {
     for k in 0..CONSOLES {
-        put_other_lem(s, c, Console(k), Field(0));
+        put_other(s, c, Console(k), Field(0));
     }
 }
 

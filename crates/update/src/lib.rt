@@ -1,4 +1,5 @@
 // Changes to the bytes of a store, each in place.
+#![tactic(auto)]
 pub mod append;
 pub mod commons;
 pub mod hub;
