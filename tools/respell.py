@@ -63,6 +63,16 @@ def spelled(name, names):
     return made
 
 
+def theirs(text, crates):
+    """The names that a file takes from a library that is not of this repository, which may be spelled as one of ours."""
+    found = set()
+    for m in re.finditer(r"^(?:ghost )?use ([\w.]+)\.\{([^}]*)\}", text, re.M):
+        path = m.group(1).split(".")
+        if path[0] != "Rattle" or path[1] not in crates:
+            found.update(TOKEN.findall(m.group(2)))
+    return found
+
+
 def turned(text, names):
     return TOKEN.sub(lambda m: names.get(m.group(0), m.group(0)), text)
 
@@ -72,6 +82,7 @@ def main(argv):
     names = declared(root)
     turn = {n: spelled(n, names) for n in names}
     turn = {old: new for old, new in turn.items() if old != new}
+    crates = set(os.listdir(os.path.join(root, "crates")))
     sources = list(files(os.path.join(root, "crates"), ".antt", ".rt", ".edit"))
     seen = set()
     for path in sources:
@@ -100,8 +111,9 @@ def main(argv):
     for path in sources:
         old = read(path)
         # What port.py gave a name to stands in proofs alone; in code the same word is a function's or a variable's.
+        kept = theirs(old, crates)
         here = turn if path.endswith(".antt") else {o: n for o, n in turn.items() if o != o.lower() or "-" in o}
-        new = turned(old, here)
+        new = turned(old, {o: n for o, n in here.items() if o not in kept})
         if new != old:
             with open(path, "w", encoding="utf-8") as f:
                 f.write(new)

@@ -3,7 +3,7 @@
 -- Assumes nothing.
 use Prim.Native.Nat.{ℕ, ◌+◌}
 use mathlib.Core.Path.{◌≡◌, refl, ap, ap₂, ◌∙◌}
-use mathlib.Core.Bool.{Bool, true, false, ◌&&◌, ◌||◌, or_false}
+use mathlib.Core.Bool.{Bool, true, false, ◌&&◌, ◌||◌, or-false}
 use mathlib.Core.List.{List, [], ◌∷◌, ◌++◌}
 use native.Mathlib.Omega.{arith}
 use lib.Bits.{bit_and, and_zero_r, and_mask}
@@ -20,7 +20,7 @@ use Rattle.board.specs.Pane.{seen_marks, student_strip}
 pub flag_rule : (m n : Bool) (l a b : ℕ) → (m && (n || ltb l a)) || (n && ltb l b) ≡ merge_flag m n l a b
 unfolding merge_flag
 flag_rule true true l a b = refl
-flag_rule true false l a b = or_false (ltb l a)
+flag_rule true false l a b = or-false (ltb l a)
 flag_rule false true l a b = refl
 flag_rule false false l a b = refl
 
