@@ -115,7 +115,8 @@ calls_kept : (store : List ℕ) (j : Journal) (calls : List Call) → Matched st
     → Matched (after_calls store j calls).0 (after_calls store j calls).1
 unfolding after_calls
 calls_kept store j [] m = m
-calls_kept store j (c ∷ calls) m = calls_kept _ _ calls (call_kept store j m c)
+calls_kept store j (c ∷ calls) m =
+    calls_kept (store_after store c) (feed j c (reply_to store c).answer) calls (call_kept store j m c)
 
 -- the opening or the resume before the list, on any buffer and any journal
 resume_first : (buffer : List ℕ) (j : Journal) (o : Option Content) → (resumed o buffer).reply.answer ≡ 0

@@ -152,7 +152,9 @@ calls_agree : {store other : List ℕ} {calls others : List Call} → StoresAgre
     → StoresAgree (store_after_all store calls) (store_after_all other others)
 unfolding store_after_all replies_to
 calls_agree a lists.none e = a
-calls_agree a (next c more) e = calls_agree (call_agree a c (ap (λ (l : List ℕ). get_or l 0 0) e)) more (ap (drop 1) e)
+calls_agree {store = store} {other = other} a (next {c = first} {d = second} c more) e =
+    calls_agree {store = store_after store first} {other = store_after other second}
+    (call_agree a c (ap (λ (l : List ℕ). get_or l 0 0) e)) more (ap (drop 1) e)
 
 -- the call that begins a room, on any two buffers
 begun_contents : (t u : Content) (store other : List ℕ) → RoomsAgree (room_of t) (room_of u) → (resumed (some t) store).reply.answer ≡ 0

@@ -65,7 +65,7 @@ stands_in_row {s} {at} r c d (suc n) zero h l =
     (stands_left (word (common_field r c d)) (common_fields r c (suc d) n) h)
 stands_in_row {s} {at} r c d (suc n) (suc k) h l =
     subst₂ (λ (i j : ℕ). Stands s i (word (common_field r c j))) (omega arith) (omega arith)
-    (stands_in_row r c (suc d) n k (stands_right (word (common_field r c d)) (common_fields r c (suc d) n) h refl) (omega arith))
+    (stands_in_row {at = at + 2} r c (suc d) n k (stands_right (word (common_field r c d)) (common_fields r c (suc d) n) h refl) (omega arith))
 
 stands_in_rows : {s : List ℕ} {at : ℕ} (r : Room) (c n k : ℕ) → Stands s at (common_table r c n) → k < n
     → Stands s (at + 2 * console_count * k) (common_fields r (c + k) 0 console_count)

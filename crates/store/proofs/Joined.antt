@@ -29,7 +29,7 @@ join_fields r c d zero h = nothing_stands
 join_fields {s} {at} r c d (suc n) h =
     stands_join {to = at + 2} (word (common_field r c d)) (common_fields r c (suc d) n)
     (subst₂ (λ (i j : ℕ). Stands s i (word (common_field r c j))) (omega arith) (omega arith) (h 0 (omega arith)))
-    (join_fields r c (suc d) n
+    (join_fields {at = at + 2} r c (suc d) n
     (λ k l. subst₂ (λ (i j : ℕ). Stands s i (word (common_field r c j))) (omega arith) (omega arith) (h (suc k) (omega arith))))
     refl
 
@@ -40,7 +40,7 @@ join_table r c zero h = nothing_stands
 join_table {s} {at} r c (suc n) h =
     stands_join {to = at + 2 * console_count} (common_fields r c 0 console_count) (common_table r (suc c) n)
     (subst₂ (λ (i j : ℕ). Stands s i (common_fields r j 0 console_count)) (omega arith) (omega arith) (h 0 (omega arith)))
-    (join_table r (suc c) n
+    (join_table {at = at + 2 * console_count} r (suc c) n
     (λ k l. subst₂ (λ (i j : ℕ). Stands s i (common_fields r j 0 console_count)) (omega arith) (omega arith) (h (suc k) (omega arith))))
     (rw common_fields-length)
 
