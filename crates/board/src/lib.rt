@@ -1,5 +1,6 @@
 // A board: 32 strips of 12 bytes, and the rules that make the board of a new version.
 #![tactic(auto)]
+
 pub mod panes;
 pub mod values;
 

@@ -1,5 +1,6 @@
 // Bytes of a lent buffer: 16-bit fields, bit rows and parts. Nothing here knows the room unit.
 #![tactic(auto)]
+
 ghost use Rattle.std.specs.Prelude.{◌≡◌, ◌+◌, ◌*◌, ◌/◌, ◌%◌, ◌^◌, ◌<◌, ◌≤◌, length};
 ghost use Rattle.buffer.specs.Field.{word_at, put_word, part, address_of, with_part, same, all_zero, zeros};
 ghost use Rattle.buffer.specs.Blocks.{block_at, block_in, with_block};

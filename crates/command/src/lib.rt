@@ -1,5 +1,6 @@
 // Commands: the lengths and operand widths of codes, and the commands that byte strings decode to.
 #![tactic(auto)]
+
 use graph::{Console, Strip};
 
 pub mod codes;

@@ -1,6 +1,7 @@
 // Pause: the tape of a store, its length and its bytes. A store is read version by version and console by console, and each record is
 // written behind the one before.
 #![tactic(auto)]
+
 mod measure;
 mod write;
 

@@ -1,6 +1,7 @@
 // Questions to bytes that hold a sound store: what its room is set to, how many versions it holds, who is present, heads and common versions, ancestors
 // and boards. Each of these answers is read where it stands; `origin` walks from version to version.
 #![tactic(auto)]
+
 pub mod origin;
 
 ghost use Rattle.std.specs.Prelude.{◌≡◌, true, ◌<◌, ◌≤◌, length};

@@ -1,5 +1,6 @@
 // Refusals: the first that applies of a list of tests, made of two functions. 0 stands for none.
 #![tactic(auto)]
+
 ghost use Rattle.std.specs.Prelude.{◌≡◌, [], ◌∷◌};
 ghost use Rattle.refusal.specs.Refusal.{◌when◌, first_refusal, first_of};
 

@@ -1,5 +1,6 @@
 // The store: a room in the bytes of a lent buffer.
 #![tactic(auto)]
+
 pub mod consoles;
 pub mod hub;
 pub mod judge;

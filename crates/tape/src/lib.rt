@@ -1,6 +1,7 @@
 // The pause tape: its records, one after the other, and the room that they give. Other crates read and write versions and heads, and write the
 // hub; no other matches a record.
 #![tactic(auto)]
+
 use graph::{Console, Node, Version};
 use room::Settings;
 

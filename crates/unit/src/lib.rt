@@ -1,5 +1,6 @@
 // The room unit as the panel sees it: its calls, and what each returns.
 #![tactic(auto)]
+
 mod answers;
 pub mod commands;
 pub mod opening;

@@ -1,5 +1,6 @@
 // Changes to the bytes of a store, each in place.
 #![tactic(auto)]
+
 pub mod append;
 pub mod commons;
 pub mod hub;

@@ -1,0 +1,11 @@
+-- `board::merge_marks_at` meets its contract. What is written is made of the three words that were read, all of them with their bytes swapped.
+use Rattle.board.proofs.LittleEndian.{put_marks}
+use Rattle.board.proofs.merge_marks_at.Goals as goal
+
+pub returns : goal.returns
+returns c = let args = c.args in
+    let l = c.le_word_at.ensures in
+    let a = c.le_word_at-2.ensures in
+    let b = c.le_word_at-3.ensures in
+    rw (c.put_le_word.ensures, c.merge_marks.ensures.0, l.0, a.0, b.0)
+    (put_marks args.s.now args.l.now args.a.now args.b.now args.at l.1 a.1 b.1)

@@ -1,0 +1,9 @@
+-- `board::values::cell_at` meets its contract.
+use native.Mathlib.Omega.{arith}
+use Rattle.board.proofs.values.cell_at.Goals as goal
+
+pub returns-in-Level : goal.returns-in-Level
+returns-in-Level c = rw c.enum_told-1.given.1 (omega arith)
+
+pub returns-in-Heading : goal.returns-in-Heading
+returns-in-Heading c = rw c.enum_told-in-Heading-1.given.1 (omega arith)

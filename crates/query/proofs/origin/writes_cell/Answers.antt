@@ -1,0 +1,5 @@
+-- `query::origin::writes_cell` meets its contract.
+use Rattle.query.proofs.origin.writes_cell.Goals as goal
+
+pub returns-in-Entry : goal.returns-in-Entry
+returns-in-Entry c = rw (c.node-1.given.1, c.writing_code.ensures)

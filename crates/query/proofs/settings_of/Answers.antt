@@ -1,0 +1,7 @@
+-- `query::settings_of` meets its contract.
+use Rattle.query.proofs.Answers.{settings_answer}
+use Rattle.query.proofs.settings_of.Goals as goal
+
+pub returns : goal.returns
+returns c = let read = c.read_settings.ensures.0 in
+    rw read (settings_answer c.args.s.now c.requires)

@@ -1,0 +1,85 @@
+-- `step::changes::change` meets its contract: a command that is not refused has what its change asks for.
+-- a command whose numbers are in range and that is not refused
+use Prim.Native.Nat.{ℕ, ◌<◌}
+use mathlib.Core.Path.{◌≡◌, refl, subst}
+use mathlib.Core.Bool.{true}
+use mathlib.Core.List.{List}
+use borrow.Author.Tests.{ltb-true}
+use Rattle.laws.proofs.Logic.{and_l, and_r}
+use Rattle.command.specs.declared.Command.{Command}
+use Rattle.graph.specs.declared.Console.{Console}
+use Rattle.command.specs.Code.{console_count}
+use Rattle.command.specs.Decoding.{TwoConsoles, InRange}
+use Rattle.room.specs.Room.{present}
+use Rattle.room.specs.Step.{behind, step_refusal, step, clash_count}
+use Rattle.room.proofs.Accepted.{Through, MayMove, fork_accepted, forward_accepted, entry_accepted, merge_accepted, leave_accepted, hub_accepted}
+use Rattle.store.specs.Layout.{room_in}
+use Rattle.step.proofs.changes.change.Goals as goal
+
+abbrev Accepted : List ℕ → Command → Type 0
+Accepted s c = InRange c × (step_refusal (room_in s) c ≡ 0)
+
+-- what `move_console` asks for, of a fork and of a fast-forward
+
+move_asks : (s : List ℕ) (c d : Console) → TwoConsoles c.0 d.0 → MayMove (room_in s) c.0 d.0
+    → ((c.0 < console_count) × (d.0 < console_count))
+    × ((present (room_in s) d.0 ≡ true) × ((present (room_in s) c.0 ≡ true → behind (room_in s) c.0 d.0 ≡ true) × Through (room_in s) c.0 d.0))
+move_asks s c d two may = ((two.0, two.1), (may.target, (may.ahead, may.through)))
+
+pub move_console-requires : goal.move_console-requires
+move_console-requires c = let s = c.args.s.now in
+    let accepted = subst (Accepted s) c.c-1.given.1 c.requires.1 in
+    (c.requires.0, move_asks s _ _ accepted.0 (fork_accepted _ _ _ accepted.1))
+
+pub enter-requires : goal.enter-requires
+enter-requires c = let s = c.args.s.now in
+    let accepted = subst (Accepted s) c.c-in-Entry-1.given.1 c.requires.1 in
+    let may = entry_accepted _ _ _ _ _ accepted.1 in
+    (c.requires.0, search (and_l, and_r, ltb-true, may, accepted))
+
+pub merge-requires : goal.merge-requires
+merge-requires c = let s = c.args.s.now in
+    let accepted = subst (Accepted s) c.c-in-Merge-1.given.1 c.requires.1 in
+    let may = merge_accepted _ _ _ accepted.1 in
+    let two = accepted.0 in
+    let take = may.take in
+    (c.requires.0, ((two.0, two.1), ((take.receiver, take.giver), ((take.ahead, may.back), ((may.unsplit, take.through), ltb-true _ _ may.is_free)))))
+
+pub move_console-requires-in-FastForward : goal.move_console-requires-in-FastForward
+move_console-requires-in-FastForward c = let s = c.args.s.now in
+    let accepted = subst (Accepted s) c.c-in-FastForward-1.given.1 c.requires.1 in
+    (c.requires.0, move_asks s _ _ accepted.0 (forward_accepted _ _ _ accepted.1))
+
+pub remove_console-requires : goal.remove_console-requires
+remove_console-requires c = let s = c.args.s.now in
+    let accepted = subst (Accepted s) c.c-in-Leave-1.given.1 c.requires.1 in
+    (c.requires.0, (accepted.0, (leave_accepted _ _ accepted.1).1))
+
+pub make_hub-requires : goal.make_hub-requires
+make_hub-requires c = let s = c.args.s.now in
+    let accepted = subst (Accepted s) c.enum_told-1.given.1 c.requires.1 in
+    (c.requires.0, hub_accepted _ accepted.1)
+
+pub returns-in-Merge : goal.returns-in-Merge
+unfolding step clash_count
+returns-in-Merge c = rw c.c-in-Merge-1.given.1 c.merge.ensures
+
+pub returns-in-Fork : goal.returns-in-Fork
+unfolding step clash_count
+returns-in-Fork c = rw c.c-1.given.1 (c.move_console.ensures, refl)
+
+pub returns-in-Entry : goal.returns-in-Entry
+unfolding step clash_count
+returns-in-Entry c = rw c.c-in-Entry-1.given.1 (c.enter.ensures, refl)
+
+pub returns-in-FastForward : goal.returns-in-FastForward
+unfolding step clash_count
+returns-in-FastForward c = rw c.c-in-FastForward-1.given.1 (c.move_console-in-FastForward.ensures, refl)
+
+pub returns-in-Leave : goal.returns-in-Leave
+unfolding step clash_count
+returns-in-Leave c = rw c.c-in-Leave-1.given.1 (c.remove_console.ensures, refl)
+
+pub returns-in-MakeHub : goal.returns-in-MakeHub
+unfolding step clash_count
+returns-in-MakeHub c = rw c.enum_told-1.given.1 (c.make_hub.ensures, refl)

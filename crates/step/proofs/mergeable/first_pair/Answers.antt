@@ -1,0 +1,20 @@
+-- `step::mergeable::first_pair` meets its contract. The loop's invariant: no number before that of `receiver`.
+use Prim.Native.Nat.{◌-◌}
+use native.Mathlib.Omega.{arith}
+use Rattle.room.specs.Mergeable.{first_pair}
+use Rattle.step.proofs.Search.{none_again, none_but_this, none_at_last}
+use Rattle.step.proofs.mergeable.first_pair.Goals as goal
+
+pub returns-then-number-ne0 : goal.returns-then-number-ne0
+unfolding first_pair
+returns-then-number-ne0 c = none_but_this c.loop-receiver.invariant (omega arith) c.first_with_receiver-number.ensures (omega arith)
+
+pub first_with_receiver-number-requires : goal.first_with_receiver-number-requires
+first_with_receiver-number-requires c = (c.requires, (omega arith, c.loop-receiver.invariant.none))
+
+pub loop-receiver-preserved : goal.loop-receiver-preserved
+loop-receiver-preserved c = none_again c.loop-receiver.invariant (omega arith) c.first_with_receiver-number.ensures (omega arith)
+
+pub returns : goal.returns
+unfolding first_pair
+returns c = none_at_last c.loop-receiver.invariant (omega arith)

@@ -1,0 +1,18 @@
+-- `step::third::some_third_splits` meets its contract. The loop's invariant: no console before `k` passes.
+use Prim.Native.Nat.{◌-◌}
+use native.Mathlib.Omega.{arith}
+use Rattle.step.proofs.Search.{missed_again, missed_found, missed_all}
+use Rattle.step.proofs.third.some_third_splits.Goals as goal
+
+pub splits_at-requires : goal.splits_at-requires
+splits_at-requires c = let p = c.requires in
+    (p.0, (omega arith, p.1.1))
+
+pub returns-then-splits_at : goal.returns-then-splits_at
+returns-then-splits_at c = missed_found _ (omega arith) c.splits_at.ensures c.if-splits_at.true
+
+pub loop-k-preserved : goal.loop-k-preserved
+loop-k-preserved c = missed_again c.loop-k.invariant (omega arith) c.splits_at.ensures c.if-splits_at.false
+
+pub returns : goal.returns
+returns c = missed_all c.loop-k.invariant (omega arith)

@@ -1,0 +1,5 @@
+-- `store::version::root_row_right` meets its contract.
+use Rattle.store.proofs.version.root_row_right.Goals as goal
+
+pub returns : goal.returns
+returns c = rw c.row_part.ensures.0 at c.is_extended.ensures
