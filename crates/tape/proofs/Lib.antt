@@ -6,5 +6,7 @@ pub mod Written
 pub mod RoundTrip
 pub mod Places
 pub mod Sorts
+pub mod Lent
+pub mod Walk
 pub mod Scans
 pub mod Located

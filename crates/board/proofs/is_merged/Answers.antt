@@ -2,4 +2,4 @@
 use Rattle.board.proofs.is_merged.Goals as goal
 
 pub returns : goal.returns
-returns c = rw (c.is_same.ensures, c.merge_board_lem.ensures)
+returns c = rw (c.is_same.ensures, c.merge_board.ensures)

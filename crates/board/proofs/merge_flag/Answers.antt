@@ -3,4 +3,4 @@ use Rattle.board.proofs.Strips.{flag_rule}
 use Rattle.board.proofs.merge_flag.Goals as goal
 
 pub returns : goal.returns
-returns c = flag_rule c.args.a-on c.args.b-on c.args.l c.args.a c.args.b
+returns c = flag_rule c.args.a_on c.args.b_on c.args.l c.args.a c.args.b

@@ -6,7 +6,7 @@ use Rattle.buffer.proofs.Ones.{counted_none, counted_more, counted_all}
 use Rattle.buffer.proofs.common_members.Goals as goal
 
 pub loop-i-init : goal.loop-i-init
-loop-i-init c = let p = c.requires in counted_none c.args.s.now c.args.t.now p.0 p.1.0 p.1.1
+loop-i-init c = counted_none c.args.s.now c.args.t.now c.requires.s_len c.requires.s_len_2 c.requires.s_len_bound
 
 pub loop-i-preserved : goal.loop-i-preserved
 loop-i-preserved c = counted_more c.loop-i.invariant (omega arith)

@@ -5,8 +5,11 @@ use Rattle.query.proofs.Answers.{head_answer}
 use Rattle.query.proofs.head_of.Goals as goal
 
 pub common_in-requires : goal.common_in-requires
-common_in-requires c = (whole_header c.args.s.now c.requires.0, omega arith)
+common_in-requires c = record {
+  header_size_in_bounds = whole_header c.args.s.now c.requires.s_value;
+  c_lt_console_count = omega arith;
+}
 
 pub returns : goal.returns
 returns c = let a = c.args in
-    rw (c.version_of.ensures, c.common_in.ensures.0) (head_answer a.s.now c.requires.0 a.c.0 c.requires.1)
+    rw (c.version_of.ensures, c.common_in.ensures.0) (head_answer a.s.now c.requires.s_value a.c.0 c.requires.c_lt_console_count)

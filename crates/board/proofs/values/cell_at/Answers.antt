@@ -3,7 +3,7 @@ use native.Mathlib.Omega.{arith}
 use Rattle.board.proofs.values.cell_at.Goals as goal
 
 pub returns-in-Level : goal.returns-in-Level
-returns-in-Level c = rw c.enum_told-1.given.1 (omega arith)
+returns-in-Level c = rw c.in-Level.is (omega arith)
 
 pub returns-in-Heading : goal.returns-in-Heading
-returns-in-Heading c = rw c.enum_told-in-Heading-1.given.1 (omega arith)
+returns-in-Heading c = rw c.in-Heading.is (omega arith)

@@ -2,4 +2,4 @@
 use Rattle.board.proofs.values.value_in.Goals as goal
 
 pub returns : goal.returns
-returns c = rw c.Cell-at.ensures.0 at c.word_at.ensures.0
+returns c = rw c.cell_at.ensures.0 at c.word_at.ensures.0

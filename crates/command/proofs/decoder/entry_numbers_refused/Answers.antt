@@ -11,8 +11,8 @@ returns c = rw (
   c.when-operand_out_of_range.ensures,
   c.is_operand.ensures,
   c.when-strip_out_of_range.ensures,
-  c.is_strip_lem.ensures,
+  c.is_strip.ensures,
   c.when-console_out_of_range.ensures,
-  c.is_console_lem.ensures,
+  c.is_console.ensures,
 )
     (first_three (3 when _) (4 when _) (5 when _) refl refl)

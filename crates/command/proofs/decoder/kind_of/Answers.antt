@@ -8,23 +8,23 @@ use Rattle.command.proofs.decoder.kind_of.Goals as goal
 
 pub returns-in-1 : goal.returns-in-1
 unfolding kind_of
-returns-in-1 c = rw c.in_default-1.keys1
+returns-in-1 c = rw c.in-1.is
 
 pub returns-in-9 : goal.returns-in-9
 unfolding kind_of
-returns-in-9 c = rw c.in_default-1.keys2
+returns-in-9 c = rw c.in-9.is
 
 pub returns-in-10 : goal.returns-in-10
 unfolding kind_of
-returns-in-10 c = rw c.in_default-1.keys3
+returns-in-10 c = rw c.in-10.is
 
 pub returns-in-11 : goal.returns-in-11
 unfolding kind_of
-returns-in-11 c = rw c.in_default-1.keys4
+returns-in-11 c = rw c.in-11.is
 
 pub returns-in-12 : goal.returns-in-12
 unfolding kind_of
-returns-in-12 c = rw c.in_default-1.keys5
+returns-in-12 c = rw c.in-12.is
 
 pub returns-in-2-to-8 : goal.returns-in-2-to-8
 returns-in-2-to-8 c = let code = c.args.code in

@@ -6,11 +6,11 @@ use Rattle.command.proofs.decoder.number_at.Goals as goal
 
 pub returns-in-2 : goal.returns-in-2
 unfolding number_at
-returns-in-2 c = rw c.in_default.keys1 c.word_at.ensures.0
+returns-in-2 c = rw c.in-2.is c.word_at.ensures.0
 
 pub returns-in-1 : goal.returns-in-1
 unfolding number_at
-returns-in-1 c = rw c.in_default.keys2 c.wide.ensures.0
+returns-in-1 c = rw c.in-1.is c.wide.ensures.0
 
 pub returns-in_default : goal.returns-in_default
 unfolding number_at

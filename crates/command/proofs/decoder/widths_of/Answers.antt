@@ -9,39 +9,39 @@ use Rattle.command.proofs.decoder.widths_of.Goals as goal
 
 pub returns-in-1 : goal.returns-in-1
 unfolding shape_of
-returns-in-1 c = shape_told _ _ (rw c.in_default-1.keys1)
+returns-in-1 c = shape_told _ _ (rw c.in-1.is)
 
 pub returns-in-11 : goal.returns-in-11
 unfolding shape_of
-returns-in-11 c = shape_told _ _ (rw c.in_default-1.keys2)
+returns-in-11 c = shape_told _ _ (rw c.in-11.is)
 
 pub returns-in-12 : goal.returns-in-12
 unfolding shape_of
-returns-in-12 c = shape_told _ _ (rw c.in_default-1.keys3)
+returns-in-12 c = shape_told _ _ (rw c.in-12.is)
 
 pub returns-in-32 : goal.returns-in-32
 unfolding shape_of
-returns-in-32 c = shape_told _ _ (rw c.in_default-1.keys4)
+returns-in-32 c = shape_told _ _ (rw c.in-32.is)
 
 pub returns-in-33 : goal.returns-in-33
 unfolding shape_of
-returns-in-33 c = shape_told _ _ (rw c.in_default-1.keys5)
+returns-in-33 c = shape_told _ _ (rw c.in-33.is)
 
 pub returns-in-34 : goal.returns-in-34
 unfolding shape_of
-returns-in-34 c = shape_told _ _ (rw c.in_default-1.keys6)
+returns-in-34 c = shape_told _ _ (rw c.in-34.is)
 
 pub returns-in-35 : goal.returns-in-35
 unfolding shape_of
-returns-in-35 c = shape_told _ _ (rw c.in_default-1.keys7)
+returns-in-35 c = shape_told _ _ (rw c.in-35.is)
 
 pub returns-in-36 : goal.returns-in-36
 unfolding shape_of
-returns-in-36 c = shape_told _ _ (rw c.in_default-1.keys8)
+returns-in-36 c = shape_told _ _ (rw c.in-36.is)
 
 pub returns-in-37 : goal.returns-in-37
 unfolding shape_of
-returns-in-37 c = shape_told _ _ (rw c.in_default-1.keys9)
+returns-in-37 c = shape_told _ _ (rw c.in-37.is)
 
 pub returns-in-2-to-3 : goal.returns-in-2-to-3
 unfolding shape_of

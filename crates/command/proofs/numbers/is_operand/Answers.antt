@@ -7,19 +7,19 @@ use Rattle.command.proofs.numbers.is_operand.Goals as goal
 
 pub returns-in-2 : goal.returns-in-2
 unfolding is_operand
-returns-in-2 c = rw c.in_default.keys1
+returns-in-2 c = rw c.in-2.is
 
 pub returns-in-3 : goal.returns-in-3
 unfolding is_operand
-returns-in-3 c = rw c.in_default.keys2
+returns-in-3 c = rw c.in-3.is
 
 pub returns-in-4 : goal.returns-in-4
 unfolding is_operand
-returns-in-4 c = rw c.in_default.keys3
+returns-in-4 c = rw c.in-4.is
 
 pub returns-in-5 : goal.returns-in-5
 unfolding is_operand
-returns-in-5 c = rw c.in_default.keys4
+returns-in-5 c = rw c.in-5.is
 
 pub returns-in_default : goal.returns-in_default
 unfolding is_operand

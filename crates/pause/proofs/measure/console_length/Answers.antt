@@ -8,7 +8,10 @@ use Rattle.pause.proofs.Pieces.{present_piece, absent_piece}
 use Rattle.pause.proofs.measure.console_length.Goals as goal
 
 pub is_present-requires : goal.is_present-requires
-is_present-requires c = (c.requires.0, omega arith)
+is_present-requires c = record {
+  s_value = c.requires.s_value;
+  c_lt_console_count = omega arith;
+}
 
 pub returns-then-is_present : goal.returns-then-is_present
 unfolding shape_of length_of

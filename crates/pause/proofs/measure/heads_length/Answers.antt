@@ -11,7 +11,10 @@ pub loop-c-init : goal.loop-c-init
 loop-c-init c = measured_none (head_pieces_lem (room_in c.args.s.now)) console_count
 
 pub console_length-sum-requires : goal.console_length-sum-requires
-console_length-sum-requires c = (c.requires, omega arith)
+console_length-sum-requires c = record {
+  s_value = c.requires;
+  c_lt_console_count = omega arith;
+}
 
 pub loop-c-preserved : goal.loop-c-preserved
 loop-c-preserved c = measured_more (head_pieces_lem (room_in c.args.s.now)) c.loop-c.invariant c.loop-c-test.true c.console_length-sum.ensures.0 c.console_length-sum.ensures.1

@@ -8,10 +8,13 @@ use Rattle.pause.proofs.Pieces.{head_pieces_lem}
 use Rattle.pause.proofs.write.put_head_records.Goals as goal
 
 pub loop-c-init : goal.loop-c-init
-loop-c-init c = piled_none (head_pieces_lem (room_in c.args.s.now)) _ _ console_count c.requires.1
+loop-c-init c = piled_none (head_pieces_lem (room_in c.args.s.now)) _ _ console_count c.requires.console_count_in_bounds
 
 pub put_console_record-at-requires : goal.put_console_record-at-requires
-put_console_record-at-requires c = (c.requires.0, (omega arith, piled_fits (head_pieces_lem (room_in c.args.s.now)) c.loop-c.invariant c.loop-c-test.true))
+put_console_record-at-requires c = record {
+  s_value = c.requires.s_value;
+  c_lt_console_count = (omega arith, piled_fits (head_pieces_lem (room_in c.args.s.now)) c.loop-c.invariant c.loop-c-test.true);
+}
 
 pub loop-c-preserved : goal.loop-c-preserved
 loop-c-preserved c = piled_more (head_pieces_lem (room_in c.args.s.now)) c.loop-c.invariant c.loop-c-test.true c.put_console_record-at.ensures

@@ -6,7 +6,7 @@ use Rattle.pause.proofs.Pieces.{version_pieces_lem}
 use Rattle.pause.proofs.write.put_version_records.Goals as goal
 
 pub loop-k-init : goal.loop-k-init
-loop-k-init c = piled_none (version_pieces_lem c.args.s.now) _ _ _ c.requires.1
+loop-k-init c = piled_none (version_pieces_lem c.args.s.now) _ _ _ c.requires.n_in_bounds
 
 pub put_version_record-at-requires : goal.put_version_record-at-requires
 put_version_record-at-requires c = rw c.read_node.ensures (piled_fits (version_pieces_lem c.args.s.now) c.loop-k.invariant c.loop-k-test.true)

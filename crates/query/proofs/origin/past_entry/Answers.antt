@@ -8,15 +8,13 @@ use Rattle.query.proofs.origin.past_entry.Goals as goal
 
 pub read_node-node-requires : goal.read_node-node-requires
 read_node-node-requires c = let a = c.args in
-    let p = c.requires in
-    (omega (arith, whole_small a.s.now p.0), whole_block a.s.now p.0 a.u.0 p.1)
+    (omega (arith, whole_small a.s.now c.requires.s_value), whole_block a.s.now c.requires.s_value a.u.0 c.requires.u_bound)
 
 pub returns : goal.returns
-returns c = let kind = c.node-1.given.1 in
+returns c = let kind = c.in-Entry.is in
     let node = c.read_node-node in
     let a = c.args in
-    let p = c.requires in
-    let step = walk_step a.s.now p.0 a.u.0 node.result node.ensures (omega arith) p.1 a.cell a.strip.0 in
-    let falls = walk_falls a.s.now p.0 a.u.0 node.result node.ensures (omega arith) p.1 a.cell a.strip.0 in
+    let step = walk_step a.s.now c.requires.s_value a.u.0 node.result node.ensures (omega arith) c.requires.u_bound a.cell a.strip.0 in
+    let falls = walk_falls a.s.now c.requires.s_value a.u.0 node.result node.ensures (omega arith) c.requires.u_bound a.cell a.strip.0 in
     let on = sym (step ∙ cond_false _ _ _ (sym c.writes_cell.ensures ∙ c.if-writes_cell.false)) in
     (rw kind at on, omega (arith, rw kind at falls))

@@ -2,4 +2,4 @@
 use Rattle.query.proofs.origin.writes_cell.Goals as goal
 
 pub returns-in-Entry : goal.returns-in-Entry
-returns-in-Entry c = rw (c.node-1.given.1, c.writing_code.ensures)
+returns-in-Entry c = rw (c.in-Entry.is, c.writing_code.ensures)

@@ -6,12 +6,12 @@ use Rattle.resume.proofs.TableSteps.{paired_none, paired_own, paired_more, paire
 use Rattle.resume.proofs.commons.build_console.Goals as goal
 
 pub loop-k-init : goal.loop-k-init
-loop-k-init c = (refl, paired_none _ _ _ c.requires.1.0)
+loop-k-init c = (refl, paired_none _ _ _ c.requires.header_len)
 
 pub build_pair-met-requires : goal.build_pair-met-requires
 build_pair-met-requires c = let a = c.args in
-    let own = c.requires.1.1.1 in
-    let n = c.requires.1.1.0 in
+    let own = c.requires.by_index in
+    let n = c.requires.c_lt_console_count in
     let p = c.loop-k.invariant.1 in
     let d = c.loop-k.k in
     let x = paired_own p n a.c.0 n in
@@ -21,7 +21,7 @@ build_pair-met-requires c = let a = c.args in
 pub loop-k-preserved : goal.loop-k-preserved
 loop-k-preserved c = let inv = c.loop-k.invariant in (
   inv.0,
-  paired_more inv.1 c.requires.1.1.0 (omega arith) c.common_in-x.ensures.0 c.common_in-y.ensures.0
+  paired_more inv.1 c.requires.c_lt_console_count (omega arith) c.common_in-x.ensures.0 c.common_in-y.ensures.0
       c.build_pair-met.ensures.0 c.build_pair-met.ensures.1,
 )
 

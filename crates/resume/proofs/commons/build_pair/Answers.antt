@@ -6,4 +6,4 @@ use Rattle.resume.proofs.commons.build_pair.Goals as goal
 
 pub returns : goal.returns
 returns c = let a = c.args in
-    (pair_answer a.rows.now a.x.0 a.y.0 c.pair_field_lem.ensures, c.put_common.ensures ∙ ap (put_common a.header.now a.c.0 a.d.0) c.pair_field_lem.ensures)
+    (pair_answer a.rows.now a.x.0 a.y.0 c.pair_field-z.ensures, c.put_common.ensures ∙ ap (put_common a.header.now a.c.0 a.d.0) c.pair_field-z.ensures)

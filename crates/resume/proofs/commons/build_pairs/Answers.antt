@@ -5,11 +5,16 @@ use Rattle.resume.proofs.TableSteps.{tabled_none, tabled_own, tabled_more, table
 use Rattle.resume.proofs.commons.build_pairs.Goals as goal
 
 pub loop-c-init : goal.loop-c-init
-loop-c-init c = tabled_none _ _ c.requires.1.0
+loop-c-init c = tabled_none _ _ c.requires.header_len
 
 pub build_console-met-requires : goal.build_console-met-requires
-build_console-met-requires c = let own = c.requires.1.1 in
-    (omega arith, (omega arith, (omega arith, λ k l. omega (arith, tabled_own c.loop-c.invariant k l, own k l))))
+build_console-met-requires c = let own = c.requires.by_index in
+    record {
+      rows_len = omega arith;
+      header_len = omega arith;
+      c_lt_console_count = omega arith;
+      by_index = λ k l. omega (arith, tabled_own c.loop-c.invariant k l, own k l);
+    }
 
 pub loop-c-preserved : goal.loop-c-preserved
 loop-c-preserved c = tabled_more c.loop-c.invariant (omega arith) c.build_console-met.ensures.0 c.build_console-met.ensures.1

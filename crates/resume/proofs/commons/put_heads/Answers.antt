@@ -7,27 +7,28 @@ use native.Mathlib.Omega.{arith}
 use Rattle.resume.proofs.commons.put_heads.Goals as goal
 
 pub loop-j-init : goal.loop-j-init
-loop-j-init c = let p = c.requires in headed_none (content_in c.args.tape.now) p.1.1.0.1 p.1.1.1.0 p.1.1.1.1
+loop-j-init c = headed_none (content_in c.args.tape.now) c.requires.tape_bound.1 c.requires.header_len.0 c.requires.header_len.1
 
 pub read_head-read-requires : goal.read_head-read-requires
-read_head-read-requires c = head_inside c.args.tape.now _ (λ k. (c.type_inv.tape k)) c.requires.0 c.loop-j.invariant (omega arith)
+read_head-read-requires c = head_inside c.args.tape.now _ (λ k. (omega (arith, c.type_inv.tape k))) c.requires.tape_value c.loop-j.invariant (omega arith)
 
 pub field_of-requires : goal.field_of-requires
 field_of-requires c = let read = c.read_head-read.ensures in
-    let p = c.requires in
-    let bounds = head_bounds c.args.tape.now (content_in c.args.tape.now) (λ k. (c.type_inv.tape k)) p.0 c.loop-j.invariant (omega arith) read.0 read.1 p.1.0.0 p.1.0.1 in
+    let bounds = head_bounds c.args.tape.now (content_in c.args.tape.now) (λ k. (omega (arith, c.type_inv.tape k))) c.requires.tape_value c.loop-j.invariant (omega arith) read.0 read.1 c.requires.tape_value_2.0 c.requires.tape_value_2.1 in
     omega arith
 
 pub put_head-requires : goal.put_head-requires
 put_head-requires c = let read = c.read_head-read.ensures in
-    let p = c.requires in
-    let bounds = head_bounds c.args.tape.now (content_in c.args.tape.now) (λ k. (c.type_inv.tape k)) p.0 c.loop-j.invariant (omega arith) read.0 read.1 p.1.0.0 p.1.0.1 in
+    let bounds = head_bounds c.args.tape.now (content_in c.args.tape.now) (λ k. (omega (arith, c.type_inv.tape k))) c.requires.tape_value c.loop-j.invariant (omega arith) read.0 read.1 c.requires.tape_value_2.0 c.requires.tape_value_2.1 in
     let long = c.loop-j.invariant.built.0 in
-    (omega arith, bounds.0)
+    record {
+      header_size_in_bounds = omega arith;
+      c_lt_console_count = bounds.0;
+    }
 
 pub loop-j-preserved : goal.loop-j-preserved
 loop-j-preserved c = let read = c.read_head-read.ensures in
-    headed_more c.args.tape.now _ (λ k. (c.type_inv.tape k)) c.requires.0 c.loop-j.invariant (omega arith) read.0 read.1
+    headed_more c.args.tape.now _ (λ k. (omega (arith, c.type_inv.tape k))) c.requires.tape_value c.loop-j.invariant (omega arith) read.0 read.1
     (rw c.field_of.ensures at c.put_head.ensures) read.2
 
 pub returns : goal.returns

@@ -7,4 +7,4 @@ pub returns-then-j-eq0 : goal.returns-then-j-eq0
 returns-then-j-eq0 c = let a = c.args in follows_none a.j a.last.0 a.c.0 (omega arith)
 
 pub returns : goal.returns
-returns c = let a = c.args in follows_another a.j a.last.0 a.c.0 _ (omega arith) c.is_console_lem.ensures
+returns c = let a = c.args in follows_another a.j a.last.0 a.c.0 _ (omega arith) c.is_console.ensures

@@ -10,10 +10,16 @@ pub returns-then-settings-versions : goal.returns-then-settings-versions
 returns-then-settings-versions c = (too_many_versions (content_in c.args.tape.now) c.args.settings c.pre.1.0 (omega arith), λ ok. clash ok refl)
 
 pub versions_in_range-seen-requires : goal.versions_in_range-seen-requires
-versions_in_range-seen-requires c = (c.pre.0, c.pre.1.1)
+versions_in_range-seen-requires c = record {
+  tape_value = c.pre.0;
+  versions_value = c.pre.1.1;
+}
 
 pub heads_in_range-named-requires : goal.heads_in_range-named-requires
-heads_in_range-named-requires c = (c.pre.0, (c.versions_in_range-seen.ensures.1, omega arith, c.pre.1.2))
+heads_in_range-named-requires c = record {
+  tape_value = c.pre.0;
+  first_value = (c.versions_in_range-seen.ensures.1, omega arith, c.pre.1.2);
+}
 
 pub returns : goal.returns
 returns c = let seen = c.versions_in_range-seen.ensures in

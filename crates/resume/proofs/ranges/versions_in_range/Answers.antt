@@ -10,11 +10,11 @@ pub loop-k-init : goal.loop-k-init
 loop-k-init c = ranged_none (content_in c.args.tape.now) c.start_length-at.ensures
 
 pub read_version-read-requires : goal.read_version-read-requires
-read_version-read-requires c = version_inside c.args.tape.now _ (λ k. (c.type_inv.tape k)) c.requires.0 c.loop-k.invariant (omega arith)
+read_version-read-requires c = version_inside c.args.tape.now _ (λ k. (omega (arith, c.type_inv.tape k))) c.requires.tape_value c.loop-k.invariant (omega arith)
 
 pub loop-k-preserved : goal.loop-k-preserved
 loop-k-preserved c = let read = c.read_version-read.ensures in
-    ranged_more c.args.tape.now _ (λ k. (c.type_inv.tape k)) c.requires.0 c.loop-k.invariant (omega arith) read.0
+    ranged_more c.args.tape.now _ (λ k. (omega (arith, c.type_inv.tape k))) c.requires.tape_value c.loop-k.invariant (omega arith) read.0
     c.node_in_range-ok.ensures read.1
 
 pub returns : goal.returns

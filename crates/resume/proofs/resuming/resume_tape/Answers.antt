@@ -5,13 +5,16 @@ use Rattle.resume.proofs.resuming.resume_tape.Goals as goal
 
 pub returns-in_default : goal.returns-in_default
 returns-in_default c = let a = c.args in
-    scan_refused (content_of a.tape.now) a.store.now c.scan_refusal.result c.scan-scanned.ensures c.enum_told-1.given.1 c.scan_refusal.ensures
+    scan_refused (content_of a.tape.now) a.store.now c.scan_refusal.result c.scan-scanned.ensures c.in_default.is c.scan_refusal.ensures
 
 pub resume_whole-requires : goal.resume_whole-requires
-resume_whole-requires c = let read = scan_read (content_of c.args.tape.now) c.scan-scanned.ensures c.scanned-1.given.1 in
-    (read.whole, (read.settings_are, read.versions_are, read.heads_are))
+resume_whole-requires c = let read = scan_read (content_of c.args.tape.now) c.scan-scanned.ensures c.in-Whole.is in
+    record {
+      tape_value = read.whole;
+      settings_value = (read.settings_are, read.versions_are, read.heads_are);
+    }
 
 pub returns : goal.returns
 returns c = let a = c.args in
-    let read = scan_read (content_of a.tape.now) c.scan-scanned.ensures c.scanned-1.given.1 in
+    let read = scan_read (content_of a.tape.now) c.scan-scanned.ensures c.in-Whole.is in
     said_of a.store.now read.whole c.resume_whole.ensures

@@ -4,7 +4,7 @@ use native.Mathlib.Omega.{arith}
 use Rattle.resume.proofs.rows.base_found.Goals as goal
 
 pub has_base-requires : goal.has_base-requires
-has_base-requires c = omega (arith, merge_ranged c.node-1.given.1 c.requires.2)
+has_base-requires c = omega (arith, merge_ranged c.in-Merge.is c.requires.2)
 
 pub returns-in-Merge : goal.returns-in-Merge
-returns-in-Merge c = rw c.node-1.given.1 c.has_base.ensures
+returns-in-Merge c = rw c.in-Merge.is c.has_base.ensures

@@ -8,23 +8,22 @@ use native.Mathlib.Omega.{arith}
 use Rattle.resume.proofs.soundness.build_rows.Goals as goal
 
 pub loop-k-init : goal.loop-k-init
-loop-k-init c = rowed_none (content_in c.args.tape.now) c.start_length-at.ensures (rw c.put_root.ensures (rows_root _ c.requires.1.1.1))
+loop-k-init c = rowed_none (content_in c.args.tape.now) c.start_length-at.ensures (rw c.put_root.ensures (rows_root _ c.requires.rows_len))
 
 pub read_version-read-requires : goal.read_version-read-requires
-read_version-read-requires c = version_inside c.args.tape.now _ (λ k. (c.type_inv.tape k)) c.requires.0 c.loop-k.invariant (omega arith)
+read_version-read-requires c = version_inside c.args.tape.now _ (λ k. (omega (arith, c.type_inv.tape k))) c.requires.tape_value c.loop-k.invariant (omega arith)
 
 pub build_row-here-requires : goal.build_row-here-requires
-build_row-here-requires c = let p = c.requires in (
+build_row-here-requires c = (
   c.loop-k.invariant.built.0.long,
   omega arith,
-  next_ranged c.args.tape.now _ (λ k. (c.type_inv.tape k)) p.0 p.1.0 c.loop-k.invariant (omega arith) c.read_version-read.ensures.0,
+  next_ranged c.args.tape.now _ (λ k. (omega (arith, c.type_inv.tape k))) c.requires.tape_value c.requires.tape_value_2 c.loop-k.invariant (omega arith) c.read_version-read.ensures.0,
 )
 
 pub loop-k-preserved : goal.loop-k-preserved
 loop-k-preserved c = let made = c.build_row-here.ensures in
     let read = c.read_version-read.ensures in
-    let p = c.requires in
-    rowed_more c.args.tape.now _ (λ k. (c.type_inv.tape k)) p.0 p.1.0 (omega arith) c.loop-k.invariant (omega arith)
+    rowed_more c.args.tape.now _ (λ k. (omega (arith, c.type_inv.tape k))) c.requires.tape_value c.requires.tape_value_2 (omega arith) c.loop-k.invariant (omega arith)
     read.0 made.0 made.1 read.1
 
 pub returns : goal.returns

@@ -14,73 +14,69 @@ use native.Mathlib.Omega.{arith}
 use Rattle.resume.proofs.writing.write_store.Goals as goal
 
 pub open-requires : goal.open-requires
-open-requires c = let p = c.requires in
-    (rw p.1.0.0 (sound_facts (room_of (content_in c.args.tape.now)) p.1.1.0.0).settings, omega arith)
+open-requires c = record {
+  settings_value = rw c.requires.settings_value.0 (sound_facts (room_of (content_in c.args.tape.now)) c.requires.tape_value_2.0).settings;
+  capacity_in_bounds = omega arith;
+}
 
 pub loop-k-init : goal.loop-k-init
 loop-k-init c = let a = c.args in
-    let p = c.requires in
     let t = content_in a.tape.now in
-    versions_written_none t c.start_length-at.ensures (opened_standing t p.1.1.0.0 a.store.now a.settings p.1.0.0 p.1.1.1.1 c.«open».ensures)
+    versions_written_none t c.start_length-at.ensures (opened_standing t c.requires.tape_value_2.0 a.store.now a.settings c.requires.settings_value.0 c.requires.capacity_in_bounds c.«open».ensures)
 
 pub read_version-read-requires : goal.read_version-read-requires
-read_version-read-requires c = version_inside c.args.tape.now _ (λ i. (c.type_inv.tape i)) c.requires.0 c.loop-k.invariant (omega arith)
+read_version-read-requires c = version_inside c.args.tape.now _ (λ i. (omega (arith, c.type_inv.tape i))) c.requires.tape_value c.loop-k.invariant (omega arith)
 
 pub base_in-requires : goal.base_in-requires
 base_in-requires c = let a = c.args in
-    let p = c.requires in
     let t = content_in a.tape.now in
-    let bytes : Bytes a.tape.now = λ i. (c.type_inv.tape i) in
-    let ready = sound_ready t p.1.1.0.0 p.1.1.0.1 in
+    let bytes : Bytes a.tape.now = λ i. (omega (arith, c.type_inv.tape i)) in
+    let ready = sound_ready t c.requires.tape_value_2.0 c.requires.tape_value_2.1 in
     let range = and_i _ _ ready.lower ready.ranged in
     let small = ready.small in
-    (p.1.1.0.1.long, omega arith, next_ranged a.tape.now t bytes p.0 range c.loop-k.invariant (omega arith) c.read_version-read.ensures.0)
+    (c.requires.tape_value_2.1.long, omega arith, next_ranged a.tape.now t bytes c.requires.tape_value range c.loop-k.invariant (omega arith) c.read_version-read.ensures.0)
 
 pub append_version-requires : goal.append_version-requires
 append_version-requires c = let a = c.args in
-    let p = c.requires in
     let t = content_in a.tape.now in
-    let bytes : Bytes a.tape.now = λ i. (c.type_inv.tape i) in
-    let ready = sound_ready t p.1.1.0.0 p.1.1.0.1 in
-    let fits = opened_fits t p.1.1.0.0 a.store.now a.settings p.1.0.0 p.1.1.1.1 c.«open».ensures in
+    let bytes : Bytes a.tape.now = λ i. (omega (arith, c.type_inv.tape i)) in
+    let ready = sound_ready t c.requires.tape_value_2.0 c.requires.tape_value_2.1 in
+    let fits = opened_fits t c.requires.tape_value_2.0 a.store.now a.settings c.requires.settings_value.0 c.requires.capacity_in_bounds c.«open».ensures in
     let range = and_i _ _ ready.lower ready.ranged in
     let small = ready.small in
     let read = c.read_version-read.ensures.0 in (
-      (omega arith, next_fits a.tape.now t bytes p.0 ready c.loop-k.invariant (omega arith) fits),
+      (omega arith, next_fits a.tape.now t bytes c.requires.tape_value ready c.loop-k.invariant (omega arith) fits),
       (
-        next_ranged a.tape.now t bytes p.0 range c.loop-k.invariant (omega arith) read,
-        rw c.base_in.ensures (next_based a.tape.now t bytes p.0 ready c.loop-k.invariant (omega arith) read),
+        next_ranged a.tape.now t bytes c.requires.tape_value range c.loop-k.invariant (omega arith) read,
+        rw c.base_in.ensures (next_based a.tape.now t bytes c.requires.tape_value ready c.loop-k.invariant (omega arith) read),
       ),
     )
 
 pub loop-k-preserved : goal.loop-k-preserved
 loop-k-preserved c = let read = c.read_version-read.ensures in
     let a = c.args in
-    let p = c.requires in
     let t = content_in a.tape.now in
-    let bytes : Bytes a.tape.now = λ i. (c.type_inv.tape i) in
-    let ready = sound_ready t p.1.1.0.0 p.1.1.0.1 in
-    let fits = opened_fits t p.1.1.0.0 a.store.now a.settings p.1.0.0 p.1.1.1.1 c.«open».ensures in
-    let more : c.loop-k.k < length t.versions = omega (arith, c.loop-k-test.true, p.1.0.1) in
-    versions_written_more a.tape.now t bytes p.0 ready c.loop-k.invariant more fits read.0
+    let bytes : Bytes a.tape.now = λ i. (omega (arith, c.type_inv.tape i)) in
+    let ready = sound_ready t c.requires.tape_value_2.0 c.requires.tape_value_2.1 in
+    let fits = opened_fits t c.requires.tape_value_2.0 a.store.now a.settings c.requires.settings_value.0 c.requires.capacity_in_bounds c.«open».ensures in
+    let more : c.loop-k.k < length t.versions = omega (arith, c.loop-k-test.true, c.requires.settings_value.1) in
+    versions_written_more a.tape.now t bytes c.requires.tape_value ready c.loop-k.invariant more fits read.0
     (rw c.base_in.ensures at c.append_version.ensures) read.1
 
 pub overflow_add-versions : goal.overflow_add-versions
-overflow_add-versions c = let small = (sound_ready (content_in c.args.tape.now) c.requires.1.1.0.0 c.requires.1.1.0.1).small in
+overflow_add-versions c = let small = (sound_ready (content_in c.args.tape.now) c.requires.tape_value_2.0 c.requires.tape_value_2.1).small in
     omega arith
 
 pub put_header-requires : goal.put_header-requires
 put_header-requires c = let a = c.args in
-    let p = c.requires in
     let t = content_in a.tape.now in (
-      header_fits t p.1.1.0.0 a.store.now a.settings p.1.0.0 p.1.1.1.1 c.«open».ensures
-          (versions_written_all t c.loop-k.invariant (omega arith)) a.header.now p.1.1.1.0.1,
-      p.1.1.1.0.0,
+      header_fits t c.requires.tape_value_2.0 a.store.now a.settings c.requires.settings_value.0 c.requires.capacity_in_bounds c.«open».ensures
+          (versions_written_all t c.loop-k.invariant (omega arith)) a.header.now c.requires.header_len.1,
+      c.requires.header_len.0,
     )
 
 pub returns : goal.returns
 returns c = let a = c.args in
-    let p = c.requires in
     let t = content_in a.tape.now in
-    store_whole t p.1.1.0.0 a.store.now a.settings p.1.0.0 p.1.1.1.1 c.«open».ensures
-    (versions_written_all t c.loop-k.invariant (omega arith)) a.header.now p.1.1.1.0.1 p.1.0.1 c.put_header.ensures
+    store_whole t c.requires.tape_value_2.0 a.store.now a.settings c.requires.settings_value.0 c.requires.capacity_in_bounds c.«open».ensures
+    (versions_written_all t c.loop-k.invariant (omega arith)) a.header.now c.requires.header_len.1 c.requires.settings_value.1 c.put_header.ensures

@@ -28,58 +28,72 @@ move_asks s c d two may = ((two.0, two.1), (may.target, (may.ahead, may.through)
 
 pub move_console-requires : goal.move_console-requires
 move_console-requires c = let s = c.args.s.now in
-    let accepted = subst (Accepted s) c.c-1.given.1 c.requires.1 in
-    (c.requires.0, move_asks s _ _ accepted.0 (fork_accepted _ _ _ accepted.1))
+    let accepted = subst (Accepted s) c.in-Fork.is c.requires.1 in
+    (c.requires.s_value, move_asks s _ _ accepted.0 (fork_accepted _ _ _ accepted.1))
 
 pub enter-requires : goal.enter-requires
 enter-requires c = let s = c.args.s.now in
-    let accepted = subst (Accepted s) c.c-in-Entry-1.given.1 c.requires.1 in
+    let accepted = subst (Accepted s) c.in-Entry.is c.requires.1 in
     let may = entry_accepted _ _ _ _ _ accepted.1 in
-    (c.requires.0, search (and_l, and_r, ltb-true, may, accepted))
+    (c.requires.s_value, search (and_l, and_r, ltb-true, may, accepted))
 
 pub merge-requires : goal.merge-requires
 merge-requires c = let s = c.args.s.now in
-    let accepted = subst (Accepted s) c.c-in-Merge-1.given.1 c.requires.1 in
+    let accepted = subst (Accepted s) c.in-Merge.is c.requires.1 in
     let may = merge_accepted _ _ _ accepted.1 in
     let two = accepted.0 in
     let take = may.take in
-    (c.requires.0, ((two.0, two.1), ((take.receiver, take.giver), ((take.ahead, may.back), ((may.unsplit, take.through), ltb-true _ _ may.is_free)))))
+    record {
+      s_value = c.requires.s_value;
+      c_lt_console_count = (two.0, two.1);
+      c_value = (take.receiver, take.giver);
+      c_value_2 = (take.ahead, may.back);
+      d_value = (may.unsplit, take.through);
+      s_bound = ltb-true _ _ may.is_free;
+    }
 
 pub move_console-requires-in-FastForward : goal.move_console-requires-in-FastForward
 move_console-requires-in-FastForward c = let s = c.args.s.now in
-    let accepted = subst (Accepted s) c.c-in-FastForward-1.given.1 c.requires.1 in
-    (c.requires.0, move_asks s _ _ accepted.0 (forward_accepted _ _ _ accepted.1))
+    let accepted = subst (Accepted s) c.in-FastForward.is c.requires.1 in
+    (c.requires.s_value, move_asks s _ _ accepted.0 (forward_accepted _ _ _ accepted.1))
 
 pub remove_console-requires : goal.remove_console-requires
 remove_console-requires c = let s = c.args.s.now in
-    let accepted = subst (Accepted s) c.c-in-Leave-1.given.1 c.requires.1 in
-    (c.requires.0, (accepted.0, (leave_accepted _ _ accepted.1).1))
+    let accepted = subst (Accepted s) c.in-Leave.is c.requires.1 in
+    record {
+      s_value = c.requires.s_value;
+      c_lt_console_count = accepted.0;
+      c_value = (leave_accepted _ _ accepted.1).1;
+    }
 
 pub make_hub-requires : goal.make_hub-requires
 make_hub-requires c = let s = c.args.s.now in
-    let accepted = subst (Accepted s) c.enum_told-1.given.1 c.requires.1 in
-    (c.requires.0, hub_accepted _ accepted.1)
+    let accepted = subst (Accepted s) c.in-MakeHub.is c.requires.1 in
+    record {
+      s_value = c.requires.s_value;
+      s_value_2 = hub_accepted _ accepted.1;
+    }
 
 pub returns-in-Merge : goal.returns-in-Merge
 unfolding step clash_count
-returns-in-Merge c = rw c.c-in-Merge-1.given.1 c.merge.ensures
+returns-in-Merge c = rw c.in-Merge.is c.merge.ensures
 
 pub returns-in-Fork : goal.returns-in-Fork
 unfolding step clash_count
-returns-in-Fork c = rw c.c-1.given.1 (c.move_console.ensures, refl)
+returns-in-Fork c = rw c.in-Fork.is (c.move_console.ensures, refl)
 
 pub returns-in-Entry : goal.returns-in-Entry
 unfolding step clash_count
-returns-in-Entry c = rw c.c-in-Entry-1.given.1 (c.enter.ensures, refl)
+returns-in-Entry c = rw c.in-Entry.is (c.enter.ensures, refl)
 
 pub returns-in-FastForward : goal.returns-in-FastForward
 unfolding step clash_count
-returns-in-FastForward c = rw c.c-in-FastForward-1.given.1 (c.move_console-in-FastForward.ensures, refl)
+returns-in-FastForward c = rw c.in-FastForward.is (c.move_console-in-FastForward.ensures, refl)
 
 pub returns-in-Leave : goal.returns-in-Leave
 unfolding step clash_count
-returns-in-Leave c = rw c.c-in-Leave-1.given.1 (c.remove_console.ensures, refl)
+returns-in-Leave c = rw c.in-Leave.is (c.remove_console.ensures, refl)
 
 pub returns-in-MakeHub : goal.returns-in-MakeHub
 unfolding step clash_count
-returns-in-MakeHub c = rw c.enum_told-1.given.1 (c.make_hub.ensures, refl)
+returns-in-MakeHub c = rw c.in-MakeHub.is (c.make_hub.ensures, refl)

@@ -6,7 +6,10 @@ use Rattle.step.proofs.Search.{missed_again, missed_found, missed_all}
 use Rattle.step.proofs.descends.some_other_descends.Goals as goal
 
 pub other_descends-requires : goal.other_descends-requires
-other_descends-requires c = let p = c.requires in (p.0, (p.1, omega arith))
+other_descends-requires c = record {
+  s_value = c.requires.s_value;
+  c_lt_console_count = (c.requires.c_lt_console_count, omega arith);
+}
 
 pub returns-then-other_descends : goal.returns-then-other_descends
 returns-then-other_descends c = missed_found _ (omega arith) c.other_descends.ensures c.if-other_descends.true

@@ -10,7 +10,11 @@ unfolding first_pair
 returns-then-number-ne0 c = none_but_this c.loop-receiver.invariant (omega arith) c.first_with_receiver-number.ensures (omega arith)
 
 pub first_with_receiver-number-requires : goal.first_with_receiver-number-requires
-first_with_receiver-number-requires c = (c.requires, (omega arith, c.loop-receiver.invariant.none))
+first_with_receiver-number-requires c = record {
+  s_value = c.requires;
+  receiver_lt_console_count = omega arith;
+  by_index = c.loop-receiver.invariant.none;
+}
 
 pub loop-receiver-preserved : goal.loop-receiver-preserved
 loop-receiver-preserved c = none_again c.loop-receiver.invariant (omega arith) c.first_with_receiver-number.ensures (omega arith)

@@ -14,7 +14,11 @@ returns-then-number-ne0 c = none_but_this c.loop-giver.invariant (omega arith) c
 pub pair_number-number-requires : goal.pair_number-number-requires
 pair_number-number-requires c = let a = c.args in
     let giver = c.loop-giver.giver in
-    (c.requires.0, (omega arith, λ l. none_first console_count (pair_number (room_in a.s.now) giver) (c.requires.1.1 giver l) a.receiver.0 (omega arith)))
+    record {
+      s_value = c.requires.s_value;
+      receiver_lt_console_count = omega arith;
+      receiver_value = λ l. none_first console_count (pair_number (room_in a.s.now) giver) (c.requires.by_index giver l) a.receiver.0 (omega arith);
+    }
 
 pub loop-giver-preserved : goal.loop-giver-preserved
 loop-giver-preserved c = none_again c.loop-giver.invariant (omega arith) c.pair_number-number.ensures (omega arith)

@@ -7,7 +7,10 @@ use Rattle.room.specs.Mergeable.{agrees, heads_agree}
 use Rattle.step.proofs.mergeable.heads_agree.Goals as goal
 
 pub agrees-requires : goal.agrees-requires
-agrees-requires c = (c.requires, omega arith)
+agrees-requires c = record {
+  s_value = c.requires;
+  c_lt_console_count = omega arith;
+}
 
 pub returns-then-not-agrees : goal.returns-then-not-agrees
 unfolding heads_agree

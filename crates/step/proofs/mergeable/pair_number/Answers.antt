@@ -14,7 +14,7 @@ returns-then-accepted_if_free c = let a = c.args in
 
 pub returns-then-giver-receiver : goal.returns-then-giver-receiver
 returns-then-giver-receiver c = let a = c.args in
-    let no-merge = merge_not (room_in a.s.now) a.receiver.0 a.giver.0 (omega arith) (c.requires.1.1 (omega arith)) in
+    let no-merge = merge_not (room_in a.s.now) a.receiver.0 a.giver.0 (omega arith) (c.requires.receiver_value (omega arith)) in
     let no-forward = sym c.accepted_if_free.ensures ∙ c.if-accepted_if_free.false in
     sym (neither_number (room_in a.s.now) a.receiver.0 a.giver.0 no-merge no-forward)
 

@@ -8,7 +8,11 @@ use Rattle.step.proofs.refusals.hub_refusal.Goals as goal
 pub hub_right-requires : goal.hub_right-requires
 hub_right-requires c = let s = c.args.s.now in
     let t = c.requires in
-    (whole_header s t, (omega (arith, whole_block s t _ (whole_head s t)), λ k d l m. omega (arith, whole_common s t k d l (omega arith), whole_small s t)))
+    record {
+      header_size_in_bounds = whole_header s t;
+      row_size_in_bounds = omega (arith, whole_block s t _ (whole_head s t));
+      by_index = λ k d l m. omega (arith, whole_common s t k d l (omega arith), whole_small s t);
+    }
 
 pub returns : goal.returns
 unfolding first_refusal

@@ -14,7 +14,11 @@ returns-then-refusal-ne0 c = let a = c.args in
 pub some_third_splits-requires : goal.some_third_splits-requires
 some_third_splits-requires c = let a = c.args in
     let take = take_passes (room_in a.s.now) a.receiver.0 a.giver.0 (sym c.receiver_giver_refusal-refusal.ensures ∙ c.if-refusal-ne0.false) in
-    (c.requires.0, (c.requires.1, (take.receiver, take.giver)))
+    record {
+      s_value = c.requires.s_value;
+      c_lt_console_count = c.requires.receiver_lt_console_count;
+      c_value = (take.receiver, take.giver);
+    }
 
 pub returns : goal.returns
 returns c = let a = c.args in

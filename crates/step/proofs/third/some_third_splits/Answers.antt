@@ -5,8 +5,11 @@ use Rattle.step.proofs.Search.{missed_again, missed_found, missed_all}
 use Rattle.step.proofs.third.some_third_splits.Goals as goal
 
 pub splits_at-requires : goal.splits_at-requires
-splits_at-requires c = let p = c.requires in
-    (p.0, (omega arith, p.1.1))
+splits_at-requires c = record {
+  s_value = c.requires.s_value;
+  c_lt_console_count = omega arith;
+  c_value = c.requires.c_value;
+}
 
 pub returns-then-splits_at : goal.returns-then-splits_at
 returns-then-splits_at c = missed_found _ (omega arith) c.splits_at.ensures c.if-splits_at.true

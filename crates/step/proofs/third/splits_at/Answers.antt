@@ -22,10 +22,14 @@ returns-then-not-is_present c = let a = c.args in
 
 pub commons_apart-requires : goal.commons_apart-requires
 commons_apart-requires c = let p = c.is_present in
-    (c.requires.0, (omega arith, (c.requires.1.1.0, c.requires.1.1.1, sym p.ensures ∙ not-false p.result c.if-not-is_present.false-raw)))
+    record {
+      s_value = c.requires.s_value;
+      c_lt_console_count = omega arith;
+      c_value = (c.requires.c_value.0, c.requires.c_value.1, sym p.ensures ∙ not-false p.result c.if-not-is_present.false-raw);
+    }
 
 pub returns : goal.returns
 returns c = let a = c.args in
     let p = c.is_present in
-    c.commons_apart_lem.ensures
+    c.commons_apart.ensures
     ∙ sym (third_splits (room_in a.s.now) a.c.0 a.d.0 a.k (omega arith) (omega arith) (sym p.ensures ∙ not-false p.result c.if-not-is_present.false-raw))

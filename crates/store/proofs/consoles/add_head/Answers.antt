@@ -9,7 +9,7 @@ returns-then-field-eq0 c = simp (eq-eqb c.args.field.0 0 (omega arith))
 
 pub row_of_field-requires : goal.row_of_field-requires
 row_of_field-requires c = let a = c.args in
-    row_inside a.rows.now a.first a.stride a.field.0 c.requires.1 (omega arith)
+    row_inside a.rows.now a.first a.stride a.field.0 c.requires.row_size_in_bounds (omega arith)
 
 pub returns : goal.returns
 returns c = let a = c.args in

@@ -12,7 +12,7 @@ returns-then-n-own c = let a = c.args in
     simp (lt-leb (common_in a.s.now a.c.0 a.c.0) a.n (omega arith))
 
 pub pair_right-requires : goal.pair_right-requires
-pair_right-requires c = omega (arith, c.requires.1.1 c.loop-d.d (omega arith))
+pair_right-requires c = omega (arith, c.requires.by_index c.loop-d.d (omega arith))
 
 pub returns-then-not-pair_right : goal.returns-then-not-pair_right
 unfolding console_right

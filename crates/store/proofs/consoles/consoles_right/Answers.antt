@@ -8,7 +8,11 @@ use Rattle.store.proofs.consoles.consoles_right.Goals as goal
 
 pub console_right-requires : goal.console_right-requires
 console_right-requires c = let a = c.args in
-    (omega arith, (omega arith, heads_versions a.s.now a.n c.loop-c.c c.loop-c.invariant.told))
+    record {
+      n_in_bounds = omega arith;
+      c_lt_console_count = omega arith;
+      by_index = heads_versions a.s.now a.n c.loop-c.c c.loop-c.invariant.told;
+    }
 
 pub returns-then-not-console_right : goal.returns-then-not-console_right
 returns-then-not-console_right c = passing_fails _ _ (omega arith) c.console_right.ensures c.if-not-console_right.true-raw

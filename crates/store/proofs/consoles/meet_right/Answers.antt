@@ -21,7 +21,7 @@ returns-then-n-m c = let a = c.args in
 pub returns : goal.returns
 returns c = let a = c.args in
     simp (
-      c.rows_meet_lem.ensures,
+      c.rows_meet.ensures,
       c.version_of.ensures,
       c.version_of-2.ensures,
       c.version_of-3.ensures,

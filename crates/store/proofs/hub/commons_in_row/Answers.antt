@@ -11,8 +11,11 @@ unfolding commons_in_row
 returns-then-not-console_in_row c = passing_fails console_count _ (omega arith) c.console_in_row.ensures c.if-not-console_in_row.true-raw
 
 pub console_in_row-requires : goal.console_in_row-requires
-console_in_row-requires c = let p = c.requires in
-    (p.0, (omega arith, λ d l. p.1 c.loop-c.c d (omega arith) l))
+console_in_row-requires c = record {
+  header_size_in_bounds = c.requires.header_size_in_bounds;
+  c_lt_console_count = omega arith;
+  by_index = λ d l. c.requires.by_index c.loop-c.c d (omega arith) l;
+}
 
 pub loop-c-preserved : goal.loop-c-preserved
 loop-c-preserved c = passing_again c.loop-c.invariant (omega arith) c.console_in_row.ensures c.if-not-console_in_row.false-raw

@@ -14,7 +14,7 @@ loop-d-preserved c = let end = c.loop-d.invariant.0 in
 
 pub common_in_row-requires : goal.common_in_row-requires
 common_in_row-requires c = let end = c.loop-d.invariant.0 in
-    omega (arith, c.requires.1.1 c.loop-d.d (omega arith))
+    omega (arith, c.requires.by_index c.loop-d.d (omega arith))
 
 pub returns : goal.returns
 returns c = let end = c.loop-d.invariant.0 in passing_all c.loop-d.invariant.1 (omega arith)

@@ -45,7 +45,10 @@ returns-then-not-consoles_right c = let n = c.args.n in
     ))
 
 pub heads_right-requires : goal.heads_right-requires
-heads_right-requires c = (omega arith, heads_versions _ _ console_count (sym c.consoles_right.ensures ∙ not-false _ c.if-not-consoles_right.false-raw))
+heads_right-requires c = record {
+  n_in_bounds = omega arith;
+  by_index = heads_versions _ _ console_count (sym c.consoles_right.ensures ∙ not-false _ c.if-not-consoles_right.false-raw);
+}
 
 pub returns : goal.returns
 returns c = let n = c.args.n in

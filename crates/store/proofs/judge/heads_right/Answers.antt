@@ -5,7 +5,11 @@ use Rattle.store.proofs.Heads.{behind_blocks}
 use Rattle.store.proofs.judge.heads_right.Goals as goal
 
 pub heads_reach_all-requires : goal.heads_reach_all-requires
-heads_reach_all-requires c = let named = c.requires.1 in (omega arith, λ k l p. omega (arith, named k l))
+heads_reach_all-requires c = let named = c.requires.by_index in
+    record {
+      header_size_in_bounds = omega arith;
+      by_index = λ k l p. omega (arith, named k l);
+    }
 
 pub returns : goal.returns
 returns c = let s = c.args.s.now in

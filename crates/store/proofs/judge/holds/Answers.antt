@@ -36,4 +36,4 @@ returns c = let s = c.args.s.now in
     let capacity = ap (λ (x : Settings). x.capacity) settings in
     c.room_right.ensures ∙ ap (λ (x : ℕ). contents_right s x (word_at s count_at) && hub_right s) capacity
     ∙ contents_decide s (omega arith) (rw settings at (sym c.settings_right.ensures ∙ not-false _ c.if-not-settings_right.false-raw))
-    (λ k. (c.type_inv.s k)) (omega arith)
+    (λ k. (omega (arith, c.type_inv.s k))) (omega arith)

@@ -18,7 +18,11 @@ hub_right-requires c = let s = c.args.s.now in
     let n = c.word_at.result in
     let right = sym c.contents_right.ensures ∙ not-false _ c.if-not-contents_right.false-raw in
     let fits = contents_fit s capacity n right in
-    (omega arith, (omega (arith, head_inside s capacity n right (omega arith)), λ k d l m. omega (arith, fields_small s capacity n right k d l m)))
+    record {
+      header_size_in_bounds = omega arith;
+      row_size_in_bounds = omega (arith, head_inside s capacity n right (omega arith));
+      by_index = λ k d l m. omega (arith, fields_small s capacity n right k d l m);
+    }
 
 pub returns : goal.returns
 returns c = let s = c.args.s.now in

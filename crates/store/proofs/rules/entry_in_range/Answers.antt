@@ -2,4 +2,4 @@
 use Rattle.store.proofs.rules.entry_in_range.Goals as goal
 
 pub returns : goal.returns
-returns c = rw (c.is_entry_code.ensures, c.is_strip_lem.ensures, c.is_operand.ensures)
+returns c = rw (c.is_entry_code.ensures, c.is_strip.ensures, c.is_operand.ensures)

@@ -7,5 +7,5 @@ use Rattle.store.proofs.version.entry_parts.Goals as goal
 pub returns : goal.returns
 unfolding entry_parts
 returns c = ap₂ ◌&&◌
-    (ap₂ ◌&&◌ (ap₂ ◌&&◌ (rw c.block_at-at.ensures at c.zero_part_lem.ensures) c.entry_rows_right.ensures) c.entry_board_right.ensures)
+    (ap₂ ◌&&◌ (ap₂ ◌&&◌ (rw c.block_at-at.ensures at c.zero_part.ensures) c.entry_rows_right.ensures) c.entry_board_right.ensures)
     (rw c.entries_part.ensures.0 at c.has_member.ensures)

@@ -8,6 +8,6 @@ pub returns : goal.returns
 unfolding root_right
 returns c = ap₂ ◌&&◌
     (ap₂ ◌&&◌
-    (ap₂ ◌&&◌ (rw c.block_at.ensures at c.zero_part_lem.ensures) c.root_row_right.ensures)
-    (rw c.board_at_lem.ensures at c.zero_part-2.ensures))
+    (ap₂ ◌&&◌ (rw c.block_at.ensures at c.zero_part.ensures) c.root_row_right.ensures)
+    (rw c.board_at.ensures at c.zero_part-2.ensures))
     (ap not (rw c.entries_part.ensures.0 at c.has_member.ensures))

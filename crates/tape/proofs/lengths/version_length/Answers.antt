@@ -5,8 +5,8 @@ use Rattle.tape.proofs.lengths.version_length.Goals as goal
 
 pub returns-in-Entry : goal.returns-in-Entry
 unfolding shape_of length_of
-returns-in-Entry c = rw c.enum_told-1.given.1 (omega arith)
+returns-in-Entry c = rw c.in-Entry.is (omega arith)
 
 pub returns-in-Merge : goal.returns-in-Merge
 unfolding shape_of length_of
-returns-in-Merge c = rw c.enum_told-in-Merge-1.given.1 (omega arith)
+returns-in-Merge c = rw c.in-Merge.is (omega arith)

@@ -9,20 +9,20 @@ pub returns-in_default : goal.returns-in_default
 returns-in_default c = let a = c.args in
     rw c.reply_of.ensures
     (undecoded a.store.now a.command.now c.refusal_number.result
-    (refused_as a.command.now _ _ _ c.decode_command-decoded.ensures.0 c.enum_told-1.given.1 c.refusal_number.ensures))
+    (refused_as a.command.now _ _ _ c.decode_command-decoded.ensures.0 c.in_default.is c.refusal_number.ensures))
 
 pub returns-then-not-holds : goal.returns-then-not-holds
 returns-then-not-holds c = let a = c.args in
     rw c.reply_of-then-not-holds.ensures
-    (nothing_held a.store.now a.command.now _ (sym c.decoded-1.given.1 ∙ c.decode_command-decoded.ensures.0)
+    (nothing_held a.store.now a.command.now _ (sym c.in-Whole.is ∙ c.decode_command-decoded.ensures.0)
     (sym c.holds.ensures ∙ not-true _ c.if-not-holds.true-raw))
 
 pub execute-requires : goal.execute-requires
 execute-requires c = (
   sym c.holds.ensures ∙ not-false _ c.if-not-holds.false-raw,
-  decode_range c.args.command.now _ (sym (sym c.decoded-1.given.1 ∙ c.decode_command-decoded.ensures.0)),
+  decode_range c.args.command.now _ (sym (sym c.in-Whole.is ∙ c.decode_command-decoded.ensures.0)),
 )
 
 pub returns : goal.returns
 returns c = let a = c.args in
-    executed a.store.now a.command.now _ (sym c.decoded-1.given.1 ∙ c.decode_command-decoded.ensures.0) _ _ c.execute.ensures
+    executed a.store.now a.command.now _ (sym c.in-Whole.is ∙ c.decode_command-decoded.ensures.0) _ _ c.execute.ensures

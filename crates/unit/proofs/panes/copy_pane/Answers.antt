@@ -46,7 +46,10 @@ slice_bounds-show_board-end-2 c = let a = c.args in
 pub board_of-requires : goal.board_of-requires
 board_of-requires c = let a = c.args in
     let p = pane_allowed a.store.now a.console a.pane.now c.pane_refusal-refusal.ensures (omega arith) in
-    (p.0.held, omega (arith, c.head_of-v.ensures.1))
+    record {
+      s_value = p.0.held;
+      v_bound = omega (arith, c.head_of-v.ensures.1);
+    }
 
 pub show_board-requires : goal.show_board-requires
 show_board-requires c = let a = c.args in

@@ -26,7 +26,10 @@ returns-then-tape-length c = let a = c.args in
     ) (refl, refl)
 
 pub write_tape-requires : goal.write_tape-requires
-write_tape-requires c = (sym c.holds.ensures ∙ not-false _ c.if-not-holds.false-raw, omega (arith, c.tape_length-length.ensures.0))
+write_tape-requires c = record {
+  s_value = sym c.holds.ensures ∙ not-false _ c.if-not-holds.false-raw;
+  s_in_bounds = omega (arith, c.tape_length-length.ensures.0);
+}
 
 pub returns : goal.returns
 unfolding pause_outcome first_refusal

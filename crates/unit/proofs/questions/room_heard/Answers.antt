@@ -23,4 +23,4 @@ unfolding heard_reply
 returns c = let a = c.args in
     rw c.counted.ensures
     (replied_done (c.pair_refusal-refusal.ensures ∙ pair_sole a.store.now a.console) (omega arith)
-    (rw c.size.ensures at c.heard_count_lem.ensures.0))
+    (rw c.size.ensures at c.heard_count-heard.ensures.0))

@@ -27,10 +27,13 @@ cell_of-requires c = let a = c.args in
 pub origin_of-origin-requires : goal.origin_of-origin-requires
 origin_of-origin-requires c = let a = c.args in
     let p = origin_allowed a.store.now a.console a.strip a.cell c.origin_refusal-refusal.ensures c.if-refusal-ne0.false in
-    (p.held, (c.head_of-v.ensures.1, rw c.size-2.ensures p.is_strip_lem))
+    record {
+      s_value = p.held;
+      v_bound = (c.head_of-v.ensures.1, rw c.size-2.ensures p.is_strip_lem);
+    }
 
 pub counted-requires : goal.counted-requires
-counted-requires c = let found = c.origin_of_lem in
+counted-requires c = let found = c.origin_of-origin in
     let a = c.args in
     let p = origin_allowed a.store.now a.console a.strip a.cell c.origin_refusal-refusal.ensures c.if-refusal-ne0.false in
     omega (arith, whole_small a.store.now p.held, found.ensures, origin_below c.cell_of.result c.size-2.result (room_in a.store.now).versions c.head_of-v.result.0)
@@ -45,4 +48,4 @@ returns c = rw c.counted.ensures
       c.size-2.ensures,
       c.head_of-v.ensures.0,
       c.size.ensures,
-    ) at c.origin_of_lem.ensures))
+    ) at c.origin_of-origin.ensures))

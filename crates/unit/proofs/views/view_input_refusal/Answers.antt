@@ -10,7 +10,7 @@ returns c = rw (
   c.first_of.ensures,
   c.when-choice_out_of_range.ensures,
   c.when-console_out_of_range.ensures,
-  c.is_console_lem.ensures,
+  c.is_console.ensures,
   c.size.ensures,
 )
     (sym (first_append (3 when _ ∷ []) (5 when _ ∷ []) refl))

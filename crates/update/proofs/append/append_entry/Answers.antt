@@ -4,7 +4,10 @@ use Rattle.update.proofs.Appended.{entry_appended}
 use Rattle.update.proofs.append.append_entry.Goals as goal
 
 pub put_entry_board-requires : goal.put_entry_board-requires
-put_entry_board-requires c = (omega arith, c.requires.1)
+put_entry_board-requires c = record {
+  p_lt_n = omega arith;
+  strip_lt_strip_count = c.requires.strip_lt_strip_count;
+}
 
 pub returns : goal.returns
 returns c = let a = c.args in

@@ -4,13 +4,13 @@ use native.Mathlib.Omega.{arith}
 use Rattle.update.proofs.append.append_version.Goals as goal
 
 pub append_entry-requires : goal.append_entry-requires
-append_entry-requires c = omega (arith, entry_ranged c.node-1.given.1 c.requires.1.0)
+append_entry-requires c = omega (arith, entry_ranged c.in-Entry.is c.requires.node_value.0)
 
 pub append_merge-requires : goal.append_merge-requires
-append_merge-requires c = omega (arith, merge_ranged c.node-in-Merge-1.given.1 c.requires.1.0)
+append_merge-requires c = omega (arith, merge_ranged c.in-Merge.is c.requires.node_value.0)
 
 pub returns-in-Entry : goal.returns-in-Entry
-returns-in-Entry c = rw c.node-1.given.1 c.append_entry.ensures
+returns-in-Entry c = rw c.in-Entry.is c.append_entry.ensures
 
 pub returns-in-Merge : goal.returns-in-Merge
-returns-in-Merge c = rw c.node-in-Merge-1.given.1 c.append_merge.ensures
+returns-in-Merge c = rw c.in-Merge.is c.append_merge.ensures

@@ -9,7 +9,7 @@ pub loop-k-init : goal.loop-k-init
 loop-k-init c = others_none _ _ _
 
 pub loop-k-preserved : goal.loop-k-preserved
-loop-k-preserved c = others_again c.loop-k.invariant (omega arith) (λ _. refl) c.put_other_lem.ensures
+loop-k-preserved c = others_again c.loop-k.invariant (omega arith) (λ _. refl) c.put_other.ensures
 
 pub returns : goal.returns
 returns c = others_all c.loop-k.invariant (omega arith)

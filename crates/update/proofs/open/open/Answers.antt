@@ -7,16 +7,16 @@ use native.Mathlib.Omega.{arith}
 use Rattle.update.proofs.open.open.Goals as goal
 
 pub store_size-end-requires : goal.store_size-end-requires
-store_size-end-requires c = let size = capacity_range c.args.settings c.requires.0 in omega arith
+store_size-end-requires c = let size = capacity_range c.args.settings c.requires.settings_value in omega arith
 
 pub slice_bounds-clear-end-2 : goal.slice_bounds-clear-end-2
 slice_bounds-clear-end-2 c = sym (length-take-le c.store_size-end.result c.args.s.now (omega arith))
 
 pub bounds-s-row : goal.bounds-s-row
-bounds-s-row c = let size = capacity_range c.args.settings c.requires.0 in omega arith
+bounds-s-row c = let size = capacity_range c.args.settings c.requires.settings_value in omega arith
 
 pub returns : goal.returns
 returns c = rw c.row_at-row.ensures
     (opened c.args.s.now c.clear.new.0 c.put_settings.new.0 c.put_word.new.0 c.put_head.new.0
-    c.args.settings c.store_size-end.result c.requires.0 c.requires.1 c.store_size-end.ensures
+    c.args.settings c.store_size-end.result c.requires.settings_value c.requires.capacity_in_bounds c.store_size-end.ensures
     c.clear.ensures c.put_settings.ensures c.put_word.ensures (rw c.field_of.ensures at c.put_head.ensures))
