@@ -5,7 +5,7 @@ use Rattle.update.proofs.CommonsTable.{Others}
 use Rattle.update.proofs.commons.clear_commons.Given as goal
 
 abbrev pub invariant-loop-k : goal.invariant-loop-k
-invariant-loop-k l = Others l.initial.s l.c.0 (λ (l.k : ℕ). 0) l.k l.s
+invariant-loop-k l = Others l.initial.s l.c.0 (λ (k : ℕ). 0) l.k l.s
 
 abbrev pub decreases-loop-k : goal.decreases-loop-k
 decreases-loop-k l = console_count - l.k
