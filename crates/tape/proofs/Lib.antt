@@ -6,7 +6,5 @@ pub mod Written
 pub mod RoundTrip
 pub mod Places
 pub mod Sorts
-pub mod Lent
-pub mod Walk
 pub mod Scans
 pub mod Located

@@ -2,7 +2,7 @@
 use Prim.Native.Nat.{◌-◌}
 use native.Mathlib.Omega.{arith}
 use Rattle.room.specs.Step.{other_descends}
-use Rattle.step.proofs.Search.{missed_again, missed_found, missed_all}
+use Rattle.step.proofs.Search.{missed_none, missed_again, missed_found, missed_all}
 use Rattle.step.proofs.descends.some_other_descends.Goals as goal
 
 pub other_descends-requires : goal.other_descends-requires
@@ -19,3 +19,6 @@ loop-d-preserved c = missed_again c.loop-d.invariant (omega arith) c.other_desce
 
 pub returns : goal.returns
 returns c = missed_all c.loop-d.invariant (omega arith)
+
+pub loop-d-init : goal.loop-d-init
+loop-d-init c = missed_none _

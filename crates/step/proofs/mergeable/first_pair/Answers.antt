@@ -2,7 +2,7 @@
 use Prim.Native.Nat.{◌-◌}
 use native.Mathlib.Omega.{arith}
 use Rattle.room.specs.Mergeable.{first_pair}
-use Rattle.step.proofs.Search.{none_again, none_but_this, none_at_last}
+use Rattle.step.proofs.Search.{none_at_first, none_again, none_but_this, none_at_last}
 use Rattle.step.proofs.mergeable.first_pair.Goals as goal
 
 pub returns-then-number-ne0 : goal.returns-then-number-ne0
@@ -22,3 +22,6 @@ loop-receiver-preserved c = none_again c.loop-receiver.invariant (omega arith) c
 pub returns : goal.returns
 unfolding first_pair
 returns c = none_at_last c.loop-receiver.invariant (omega arith)
+
+pub loop-receiver-init : goal.loop-receiver-init
+loop-receiver-init c = none_at_first _

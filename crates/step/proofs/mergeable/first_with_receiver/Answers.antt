@@ -5,7 +5,7 @@ use Rattle.graph.proofs.Below.{none_first}
 use Rattle.command.specs.Code.{console_count}
 use Rattle.room.specs.Mergeable.{pair_number}
 use Rattle.store.specs.Layout.{room_in}
-use Rattle.step.proofs.Search.{none_again, none_but_this, none_at_last}
+use Rattle.step.proofs.Search.{none_at_first, none_again, none_but_this, none_at_last}
 use Rattle.step.proofs.mergeable.first_with_receiver.Goals as goal
 
 pub returns-then-number-ne0 : goal.returns-then-number-ne0
@@ -25,3 +25,6 @@ loop-giver-preserved c = none_again c.loop-giver.invariant (omega arith) c.pair_
 
 pub returns : goal.returns
 returns c = none_at_last c.loop-giver.invariant (omega arith)
+
+pub loop-giver-init : goal.loop-giver-init
+loop-giver-init c = none_at_first _

@@ -1,7 +1,7 @@
 -- `step::mergeable::heads_agree` meets its contract. The loop's invariant: the consoles before `c` agree with console 0.
 use Prim.Native.Nat.{◌-◌}
 use native.Mathlib.Omega.{arith}
-use Rattle.graph.proofs.Passing.{passing_again, passing_all, passing_fails}
+use Rattle.graph.proofs.Passing.{passing_none, passing_again, passing_all, passing_fails}
 use Rattle.command.specs.Code.{console_count}
 use Rattle.room.specs.Mergeable.{agrees, heads_agree}
 use Rattle.step.proofs.mergeable.heads_agree.Goals as goal
@@ -22,3 +22,6 @@ loop-c-preserved c = passing_again c.loop-c.invariant (omega arith) c.agrees.ens
 pub returns : goal.returns
 unfolding heads_agree
 returns c = passing_all c.loop-c.invariant (omega arith)
+
+pub loop-c-init : goal.loop-c-init
+loop-c-init c = passing_none _ _

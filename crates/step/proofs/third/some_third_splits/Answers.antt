@@ -1,7 +1,7 @@
 -- `step::third::some_third_splits` meets its contract. The loop's invariant: no console before `k` passes.
 use Prim.Native.Nat.{◌-◌}
 use native.Mathlib.Omega.{arith}
-use Rattle.step.proofs.Search.{missed_again, missed_found, missed_all}
+use Rattle.step.proofs.Search.{missed_none, missed_again, missed_found, missed_all}
 use Rattle.step.proofs.third.some_third_splits.Goals as goal
 
 pub splits_at-requires : goal.splits_at-requires
@@ -19,3 +19,6 @@ loop-k-preserved c = missed_again c.loop-k.invariant (omega arith) c.splits_at.e
 
 pub returns : goal.returns
 returns c = missed_all c.loop-k.invariant (omega arith)
+
+pub loop-k-init : goal.loop-k-init
+loop-k-init c = missed_none _

@@ -2,7 +2,7 @@
 use Prim.Native.Nat.{◌-◌}
 use native.Mathlib.Omega.{arith}
 use borrow.Author.Tests.{lt-leb, le-leb}
-use Rattle.graph.proofs.Passing.{passing_again, passing_all, passing_fails}
+use Rattle.graph.proofs.Passing.{passing_none, passing_again, passing_all, passing_fails}
 use Rattle.store.specs.Check.{common_in, pair_right, console_right}
 use Rattle.store.proofs.consoles.console_right.Goals as goal
 
@@ -26,3 +26,6 @@ pub returns : goal.returns
 unfolding console_right
 returns c = let a = c.args in
     rw (le-leb (common_in a.s.now a.c.0 a.c.0) a.n (omega arith)) (passing_all c.loop-d.invariant (omega arith))
+
+pub loop-d-init : goal.loop-d-init
+loop-d-init c = passing_none _ _

@@ -1,7 +1,7 @@
 -- `store::consoles::consoles_right` meets its contract. The loop's invariant: the consoles before `c` are right, so that their heads are versions.
 use Prim.Native.Nat.{◌-◌}
 use native.Mathlib.Omega.{arith}
-use Rattle.graph.proofs.Passing.{passing_again, passing_all, passing_fails}
+use Rattle.graph.proofs.Passing.{passing_none, passing_again, passing_all, passing_fails}
 use Rattle.store.specs.Check.{console_right}
 use Rattle.store.proofs.Heads.{heads_versions}
 use Rattle.store.proofs.consoles.consoles_right.Goals as goal
@@ -22,3 +22,6 @@ loop-c-preserved c = passing_again c.loop-c.invariant (omega arith) c.console_ri
 
 pub returns : goal.returns
 returns c = passing_all c.loop-c.invariant (omega arith)
+
+pub loop-c-init : goal.loop-c-init
+loop-c-init c = passing_none _ _

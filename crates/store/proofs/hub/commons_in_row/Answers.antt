@@ -1,7 +1,7 @@
 -- `store::hub::commons_in_row` meets its contract. The loop's invariant: those of the consoles before `c` are in the row.
 use Prim.Native.Nat.{◌-◌}
 use native.Mathlib.Omega.{arith}
-use Rattle.graph.proofs.Passing.{passing_again, passing_all, passing_fails}
+use Rattle.graph.proofs.Passing.{passing_none, passing_again, passing_all, passing_fails}
 use Rattle.command.specs.Code.{console_count}
 use Rattle.store.specs.Check.{commons_in_row}
 use Rattle.store.proofs.hub.commons_in_row.Goals as goal
@@ -23,3 +23,6 @@ loop-c-preserved c = passing_again c.loop-c.invariant (omega arith) c.console_in
 pub returns : goal.returns
 unfolding commons_in_row
 returns c = passing_all c.loop-c.invariant (omega arith)
+
+pub loop-c-init : goal.loop-c-init
+loop-c-init c = passing_none _ _

@@ -1,7 +1,8 @@
 -- `store::hub::console_in_row` meets its contract. The loop's invariant: those with the consoles before `d` are in the row.
 use Prim.Native.Nat.{◌-◌}
+use mathlib.Core.Path.{refl}
 use native.Mathlib.Omega.{arith}
-use Rattle.graph.proofs.Passing.{passing_again, passing_all, passing_fails}
+use Rattle.graph.proofs.Passing.{passing_none, passing_again, passing_all, passing_fails}
 use Rattle.store.specs.Check.{common_in_row}
 use Rattle.store.proofs.hub.console_in_row.Goals as goal
 
@@ -18,3 +19,6 @@ common_in_row-requires c = let end = c.loop-d.invariant.0 in
 
 pub returns : goal.returns
 returns c = let end = c.loop-d.invariant.0 in passing_all c.loop-d.invariant.1 (omega arith)
+
+pub loop-d-init : goal.loop-d-init
+loop-d-init c = (refl, passing_none _ _)

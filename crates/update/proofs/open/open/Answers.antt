@@ -1,6 +1,7 @@
 -- `update::open::open` meets its contract.
 use mathlib.Core.Path.{sym}
 use lib.Seq.{length-take-le}
+use lib.ListN.{length-set}
 use Rattle.room.proofs.Sound.{capacity_range}
 use Rattle.update.proofs.Opened.{opened}
 use native.Mathlib.Omega.{arith}
@@ -20,3 +21,6 @@ returns c = rw c.row_at-row.ensures
     (opened c.args.s.now c.clear.new.0 c.put_settings.new.0 c.put_word.new.0 c.put_head.new.0
     c.args.settings c.store_size-end.result c.requires.settings_value c.requires.capacity_in_bounds c.store_size-end.ensures
     c.clear.ensures c.put_settings.ensures c.put_word.ensures (rw c.field_of.ensures at c.put_head.ensures))
+
+pub shape_of-s : goal.shape_of-s
+shape_of-s c = simp length-set (omega arith)
