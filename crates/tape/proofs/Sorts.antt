@@ -5,7 +5,7 @@ use mathlib.Core.Bool.{Bool}
 use mathlib.Core.List.{List, [], ◌∷◌}
 use mathlib.Core.Option.{none}
 use Prim.Native.Nat.{ℕ}
-use types.Run.{miss}
+use types.Run.{OneOf, miss}
 use borrow.Enum.Refused.{Among, opened}
 use denote.Enum.Declared.{tag_of}
 use Rattle.graph.specs.Graph.{merge}
@@ -27,7 +27,7 @@ abbrev pub NoStart : Record → Type 0
 NoStart x = Among (1 ∷ 2 ∷ 3 ∷ 4 ∷ 5 ∷ []) (tag_of R.the_type x)
 
 abbrev pub StartOrBroken : Record → Type 0
-StartOrBroken x = Among (0 ∷ 5 ∷ []) (tag_of R.the_type x)
+StartOrBroken x = OneOf (0 ∷ 5 ∷ []) (tag_of R.the_type x)
 
 pub no_node : (x : Record) → NoVersion x → merge 0 0 ≡ node_on x
 no_node (Start settings) h = refl
@@ -56,8 +56,8 @@ not_read Broken h k rest = refl
 pub misplaced : (x : Record) (heads : ℕ) (hub : Bool) → StartOrBroken x → Misplaced ≡ role_of x heads hub
 unfolding role_of
 misplaced (Start settings) heads hub h = refl
-misplaced (Version node) heads hub h = absurd (miss (0 ∷ 5 ∷ []) 1 tt (opened h))
-misplaced (Head console version) heads hub h = absurd (miss (0 ∷ 5 ∷ []) 2 tt (opened h))
-misplaced Hub heads hub h = absurd (miss (0 ∷ 5 ∷ []) 3 tt (opened h))
-misplaced End heads hub h = absurd (miss (0 ∷ 5 ∷ []) 4 tt (opened h))
+misplaced (Version node) heads hub h = absurd (miss (0 ∷ 5 ∷ []) 1 tt h)
+misplaced (Head console version) heads hub h = absurd (miss (0 ∷ 5 ∷ []) 2 tt h)
+misplaced Hub heads hub h = absurd (miss (0 ∷ 5 ∷ []) 3 tt h)
+misplaced End heads hub h = absurd (miss (0 ∷ 5 ∷ []) 4 tt h)
 misplaced Broken heads hub h = refl

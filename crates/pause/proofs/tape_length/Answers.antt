@@ -18,6 +18,22 @@ heads_length-requires c = c.requires
 pub hub_records_length-requires : goal.hub_records_length-requires
 hub_records_length-requires c = c.requires
 
+pub overflow_add-result : goal.overflow_add-result
+unfolding shape_of length_of
+overflow_add-result c = omega arith
+
+pub overflow_add-result-2 : goal.overflow_add-result-2
+unfolding shape_of length_of
+overflow_add-result-2 c = omega arith
+
+pub overflow_add-result-3 : goal.overflow_add-result-3
+unfolding shape_of length_of
+overflow_add-result-3 c = omega arith
+
+pub overflow_add-result-4 : goal.overflow_add-result-4
+unfolding shape_of length_of
+overflow_add-result-4 c = omega arith
+
 pub returns : goal.returns
 unfolding shape_of length_of
 returns c = omega (arith, tape_size c.args.s.now (c.version_count.result - 1) (omega arith))

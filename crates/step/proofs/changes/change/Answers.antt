@@ -1,5 +1,4 @@
 -- `step::changes::change` meets its contract: a command that is not refused has what its change asks for.
--- a command whose numbers are in range and that is not refused
 use Prim.Native.Nat.{ℕ, ◌<◌}
 use mathlib.Core.Path.{◌≡◌, refl, subst}
 use mathlib.Core.Bool.{true}
@@ -16,11 +15,11 @@ use Rattle.room.proofs.Accepted.{Through, MayMove, fork_accepted, forward_accept
 use Rattle.store.specs.Layout.{room_in}
 use Rattle.step.proofs.changes.change.Goals as goal
 
+-- a command whose numbers are in range and that is not refused
 abbrev Accepted : List ℕ → Command → Type 0
 Accepted s c = InRange c × (step_refusal (room_in s) c ≡ 0)
 
 -- what `move_console` asks for, of a fork and of a fast-forward
-
 move_asks : (s : List ℕ) (c d : Console) → TwoConsoles c.0 d.0 → MayMove (room_in s) c.0 d.0
     → ((c.0 < console_count) × (d.0 < console_count))
     × ((present (room_in s) d.0 ≡ true) × ((present (room_in s) c.0 ≡ true → behind (room_in s) c.0 d.0 ≡ true) × Through (room_in s) c.0 d.0))
@@ -28,18 +27,31 @@ move_asks s c d two may = ((two.0, two.1), (may.target, (may.ahead, may.through)
 
 pub move_console-requires : goal.move_console-requires
 move_console-requires c = let s = c.args.s.now in
-    let accepted = subst (Accepted s) c.in-Fork.is c.requires.1 in
-    (c.requires.s_value, move_asks s _ _ accepted.0 (fork_accepted _ _ _ accepted.1))
+    let accepted = subst (Accepted s) c.in-Fork.is (c.requires.in_range, c.requires.c_value) in
+    let asks = move_asks s _ _ accepted.0 (fork_accepted _ _ _ accepted.1) in
+    record {
+      s_value = c.requires.s_value;
+      c_lt_console_count = asks.0;
+      d_value = asks.1.0;
+      d_value_2 = asks.1.1.0;
+      d_value_3 = asks.1.1.1;
+    }
 
 pub enter-requires : goal.enter-requires
 enter-requires c = let s = c.args.s.now in
-    let accepted = subst (Accepted s) c.in-Entry.is c.requires.1 in
+    let accepted = subst (Accepted s) c.in-Entry.is (c.requires.in_range, c.requires.c_value) in
     let may = entry_accepted _ _ _ _ _ accepted.1 in
-    (c.requires.s_value, search (and_l, and_r, ltb-true, may, accepted))
+    record {
+      s_value = c.requires.s_value;
+      c_lt_console_count = search (and_l, and_r, ltb-true, may, accepted);
+      code_value = search (and_l, and_r, ltb-true, may, accepted);
+      c_value = search (and_l, and_r, ltb-true, may, accepted);
+      s_bound = search (and_l, and_r, ltb-true, may, accepted);
+    }
 
 pub merge-requires : goal.merge-requires
 merge-requires c = let s = c.args.s.now in
-    let accepted = subst (Accepted s) c.in-Merge.is c.requires.1 in
+    let accepted = subst (Accepted s) c.in-Merge.is (c.requires.in_range, c.requires.c_value) in
     let may = merge_accepted _ _ _ accepted.1 in
     let two = accepted.0 in
     let take = may.take in
@@ -54,12 +66,19 @@ merge-requires c = let s = c.args.s.now in
 
 pub move_console-requires-in-FastForward : goal.move_console-requires-in-FastForward
 move_console-requires-in-FastForward c = let s = c.args.s.now in
-    let accepted = subst (Accepted s) c.in-FastForward.is c.requires.1 in
-    (c.requires.s_value, move_asks s _ _ accepted.0 (forward_accepted _ _ _ accepted.1))
+    let accepted = subst (Accepted s) c.in-FastForward.is (c.requires.in_range, c.requires.c_value) in
+    let asks = move_asks s _ _ accepted.0 (forward_accepted _ _ _ accepted.1) in
+    record {
+      s_value = c.requires.s_value;
+      c_lt_console_count = asks.0;
+      d_value = asks.1.0;
+      d_value_2 = asks.1.1.0;
+      d_value_3 = asks.1.1.1;
+    }
 
 pub remove_console-requires : goal.remove_console-requires
 remove_console-requires c = let s = c.args.s.now in
-    let accepted = subst (Accepted s) c.in-Leave.is c.requires.1 in
+    let accepted = subst (Accepted s) c.in-Leave.is (c.requires.in_range, c.requires.c_value) in
     record {
       s_value = c.requires.s_value;
       c_lt_console_count = accepted.0;
@@ -68,7 +87,7 @@ remove_console-requires c = let s = c.args.s.now in
 
 pub make_hub-requires : goal.make_hub-requires
 make_hub-requires c = let s = c.args.s.now in
-    let accepted = subst (Accepted s) c.in-MakeHub.is c.requires.1 in
+    let accepted = subst (Accepted s) c.in-MakeHub.is (c.requires.in_range, c.requires.c_value) in
     record {
       s_value = c.requires.s_value;
       s_value_2 = hub_accepted _ accepted.1;

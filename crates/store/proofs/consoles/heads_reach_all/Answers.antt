@@ -1,5 +1,4 @@
 -- `store::consoles::heads_reach_all` meets its contract. The loop's invariant: `acc` has the versions behind the heads of the consoles before `c`.
--- the row of version v
 use Prim.Native.Nat.{ℕ, pred, ◌+◌, ◌-◌, ◌*◌, ◌≤◌, ◌<◌}
 use mathlib.Core.Path.{◌≡◌, refl, sym, subst, ◌∙◌}
 use mathlib.Core.List.{List}
@@ -12,6 +11,7 @@ use Rattle.store.specs.Check.{behind_heads}
 use Rattle.store.proofs.Heads.{behind_none, behind_more}
 use Rattle.store.proofs.consoles.heads_reach_all.Goals as goal
 
+-- the row of version v
 abbrev row_of : List ℕ → ℕ → ℕ → ℕ → List ℕ
 row_of rows first stride v = part rows (first + stride * v) row_size
 

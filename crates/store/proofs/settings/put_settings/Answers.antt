@@ -11,6 +11,6 @@ pub returns : goal.returns
 returns c = let a = c.args in
     let capacity = laid_one {end = hub_at} (word a.settings.capacity) (omega arith)
     (refl, c.put_word.ensures ∙ word_part a.s.now capacity_at a.settings.capacity (omega arith)) in
-    let hub = word_part c.put_word.new.0 hub_at (hub_number a.settings.hub) (omega (arith, capacity.kept)) in
+    let hub = word_part c.put_word.new.s hub_at (hub_number a.settings.hub) (omega (arith, capacity.kept)) in
     (laid_more {end = settings_end} (word (hub_number a.settings.hub)) capacity (omega arith)
     (refl, c.put_word-2.ensures ∙ rw c.hub_number.ensures hub)).put.1

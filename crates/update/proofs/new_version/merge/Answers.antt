@@ -22,8 +22,7 @@ put_head-requires c = omega (arith, whole_header c.args.s.now c.requires.s_value
 
 pub returns : goal.returns
 returns c = let a = c.args in
-    let rest = c.requires.1.1 in
-    merged_store a.s.now c.requires.s_value rest.1.1.1 a.c.0 c.requires.c_lt_console_count.0 rest.0.0 a.d.0 c.requires.c_lt_console_count.1 rest.0.1
-    rest.1.1.0.1 rest.1.0.0 rest.1.0.1 rest.1.1.0.0 _ _ _ _ _ _ _ _ _ c.version_count.ensures.0 c.head_of-receiver.ensures.0
+    merged_store a.s.now c.requires.s_value c.requires.s_bound a.c.0 c.requires.c_lt_console_count.0 c.requires.c_value.0 a.d.0 c.requires.c_lt_console_count.1 c.requires.c_value.1
+    c.requires.d_value.1 c.requires.c_value_2.0 c.requires.c_value_2.1 c.requires.d_value.0 _ _ _ _ _ _ _ _ _ c.version_count.ensures.0 c.head_of-receiver.ensures.0
     c.head_of-giver.ensures.0 c.common_of-base.ensures.0 c.append_merge_counted-clashes.ensures c.put_word.ensures
     c.join_commons.ensures (rw c.field_of.ensures at c.put_head.ensures)

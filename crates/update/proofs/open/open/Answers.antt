@@ -18,7 +18,7 @@ bounds-s-row c = let size = capacity_range c.args.settings c.requires.settings_v
 
 pub returns : goal.returns
 returns c = rw c.row_at-row.ensures
-    (opened c.args.s.now c.clear.new.0 c.put_settings.new.0 c.put_word.new.0 c.put_head.new.0
+    (opened c.args.s.now c.clear.new.dst c.put_settings.new.s c.put_word.new.s c.put_head.new.s
     c.args.settings c.store_size-end.result c.requires.settings_value c.requires.capacity_in_bounds c.store_size-end.ensures
     c.clear.ensures c.put_settings.ensures c.put_word.ensures (rw c.field_of.ensures at c.put_head.ensures))
 
