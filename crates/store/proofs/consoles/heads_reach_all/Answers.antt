@@ -20,10 +20,12 @@ loop-c-init c = (omega arith, refl, behind_none _ _)
 
 pub add_head-requires : goal.add_head-requires
 add_head-requires c = let a = c.args in
-    let field = c.common_in-field.ensures.0 in (
-      c.loop-c.invariant.1,
-      subst (λ (x : ℕ). 0 < x → a.first + a.stride * pred x + row_size ≤ length a.rows.now) (sym field) (c.requires.by_index c.loop-c.c (omega arith)),
-    )
+    let field = c.common_in-field.ensures.0 in
+    record {
+      acc_len = c.loop-c.invariant.1;
+      row_size_in_bounds =
+          subst (λ (x : ℕ). 0 < x → a.first + a.stride * pred x + row_size ≤ length a.rows.now) (sym field) (c.requires.by_index c.loop-c.c (omega arith));
+    }
 
 pub loop-c-preserved : goal.loop-c-preserved
 loop-c-preserved c = let a = c.args in
