@@ -56,7 +56,7 @@ heads_reach_all-requires c = let t = content_in c.args.tape.now in
     let k = range_facts t c.requires.tape_value_2.0 c.requires.tape_value_2.1 in
     let shown = c.build_rows.ensures.1 in
     let ok = not-false c.build_commons.result c.if-not-build_commons.false-raw in
-    let header = c.build_commons.new.1.1.1.1.0 in
+    let header = c.build_commons.new.header in
     record {
       header_size_in_bounds = omega arith;
       by_index = rows_inside t k.rise k.named k.small shown header (omega arith) (c.build_commons.ensures.1 ok);
@@ -67,7 +67,7 @@ hub_right-requires c = let t = content_in c.args.tape.now in
     let k = range_facts t c.requires.tape_value_2.0 c.requires.tape_value_2.1 in
     let shown = c.build_rows.ensures.1 in
     let ok = not-false c.build_commons.result c.if-not-build_commons.false-raw in
-    let header = c.build_commons.new.1.1.1.1.0 in
+    let header = c.build_commons.new.header in
     let written = c.build_commons.ensures.1 ok in
     let low = fields_low t k.rise k.named k.small shown header (omega arith) written in
     record {
@@ -83,7 +83,7 @@ returns c = let t = content_in c.args.tape.now in
     let based = not-false c.build_rows.result c.if-not-build_rows.false-raw in
     let ok = not-false c.build_commons.result c.if-not-build_commons.false-raw in
     let written = c.build_commons.ensures.1 ok in
-    let header = c.build_commons.new.1.1.1.1.0 in
+    let header = c.build_commons.new.header in
     let behind = behind_told t k.rise k.named k.small told.1 header (omega arith) written (omega arith) c.heads_reach_all.ensures in
     let hub = hub_judged t k.rise k.named k.small told.1 header (omega arith) written c.requires.versions_value.3 c.hub_right.ensures in
     (behind_decides t c.requires.tape_value_2.0 c.requires.tape_value_2.1 told.0 based c.build_commons.ensures.0 ok (ap₂ ◌&&◌ behind hub), told.1, λ _. written)

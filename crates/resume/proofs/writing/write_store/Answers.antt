@@ -44,13 +44,14 @@ append_version-requires c = let a = c.args in
     let fits = opened_fits t c.requires.tape_value_2.0 a.store.now a.settings c.requires.settings_value.0 c.requires.capacity_in_bounds c.«open».ensures in
     let range = and_i _ _ ready.lower ready.ranged in
     let small = ready.small in
-    let read = c.read_version-read.ensures.0 in (
-      (omega arith, next_fits a.tape.now t bytes c.requires.tape_value ready c.loop-k.invariant (omega arith) fits),
-      (
+    let read = c.read_version-read.ensures.0 in
+    record {
+      n_lt_max_capacity = (omega arith, next_fits a.tape.now t bytes c.requires.tape_value ready c.loop-k.invariant (omega arith) fits);
+      node_value = (
         next_ranged a.tape.now t bytes c.requires.tape_value range c.loop-k.invariant (omega arith) read,
         rw c.base_in.ensures (next_based a.tape.now t bytes c.requires.tape_value ready c.loop-k.invariant (omega arith) read),
-      ),
-    )
+      );
+    }
 
 pub loop-k-preserved : goal.loop-k-preserved
 loop-k-preserved c = let read = c.read_version-read.ensures in

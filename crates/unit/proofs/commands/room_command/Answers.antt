@@ -18,10 +18,10 @@ returns-then-not-holds c = let a = c.args in
     (sym c.holds.ensures ∙ not-true _ c.if-not-holds.true-raw))
 
 pub execute-requires : goal.execute-requires
-execute-requires c = (
-  sym c.holds.ensures ∙ not-false _ c.if-not-holds.false-raw,
-  decode_range c.args.command.now _ (sym (sym c.in-Whole.is ∙ c.decode_command-decoded.ensures.0)),
-)
+execute-requires c = record {
+  store_value = sym c.holds.ensures ∙ not-false _ c.if-not-holds.false-raw;
+  in_range = decode_range c.args.command.now _ (sym (sym c.in-Whole.is ∙ c.decode_command-decoded.ensures.0));
+}
 
 pub returns : goal.returns
 returns c = let a = c.args in

@@ -14,7 +14,8 @@ returns-then-refusal-ne0 c = let a = c.args in
 
 pub open-requires : goal.open-requires
 open-requires c = let a = c.args in
-    rw c.settings_for.ensures (opening_allowed a.capacity a.store.now c.opening_refusal-refusal.ensures (omega arith))
+    let allowed = opening_allowed a.capacity a.store.now c.opening_refusal-refusal.ensures (omega arith) in
+    rw c.settings_for.ensures (record { settings_value = allowed.0; capacity_in_bounds = allowed.1 })
 
 pub returns : goal.returns
 unfolding open_outcome

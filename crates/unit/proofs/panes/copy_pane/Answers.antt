@@ -32,7 +32,7 @@ returns c = let a = c.args in
 pub head_of-v-requires : goal.head_of-v-requires
 head_of-v-requires c = let a = c.args in
     let p = pane_allowed a.store.now a.console a.pane.now c.pane_refusal-refusal.ensures (omega arith) in
-    rw c.size.ensures (p.0.held, p.0.first)
+    rw c.size.ensures (record { s_value = p.0.held; c_lt_console_count = p.0.first })
 
 pub slice_bounds-show_board-end : goal.slice_bounds-show_board-end
 slice_bounds-show_board-end c = let a = c.args in

@@ -15,7 +15,7 @@ returns-then-refusal-ne0 c = let a = c.args in
 pub common_of-v-requires : goal.common_of-v-requires
 common_of-v-requires c = let a = c.args in
     let p = pair_allowed a.store.now a.first a.second c.pair_refusal-refusal.ensures (omega arith) in
-    rw (c.size.ensures, c.size-2.ensures) (p.held, ((search, search), (search, search)))
+    rw (c.size.ensures, c.size-2.ensures) (record { s_value = p.held; c_lt_console_count = (search, search); c_value = (search, search) })
 
 pub counted-requires : goal.counted-requires
 counted-requires c = let a = c.args in

@@ -16,7 +16,7 @@ returns-then-refusal-ne0 c = let a = c.args in
 pub heard_count-heard-requires : goal.heard_count-heard-requires
 heard_count-heard-requires c = let a = c.args in
     let p = pair_allowed a.store.now a.console a.console c.pair_refusal-refusal.ensures (omega arith) in
-    rw c.size.ensures (p.held, p.first)
+    rw c.size.ensures (record { s_value = p.held; c_lt_console_count = p.first })
 
 pub returns : goal.returns
 unfolding heard_reply

@@ -17,7 +17,7 @@ returns-then-refusal-ne0 c = let a = c.args in
 pub head_of-v-requires : goal.head_of-v-requires
 head_of-v-requires c = let a = c.args in
     let p = origin_allowed a.store.now a.console a.strip a.cell c.origin_refusal-refusal.ensures c.if-refusal-ne0.false in
-    rw c.size.ensures (p.held, p.is_console_lem)
+    rw c.size.ensures (record { s_value = p.held; c_lt_console_count = p.is_console_lem })
 
 pub cell_of-requires : goal.cell_of-requires
 cell_of-requires c = let a = c.args in

@@ -22,7 +22,7 @@ returns c = rw c.counted.ensures
 pub shown_at-at-requires : goal.shown_at-at-requires
 shown_at-at-requires c = let a = c.args in
     let p = view_allowed a.live.now a.frozen.now a.console a.choice c.view_refusal-refusal.ensures (omega arith) in
-    rw (c.chosen_store.ensures.0, c.size.ensures) (p.held, p.first)
+    rw (c.chosen_store.ensures.0, c.size.ensures) (record { store_value = p.held; c_lt_console_count = p.first })
 
 pub counted-requires : goal.counted-requires
 counted-requires c = let a = c.args in

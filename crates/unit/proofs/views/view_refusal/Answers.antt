@@ -25,4 +25,7 @@ pub is_present-present-requires : goal.is_present-present-requires
 is_present-present-requires c = let a = c.args in
     let none = none_applies (view_input_tests a.console a.choice) refl (sym c.view_input_refusal-refusal.ensures ∙ c.if-refusal-ne0.false) in
     rw (c.chosen_store.ensures.0, c.size.ensures)
-    (sym c.chosen_holds.ensures ∙ not-false _ c.if-not-chosen_holds.false-raw, ltb-true a.console console_count (not-false (is_console a.console) none.0))
+    (record {
+      s_value = sym c.chosen_holds.ensures ∙ not-false _ c.if-not-chosen_holds.false-raw;
+      c_lt_console_count = ltb-true a.console console_count (not-false (is_console a.console) none.0);
+    })
