@@ -1,5 +1,4 @@
 -- `board::merge_board` meets its contract. The invariant of its loop is `Merging`: the first k strips are merged.
-use Prim.Native.Nat.{◌-◌}
 use Rattle.board.proofs.Length.{merge_strip-length}
 use Rattle.board.proofs.Boards.{made_start, made_step, merging_finish}
 use Rattle.board.proofs.merge_board.Goals as goal

@@ -1,5 +1,4 @@
 -- `board::merge_board_counted` meets its contract. The invariant of its loop is `Counting`: the first k strips are merged and their clashes counted.
-use Prim.Native.Nat.{◌-◌}
 use native.Mathlib.Omega.{arith}
 use Rattle.board.proofs.Boards.{counting_start, counting_step, counting_few, counting_finish}
 use Rattle.board.proofs.merge_board_counted.Goals as goal

@@ -1,5 +1,5 @@
 -- `buffer::add_union` meets its contract. The loop's invariant: the bytes before `i` have been written over with those of the union.
-use Prim.Native.Nat.{ℕ, ◌-◌}
+use Prim.Native.Nat.{ℕ}
 use mathlib.Core.Path.{sym, ap, ◌∙◌}
 use native.Mathlib.Omega.{arith}
 use lib.Bits.{bit_or}

@@ -1,5 +1,4 @@
 -- `buffer::clear` meets its contract. The loop's invariant: the bytes before `i` have been written over with zeros.
-use Prim.Native.Nat.{◌-◌}
 use mathlib.Core.Path.{sym}
 use native.Mathlib.Omega.{arith}
 use lib.ListN.{length, length-replicate, get_or-replicate}

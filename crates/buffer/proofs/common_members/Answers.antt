@@ -1,6 +1,5 @@
 -- `buffer::common_members` meets its contract. The loop's invariant: the members before `i` have been counted, `i` being a whole number of words. The
 -- measure is what is left of the length.
-use Prim.Native.Nat.{◌-◌}
 use native.Mathlib.Omega.{arith}
 use Rattle.buffer.proofs.Ones.{counted_none, counted_more, counted_all}
 use Rattle.buffer.proofs.common_members.Goals as goal

@@ -1,5 +1,4 @@
 -- `buffer::copy` meets its contract. The loop's invariant: the bytes before `i` have been written over.
-use Prim.Native.Nat.{◌-◌}
 use mathlib.Core.Path.{refl}
 use native.Mathlib.Omega.{arith}
 use Rattle.buffer.proofs.Written.{written_none, written_more, written_all}

@@ -1,5 +1,4 @@
 -- `buffer::copy_within` meets its contract. The loop's invariant is `Copied`: the first i bytes are copied.
-use Prim.Native.Nat.{◌-◌}
 use native.Mathlib.Omega.{arith}
 use Rattle.buffer.proofs.Patches.{copied_none, copied_more, copied_all}
 use Rattle.buffer.proofs.copy_within.Goals as goal

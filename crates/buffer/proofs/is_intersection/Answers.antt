@@ -1,5 +1,4 @@
 -- `buffer::is_intersection` meets its contract. The loop's invariant: the bytes before `i` have been compared with those of the intersection.
-use Prim.Native.Nat.{◌-◌}
 use native.Mathlib.Omega.{arith}
 use lib.Bits.{bit_and}
 use Rattle.buffer.proofs.Accumulate.{compared_all, paired_none, paired_more}

@@ -1,5 +1,4 @@
 -- `buffer::is_same` meets its contract. The loop's invariant: the bytes before `i` have been compared. The measure is what is left of the length.
-use Prim.Native.Nat.{◌-◌}
 use mathlib.Core.Path.{refl}
 use native.Mathlib.Omega.{arith}
 use Rattle.buffer.proofs.Accumulate.{compared_none, compared_more, compared_all}

@@ -1,5 +1,4 @@
 -- `buffer::is_zero` meets its contract. The loop's invariant: the bytes before `i` have been compared with as many zeros.
-use Prim.Native.Nat.{◌-◌}
 use mathlib.Core.Path.{sym, ap, ◌∙◌}
 use native.Mathlib.Omega.{arith}
 use lib.Bits.{bit_xor, xor_zero_r}

@@ -1,5 +1,4 @@
 -- `board::panes::show_student` meets its contract. The invariant of its loop is `StripsMade`: the first k strips are written.
-use Prim.Native.Nat.{◌-◌}
 use Rattle.board.proofs.Length.{student_strip-length}
 use Rattle.board.proofs.Boards.{made_start, made_step, made_finish}
 use Rattle.board.proofs.panes.show_student.Goals as goal
