@@ -18,7 +18,7 @@ use Rattle.command.specs.declared.Kind.{Kind}
 use Rattle.command.specs.declared.Kind.TheVariants as kind_is
 use Rattle.command.specs.declared.Operands.{Operands}
 use Rattle.command.specs.declared.Command.{Command}
-use Rattle.command.specs.declared.Command.TheVariants.{Fork, Merge, FastForward, MakeHub}
+use Rattle.command.specs.declared.Command.TheVariants.{MakeHub}
 use Rattle.command.specs.declared.Decoded.{Decoded}
 use Rattle.command.specs.declared.Decoded.TheVariants.{Whole, Refused}
 use Rattle.command.specs.Code.{fork_command, merge_command, fast_forward_command, kind_of, shape_of, length_of, operands_of, number_at}

@@ -1,6 +1,5 @@
 -- `pause::measure::heads_length` meets its contract. The loop's invariant is `Measured`: the sum is the length of the head records before c.
 use native.Mathlib.Omega.{arith}
-use Prim.Native.Nat.{◌-◌}
 use Rattle.command.specs.Code.{console_count}
 use Rattle.store.specs.Layout.{room_in}
 use Rattle.pause.proofs.Piled.{measured_none, measured_more, measured_all}

@@ -1,7 +1,6 @@
 -- `pause::measure::versions_length` meets its contract. The loop's invariant is `Measured`: the sum is the length of the first k records.
 use native.Mathlib.Omega.{arith}
 use mathlib.Core.Path.{◌∙◌, ap}
-use Prim.Native.Nat.{◌-◌}
 use lib.ListN.{length}
 use Rattle.graph.specs.declared.Node.{Node}
 use Rattle.tape.specs.Record.{version_bytes}

@@ -1,6 +1,5 @@
 -- `pause::write::put_head_records` meets its contract. The loop's invariant is `Piled`: the head records before c are written.
 use native.Mathlib.Omega.{arith}
-use Prim.Native.Nat.{◌-◌}
 use Rattle.command.specs.Code.{console_count}
 use Rattle.store.specs.Layout.{room_in}
 use Rattle.pause.proofs.Piled.{piled_none, piled_fits, piled_more, piled_all}

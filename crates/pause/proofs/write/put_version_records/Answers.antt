@@ -1,6 +1,5 @@
 -- `pause::write::put_version_records` meets its contract. The loop's invariant is `Piled`: the first k records are written.
 use native.Mathlib.Omega.{arith}
-use Prim.Native.Nat.{◌-◌}
 use Rattle.pause.proofs.Piled.{piled_none, piled_fits, piled_more, piled_all}
 use Rattle.pause.proofs.Pieces.{version_pieces_lem}
 use Rattle.pause.proofs.write.put_version_records.Goals as goal

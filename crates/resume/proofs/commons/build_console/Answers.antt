@@ -1,5 +1,4 @@
 -- `resume::commons::build_console` meets its contract. The loop's invariant: the pairs of `c` with the consoles before `d` are written.
-use Prim.Native.Nat.{◌-◌}
 use mathlib.Core.Path.{refl}
 use native.Mathlib.Omega.{arith}
 use Rattle.resume.proofs.TableSteps.{paired_none, paired_own, paired_more, paired_all}

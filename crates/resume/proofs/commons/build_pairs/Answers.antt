@@ -1,5 +1,4 @@
 -- `resume::commons::build_pairs` meets its contract. The loop's invariant: the pairs of the consoles before `c` are written.
-use Prim.Native.Nat.{◌-◌}
 use native.Mathlib.Omega.{arith}
 use Rattle.resume.proofs.TableSteps.{tabled_none, tabled_own, tabled_more, tabled_all}
 use Rattle.resume.proofs.commons.build_pairs.Goals as goal

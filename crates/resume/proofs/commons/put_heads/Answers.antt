@@ -1,5 +1,4 @@
 -- `resume::commons::put_heads` meets its contract. The loop's invariant: the first `j` heads stand in the header.
-use Prim.Native.Nat.{◌-◌}
 use Rattle.resume.specs.Content.{content_in}
 use Rattle.resume.proofs.Along.{head_inside}
 use Rattle.resume.proofs.Reread.{headed_none, headed_all, headed_more, head_bounds}

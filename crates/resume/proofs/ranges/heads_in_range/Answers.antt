@@ -1,5 +1,4 @@
 -- `resume::ranges::heads_in_range` meets its contract. The loop's invariant: the first `j` heads were read, `last` is the console of the last of them, and `ok` says whether they are in range.
-use Prim.Native.Nat.{◌-◌}
 use Rattle.resume.specs.Content.{content_in}
 use Rattle.resume.proofs.Along.{head_inside}
 use Rattle.resume.proofs.Passed.{followed_none, followed_all, followed_more, no_heads}

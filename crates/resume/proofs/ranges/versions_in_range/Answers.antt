@@ -1,5 +1,4 @@
 -- `resume::ranges::versions_in_range` meets its contract. The loop's invariant: the first `k` versions were read, and `ok` says whether they are in range.
-use Prim.Native.Nat.{◌-◌}
 use Rattle.resume.specs.Content.{content_in}
 use Rattle.resume.proofs.Along.{version_inside}
 use Rattle.resume.proofs.Passed.{ranged_none, ranged_all, ranged_more}

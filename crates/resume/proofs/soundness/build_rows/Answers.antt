@@ -1,5 +1,4 @@
 -- `resume::soundness::build_rows` meets its contract. The loop's invariant: the rows of the first `k` versions were written, and `based` says whether each merge among them has a base.
-use Prim.Native.Nat.{◌-◌}
 use Rattle.resume.specs.Content.{content_in}
 use Rattle.resume.proofs.Along.{version_inside}
 use Rattle.resume.proofs.Grown.{rows_root}

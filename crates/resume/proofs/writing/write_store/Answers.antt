@@ -1,5 +1,5 @@
 -- `resume::writing::write_store` meets its contract. The loop's invariant: the first `k` versions of the tape were written into the fresh store.
-use Prim.Native.Nat.{◌-◌, ◌<◌}
+use Prim.Native.Nat.{◌<◌}
 use lib.ListN.{length}
 use Rattle.laws.proofs.Logic.{and_i}
 use Rattle.room.proofs.Sound.{sound_facts}

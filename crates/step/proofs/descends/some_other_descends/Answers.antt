@@ -1,7 +1,5 @@
 -- `step::descends::some_other_descends` meets its contract. The loop's invariant: no console before `d` passes.
-use Prim.Native.Nat.{◌-◌}
 use native.Mathlib.Omega.{arith}
-use Rattle.room.specs.Step.{other_descends}
 use Rattle.step.proofs.Search.{missed_none, missed_again, missed_found, missed_all}
 use Rattle.step.proofs.descends.some_other_descends.Goals as goal
 

@@ -1,5 +1,4 @@
 -- `step::mergeable::first_pair` meets its contract. The loop's invariant: no number before that of `receiver`.
-use Prim.Native.Nat.{◌-◌}
 use native.Mathlib.Omega.{arith}
 use Rattle.room.specs.Mergeable.{first_pair}
 use Rattle.step.proofs.Search.{none_at_first, none_again, none_but_this, none_at_last}

@@ -1,5 +1,4 @@
 -- `step::mergeable::first_with_receiver` meets its contract. The loop's invariant: no number before that of `giver`.
-use Prim.Native.Nat.{◌-◌}
 use native.Mathlib.Omega.{arith}
 use Rattle.graph.proofs.Below.{none_first}
 use Rattle.command.specs.Code.{console_count}

@@ -1,9 +1,8 @@
 -- `step::mergeable::heads_agree` meets its contract. The loop's invariant: the consoles before `c` agree with console 0.
-use Prim.Native.Nat.{◌-◌}
 use native.Mathlib.Omega.{arith}
 use Rattle.graph.proofs.Passing.{passing_none, passing_again, passing_all, passing_fails}
 use Rattle.command.specs.Code.{console_count}
-use Rattle.room.specs.Mergeable.{agrees, heads_agree}
+use Rattle.room.specs.Mergeable.{heads_agree}
 use Rattle.step.proofs.mergeable.heads_agree.Goals as goal
 
 pub agrees-requires : goal.agrees-requires

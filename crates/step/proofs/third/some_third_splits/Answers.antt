@@ -1,5 +1,4 @@
 -- `step::third::some_third_splits` meets its contract. The loop's invariant: no console before `k` passes.
-use Prim.Native.Nat.{◌-◌}
 use native.Mathlib.Omega.{arith}
 use Rattle.step.proofs.Search.{missed_none, missed_again, missed_found, missed_all}
 use Rattle.step.proofs.third.some_third_splits.Goals as goal

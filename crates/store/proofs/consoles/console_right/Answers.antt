@@ -1,9 +1,8 @@
 -- `store::consoles::console_right` meets its contract. The loop's invariant: the pairs of `c` with the consoles before `d` are right.
-use Prim.Native.Nat.{◌-◌}
 use native.Mathlib.Omega.{arith}
 use borrow.Author.Tests.{lt-leb, le-leb}
 use Rattle.graph.proofs.Passing.{passing_none, passing_again, passing_all, passing_fails}
-use Rattle.store.specs.Check.{common_in, pair_right, console_right}
+use Rattle.store.specs.Check.{common_in, console_right}
 use Rattle.store.proofs.consoles.console_right.Goals as goal
 
 pub returns-then-n-own : goal.returns-then-n-own

@@ -1,8 +1,6 @@
 -- `store::consoles::consoles_right` meets its contract. The loop's invariant: the consoles before `c` are right, so that their heads are versions.
-use Prim.Native.Nat.{◌-◌}
 use native.Mathlib.Omega.{arith}
 use Rattle.graph.proofs.Passing.{passing_none, passing_again, passing_all, passing_fails}
-use Rattle.store.specs.Check.{console_right}
 use Rattle.store.proofs.Heads.{heads_versions}
 use Rattle.store.proofs.consoles.consoles_right.Goals as goal
 

@@ -1,5 +1,4 @@
 -- `store::consoles::has_all_below` meets its contract. The loop's invariant: the bytes before `k` have been compared with those of the full row.
-use Prim.Native.Nat.{◌-◌}
 use mathlib.Core.Path.{sym, ap, ◌∙◌}
 use native.Mathlib.Omega.{arith}
 use lib.Dec.{ltb}

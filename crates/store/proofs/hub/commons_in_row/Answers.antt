@@ -1,5 +1,4 @@
 -- `store::hub::commons_in_row` meets its contract. The loop's invariant: those of the consoles before `c` are in the row.
-use Prim.Native.Nat.{◌-◌}
 use native.Mathlib.Omega.{arith}
 use Rattle.graph.proofs.Passing.{passing_none, passing_again, passing_all, passing_fails}
 use Rattle.command.specs.Code.{console_count}

@@ -1,9 +1,7 @@
 -- `store::hub::console_in_row` meets its contract. The loop's invariant: those with the consoles before `d` are in the row.
-use Prim.Native.Nat.{◌-◌}
 use mathlib.Core.Path.{refl}
 use native.Mathlib.Omega.{arith}
 use Rattle.graph.proofs.Passing.{passing_none, passing_again, passing_all, passing_fails}
-use Rattle.store.specs.Check.{common_in_row}
 use Rattle.store.proofs.hub.console_in_row.Goals as goal
 
 pub returns-then-not-common_in_row : goal.returns-then-not-common_in_row

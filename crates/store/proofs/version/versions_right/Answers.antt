@@ -1,5 +1,4 @@
 -- `store::version::versions_right` meets its contract. The loop's invariant: the versions up to `k` are right. The measure is what is left of them.
-use Prim.Native.Nat.{◌-◌}
 use native.Mathlib.Omega.{arith}
 use borrow.Author.Tests.{not-false}
 use Rattle.laws.proofs.Logic.{not_e}

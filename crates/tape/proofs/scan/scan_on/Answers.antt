@@ -1,5 +1,4 @@
 -- `tape::scan::scan_on` meets its contract. The loop's invariant is `Scanning`, the measure what is left of the tape.
-use Prim.Native.Nat.{◌-◌}
 use native.Mathlib.Omega.{arith}
 use Rattle.tape.proofs.Scans.{scanning_starts, scanning_out, scanning_refused, scanning_version, scanning_head, scanning_hub, scanning_ended}
 use Rattle.tape.proofs.scan.scan_on.Goals as goal

@@ -1,5 +1,4 @@
 -- `update::commons::clear_commons` meets its contract. The loop's invariant: the fields of the consoles before `k` are written.
-use Prim.Native.Nat.{◌-◌}
 use mathlib.Core.Path.{refl}
 use native.Mathlib.Omega.{arith}
 use Rattle.update.proofs.CommonsTable.{others_none, others_again, others_all}

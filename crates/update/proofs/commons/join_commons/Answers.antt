@@ -1,5 +1,4 @@
 -- `update::commons::join_commons` meets its contract. The loop's invariant: the fields of the consoles before `k` are written.
-use Prim.Native.Nat.{◌-◌}
 use native.Mathlib.Omega.{arith}
 use Rattle.update.proofs.CommonsTable.{others_none, others_again, others_all, joined_ahead}
 use Rattle.update.proofs.commons.join_commons.Goals as goal
