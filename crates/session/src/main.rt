@@ -1,14 +1,17 @@
 // The session program: reads commands from standard input into a store of capacity 64, and prints a line for each: its ordinal, the answer,
-// and the head of the console that its first operand names. What is printed is tested, not proved.
+// and the head of the console that its first operand names. What is printed is tested, not proved. A read or a write that fails ends the
+// program with its error.
 #![tactic(auto)]
-ghost use Rattle.std.specs.Prelude.{◌≤◌, ◌≡◌, cond, ◌||◌, eqb, ltb, length};
+
+ghost use Rattle.std.specs.Prelude.{◌≤◌, ◌≡◌, cond, ◌||◌, eqb, ltb, length, IfOk};
+ghost use Rattle.std.specs.Io.{ReadsAtMost};
 ghost use Rattle.command.specs.Code.{shape_of, length_of};
 ghost use Rattle.command.specs.Decode.{is_command_code};
-ghost use Rattle.io.specs.Counts.{IsPrefixLen};
 
 use buffer::{wide, word_at};
 use command::decoder::{is_command_code, length_of, widths_of};
-use io::{print_decimal, read_full, write_all};
+use std::io;
+use std::io::Read;
 use store::places::{BLOCK, COUNT, HEADER};
 use unit::commands::room_command;
 use unit::opening::room_open;
@@ -21,10 +24,6 @@ const STORE_BYTES: usize = HEADER + BLOCK * SESSION_CAPACITY as usize;
 // The longest command.
 const LONGEST: usize = 5;
 
-const STDIN: i32 = 0;
-
-const STDOUT: i32 = 1;
-
 // How many bytes a command with this code takes; an unknown code stands alone.
 fn command_length(code: usize) -> usize
     ensures { (result ≡ cond (is_command_code code) (length_of (shape_of code)) 1) × (1 ≤ result) × (result ≤ 5) }
@@ -36,48 +35,67 @@ fn command_length(code: usize) -> usize
 }
 
 // Prints the head of a console, or - for one that is absent or above 15.
-fn print_head(store: &[u8], console: u32) {
+fn print_head(rt: &impl Print, store: &[u8], console: u32) -> io::Result<()> {
     let reply = room_common(store, console, console);
     if reply.answer == 0 {
-        print_decimal(STDOUT, reply.count as u64);
+        print!(rt; "{}", reply.count)
     } else {
-        write_all(STDOUT, &[b'-']);
+        print!(rt; "-")
     }
 }
 
 // Prints the line of a command. No operand was read, or none that is looked at, where the length is below 2.
-fn print_line(store: &[u8], ordinal: u64, answer: u32, console: u8, length: usize) {
-    print_decimal(STDOUT, ordinal);
-    write_all(STDOUT, &[b' ']);
-    print_decimal(STDOUT, answer as u64);
-    write_all(STDOUT, &[b' ']);
+fn print_line(
+    rt: &impl Print,
+    store: &[u8],
+    ordinal: u64,
+    answer: u32,
+    console: u8,
+    length: usize,
+) -> io::Result<()> {
+    print!(rt; "{ordinal} {answer} ")?;
     if length < 2 {
-        write_all(STDOUT, &[b'-']);
+        print!(rt; "-")?;
     } else {
-        print_head(store, console as u32);
+        print_head(rt, store, console as u32)?;
     }
-    write_all(STDOUT, &[b'\n']);
+    println!(rt)
+}
+
+// Reads until the buffer is full or the input ends, and answers how many bytes it put at the buffer's front. On an empty buffer it makes no call.
+fn read_full(input: &mut impl Read, buffer: &mut [u8]) -> io::Result<usize>
+    ensures { ReadsAtMost result buffer.new }
+{
+    let mut done = 0;
+    while done < buffer.len() {
+        let n = input.read(&mut buffer[done..])?;
+        if n == 0 {
+            break;
+        }
+        done += n;
+    }
+    Ok(done)
 }
 
 // Reads what follows the code that was read, and answers how many bytes the command has.
-fn read_operands(command: &mut [u8]) -> usize
+fn read_operands(input: &mut impl Read, command: &mut [u8]) -> io::Result<usize>
     requires { length command.old ≡ 5 }
-    ensures { result ≤ 5 }
+    ensures { IfOk result (λ n. n ≤ 5) }
 {
     let end = command_length(wide(command[0]));
-    let got = read_full(STDIN, &mut command[1..end]);
-    1 + got
+    let got = read_full(input, &mut command[1..end])?;
+    Ok(1 + got)
 }
 
 // Reads a command and answers how many bytes it has; 0 at the end of the input.
-fn read_command(command: &mut [u8]) -> usize
+fn read_command(input: &mut impl Read, command: &mut [u8]) -> io::Result<usize>
     requires { length command.old ≡ 5 }
-    ensures { IsPrefixLen result command.new }
+    ensures { ReadsAtMost result command.new }
 {
-    if read_full(STDIN, &mut command[..1]) == 0 {
-        return 0;
+    if read_full(input, &mut command[..1])? == 0 {
+        return Ok(0);
     }
-    read_operands(command)
+    read_operands(input, command)
 }
 
 // Whether the program goes on after this answer.
@@ -88,31 +106,36 @@ fn goes_on(answer: u32) -> bool
 }
 
 // Reads one command, has it carried out and prints its line. Answers whether to go on.
-fn next_command(store: &mut [u8], ordinal: u64) -> bool {
+fn next_command(
+    rt: &impl Print,
+    input: &mut impl Read,
+    store: &mut [u8],
+    ordinal: u64,
+) -> io::Result<bool> {
     let mut command = [0u8; LONGEST];
-    let got = read_command(&mut command);
+    let got = read_command(input, &mut command)?;
     if got == 0 {
-        return false;
+        return Ok(false);
     }
     let reply = room_command(store, &command[..got]);
-    print_line(store, ordinal, reply.answer, command[1], got);
-    goes_on(reply.answer)
+    print_line(rt, store, ordinal, reply.answer, command[1], got)?;
+    Ok(goes_on(reply.answer))
 }
 
 // Commands up to the end of the input or to a command that stops the program. Nothing says that an input ends, so the loop counts its
 // commands, up to a number that no input reaches.
-fn all_commands(store: &mut [u8]) {
-    let mut ordinal = 1;
-    while ordinal < u64::MAX && next_command(store, ordinal) {
-        ordinal += 1;
+fn all_commands(rt: &impl Print, input: &mut impl Read, store: &mut [u8]) -> io::Result<()> {
+    for ordinal in 1..u64::MAX {
+        if !next_command(rt, input, store, ordinal)? {
+            break;
+        }
     }
+    Ok(())
 }
 
-fn main() {
+fn main(rt: HostRuntime) -> io::Result<()> {
     let mut store = [0u8; STORE_BYTES];
     room_open(SESSION_CAPACITY, &mut store);
-    all_commands(&mut store);
-    write_all(STDOUT, &[b'e', b'n', b'd', b' ']);
-    print_decimal(STDOUT, word_at(&store, COUNT) as u64);
-    write_all(STDOUT, &[b'\n']);
+    all_commands(&rt, &mut rt.stdin(), &mut store)?;
+    println!(rt; "end {}", word_at(&store, COUNT))
 }
