@@ -13,7 +13,7 @@ archive := target/staticlib/libroom.a
 panel := target/panel/panel
 
 # All that the archive's proof is made from. A folder changes too where a file is removed.
-unit_crates := unit $(shell sed -n 's/^unit: //p' crates.txt)
+unit_crates := unit_c $(shell sed -n 's/^unit_c staticlib: //p' crates.txt)
 unit_parts := $(wildcard $(foreach crate,$(unit_crates),$(addprefix crates/$(crate)/,src specs proofs)))
 unit_files := $(shell find $(unit_parts) -type d -o -name '*.rt' -o -name '*.antt')
 
@@ -23,7 +23,7 @@ help: ## this list
 run: ## proves and builds the unit, runs the paper's printed session and says what each line means
 	@scripts/run
 
-test: ## every check, from nothing; its last line is 'N passed, 0 failed'
+test: ## every check; its last line is 'N passed, 0 failed'
 	@scripts/test
 
 staticlib: $(archive) ## the unit's archive, target/staticlib/libroom.a, of the calls in include/room.h
@@ -45,10 +45,10 @@ uninstall: ## removes what install put there, with the same settings
 	@$(places) scripts/install remove
 
 fmt: ## lays out every .rt and .antt file
-	rt fmt
+	@for folder in crates/*/; do (cd "$$folder" && rt fmt) || exit; done
 
 clean: ## removes all that was built and proved
-	rm -rf target host/target rust/target
+	rm -rf target host/target rust/target crates/*/out
 
 $(archive): $(unit_files) crates.txt include/room.h include/room_text.c scripts/staticlib
 	@scripts/staticlib
