@@ -26,7 +26,7 @@ kind_bound kind_is.Leave code e z = rw e (omega arith)
 kind_bound kind_is.MakeHub code e z = rw e (omega arith)
 kind_bound kind_is.Unknown code e z = absurd (omega arith)
 
--- the answer for a code
+-- the answers for a command's code and for any other
 abbrev pub Length : ℕ → ℕ → Type 0
 Length code n = (n ≡ cond (is_command_code code) (length_of (shape_of code)) 1) × (1 ≤ n) × (n ≤ 5)
 
@@ -34,3 +34,6 @@ pub length_known : (code : ℕ) {n : ℕ} → is_command_code code ≡ true → 
 length_known code h e =
     let b = kind_bound (kind_of code) code (kind_says code) (eqb-true _ _ h) in
     rw (e, h) (refl, b.0, b.1)
+
+pub length_unknown : (code : ℕ) → is_command_code code ≡ false → Length code 1
+length_unknown code h = rw h (refl, omega arith, omega arith)
