@@ -1,4 +1,4 @@
--- What theorems on the boards of a graph ask of one rule, each as a record of laws, and that the rule of the paper has them.
+-- What theorems on boards may ask of one rule, each as a record of laws, and that the rule of the paper has them.
 -- Assumes nothing.
 use Prim.Native.Nat.{ℕ, ◌+◌, ◌<◌}
 use mathlib.Core.Path.{◌≡◌, ◌∙◌}

@@ -1,5 +1,5 @@
--- "every board is what the rules below give": what a rule of boards is, and the paper's. A room chooses the rule of each version by the version's
--- number; what is proved of boards in graphs is proved of any rule with the laws that it needs.
+-- "every board is what the rules below give": what a rule of boards is, and the paper's. Rooms and graphs do not choose among rules yet: their
+-- boards are the paper's.
 use Rattle.std.specs.Prelude.{ℕ, ◌≡◌, List, length}
 use Rattle.board.specs.Board.{Merged, board_size, empty_board, enter, merge_board}
 

@@ -1,4 +1,4 @@
--- Blocks of one size, one behind the other. Where a block stands is worked out here alone; the size is a parameter.
+-- Blocks of one size, one behind the other; the size is a parameter. The store's own places do not rest on them yet.
 use Rattle.std.specs.Prelude.{ℕ, zero, suc, ◌*◌, List, [], ◌++◌}
 use Rattle.buffer.specs.Field.{part, with_part}
 

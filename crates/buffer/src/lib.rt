@@ -34,7 +34,7 @@ pub fn part_of(s: &[u8], at: usize, n: usize) -> &[u8]
     &s[at..end]
 }
 
-// Where block v of blocks of a size begins. Nothing else works out where a block stands.
+// Where block v of blocks of a size begins.
 pub fn block_at(size: usize, v: usize) -> usize
     requires { block_at size v < 2 ^ 64 }
     ensures { result ≡ block_at size v }

@@ -3,7 +3,7 @@
 // program with its error.
 #![tactic(auto)]
 
-ghost use Rattle.std.specs.Prelude.{◌≤◌, ◌≡◌, cond, ◌||◌, eqb, ltb, length, IfOk};
+ghost use Rattle.std.specs.Prelude.{◌≤◌, ◌≡◌, cond, ◌||◌, eqb, ltb, length, IfOk, OnErr};
 ghost use Rattle.std.specs.Io.{ReadsAtMost};
 ghost use Rattle.command.specs.Code.{shape_of, length_of};
 ghost use Rattle.command.specs.Decode.{is_command_code};
@@ -64,7 +64,8 @@ fn print_line(
 
 // Reads until the buffer is full or the input ends, and answers how many bytes it put at the buffer's front. On an empty buffer it makes no call.
 fn read_full(input: &mut impl Read, buffer: &mut [u8]) -> io::Result<usize>
-    ensures { ReadsAtMost result buffer.new }
+    ensures ok { ReadsAtMost result buffer.new }
+    ensures err { OnErr result (length buffer.new ≡ length buffer.old) }
 {
     let mut done = 0;
     while done < buffer.len() {
@@ -80,7 +81,8 @@ fn read_full(input: &mut impl Read, buffer: &mut [u8]) -> io::Result<usize>
 // Reads what follows the code that was read, and answers how many bytes the command has.
 fn read_operands(input: &mut impl Read, command: &mut [u8]) -> io::Result<usize>
     requires { length command.old ≡ 5 }
-    ensures { IfOk result (λ n. n ≤ 5) }
+    ensures ok { IfOk result (λ n. n ≤ 5) }
+    ensures err { OnErr result (length command.new ≡ 5) }
 {
     let end = command_length(wide(command[0]));
     let got = read_full(input, &mut command[1..end])?;
@@ -90,7 +92,8 @@ fn read_operands(input: &mut impl Read, command: &mut [u8]) -> io::Result<usize>
 // Reads a command and answers how many bytes it has; 0 at the end of the input.
 fn read_command(input: &mut impl Read, command: &mut [u8]) -> io::Result<usize>
     requires { length command.old ≡ 5 }
-    ensures { ReadsAtMost result command.new }
+    ensures ok { ReadsAtMost result command.new }
+    ensures err { OnErr result (length command.new ≡ 5) }
 {
     if read_full(input, &mut command[..1])? == 0 {
         return Ok(0);

@@ -1,5 +1,5 @@
 -- The length of a command is that of its shape, 1 to 5 bytes.
-use Rattle.std.proofs.Common.{◌≡◌, ◌∙◌, ap, sym}
+use Rattle.std.proofs.Common.{◌∙◌, ap, sym}
 use Rattle.command.specs.Code.{length_of}
 use Rattle.command.proofs.Shapes.{narrow_shape}
 use Rattle.session.proofs.Lengths.{length_known}
