@@ -50,10 +50,10 @@ def snake(word):
     return re.sub(r"(?<=[a-z0-9])([A-Z])", lambda m: "_" + m.group(1).lower(), word)
 
 
-def spelled(name, names):
+def spelled(name):
     """The name in the spelling of today: parts that begin with a small letter in snake case, dashes between plain words as underscores."""
     parts = name.split("-")
-    if not all(parts) or not parts[0][0].islower() and parts[0][0].isalpha() and len(parts) == 1:
+    if not all(parts):
         return name
     made = parts[0] if parts[0][0].isupper() else snake(parts[0])
     joins = parts[0][0].isupper() or re.search(r"[a-z0-9][A-Z]", parts[0])
@@ -80,7 +80,7 @@ def turned(text, names):
 def main(argv):
     root = os.path.abspath(argv[0] if argv else ".")
     names = declared(root)
-    turn = {n: spelled(n, names) for n in names}
+    turn = {n: spelled(n) for n in names}
     turn = {old: new for old, new in turn.items() if old != new}
     crates = set(os.listdir(os.path.join(root, "crates")))
     sources = list(files(os.path.join(root, "crates"), ".antt", ".rt", ".edit"))
@@ -110,8 +110,8 @@ def main(argv):
         return 1
     for path in sources:
         old = read(path)
-        # What port.py gave a name to stands in proofs alone; in code the same word is a function's or a variable's.
         kept = theirs(old, crates)
+        # What port.py gave a name to stands in proofs alone; in code the same word is a function's or a variable's.
         here = turn if path.endswith(".antt") else {o: n for o, n in turn.items() if o != o.lower() or "-" in o}
         new = turned(old, {o: n for o, n in here.items() if o not in kept})
         if new != old:
@@ -125,7 +125,7 @@ def main(argv):
         def page(m):
             def one(t):
                 w = t.group(0)
-                s = spelled(w, known)
+                s = spelled(w)
                 return s if s != w and s in known or w in turn else w
             return "`" + TOKEN.sub(lambda t: turn.get(t.group(0), one(t)), m.group(1)) + "`"
 
