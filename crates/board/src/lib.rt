@@ -2,6 +2,7 @@
 #![tactic(auto)]
 
 pub mod panes;
+mod sides;
 pub mod values;
 
 ghost use Rattle.std.specs.Prelude.{◌≡◌, ◌+◌, ◌*◌, ◌/◌, ◌<◌, ◌≤◌, length, set};
@@ -11,8 +12,9 @@ ghost use Rattle.buffer.specs.Row.{bit};
 ghost use Rattle.board.specs.Board.{strip_size, strip_count, board_size, marks_at, alerts_at, flag_at, flag_on, merge_value, merge_marks, merge_count, merge_flag, merge_strip, merge_board, mark_bit, without, enter, other_strips};
 ghost use Rattle.board.specs.LittleEndian.{swapped};
 
-use buffer::{copy, is_same, is_same_at, part_of, put_word, wide, word_at};
+use buffer::{is_same, is_same_at, part_of, put_word, word_at};
 use graph::Strip;
+use sides::Sides;
 
 // The bytes of a strip, the strips of a board, and its bytes.
 const STRIP_SIZE: usize = 12;
@@ -45,24 +47,25 @@ const FLAG: usize = 10;
 
 const REST: usize = 11;
 
-// The marks of a strip.
+/// The marks of a strip.
 pub const MARK_COUNT: usize = 16;
 
-// Of the cells of a strip, the two that have a value, which has an origin and can clash in a merge.
-#[derive(Clone, Copy)]
+/// Of the cells of a strip, the two that have a value, which has an origin and can clash in a merge.
+#[derive(Clone, Copy, Debug, PartialEq, Eq)]
 pub enum Cell {
     Level,
     Heading,
 }
 
-// Whoever looks at a board.
-#[derive(Clone, Copy)]
+/// Whoever looks at a board.
+#[derive(Clone, Copy, Debug, PartialEq, Eq)]
 pub enum Viewer {
     Instructor,
     Student,
 }
 
-// The codes of entries.
+/// The codes of entries. A code stays a number wherever a node, a command or a record has one: the definitions (`enter`, `node_in`,
+/// `record_from`) are of any number, as damaged bytes may hold any.
 pub const LEVEL_ENTRY: usize = 0x02;
 
 pub const HEADING_ENTRY: usize = 0x03;
@@ -77,8 +80,8 @@ pub const ALERT_ON_ENTRY: usize = 0x07;
 
 pub const ALERT_OFF_ENTRY: usize = 0x08;
 
-// A level or a heading of a merge, and whether it clashes.
-#[derive(Clone, Copy)]
+/// A level or a heading of a merge, and whether it clashes: it has a value either way, so that no Option or Result says it.
+#[derive(Clone, Copy, Debug, PartialEq, Eq)]
 pub struct MergedValue {
     pub value: usize,
     pub clash: bool,
@@ -96,7 +99,7 @@ fn merge_value(l: usize, a: usize, b: usize) -> MergedValue
     }
     MergedValue {
         value: a,
-        clash: !(b == l) & !(a == b),
+        clash: (b != l) & (a != b),
     }
 }
 
@@ -104,7 +107,7 @@ fn merge_value(l: usize, a: usize, b: usize) -> MergedValue
 fn mark_bit(mark: usize) -> usize
     ensures { result ≡ mark_bit mark }
 {
-    1usize << (mark % MARK_COUNT)
+    1 << (mark % MARK_COUNT)
 }
 
 // The marks of a that l does not have.
@@ -127,12 +130,12 @@ fn merge_count(l: usize, a: usize, b: usize) -> usize
     requires { (a < 65536) × (b < 65536) }
     ensures { result ≡ merge_count l a b }
 {
-    let sum = a + b;
-    if l <= sum { sum - l } else { 0 }
+    (a + b).saturating_sub(l)
 }
 
 // The alert flag of a merge, of the flags of receiver and giver and of the three alert counts. In one line, as that was faster than
 // branches.
+#[tactic(auto, using(crate::proofs::Strips::flag_rule))]
 fn merge_flag(a_on: bool, b_on: bool, l: usize, a: usize, b: usize) -> bool
     ensures { result ≡ merge_flag a_on b_on l a b }
 {
@@ -144,7 +147,7 @@ fn le_word_at(s: &[u8], at: usize) -> usize
     requires { at + 1 < length s.now }
     ensures { (result ≡ swapped (word_at s.now at)) × (word_at s.now at < 65536) }
 {
-    wide(s[at]) + wide(s[at + 1]) * 256
+    usize::from(u16::from_le_bytes([s[at], s[at + 1]]))
 }
 
 // Writes a number's 16 bits at a place, low byte first.
@@ -152,68 +155,87 @@ fn put_le_word(s: &mut [u8], at: usize, x: usize)
     requires { at + 1 < length s.old }
     ensures { s.new ≡ put_word s.old at (swapped x) }
 {
-    s[at] = (x % 256) as u8;
-    s[at + 1] = (x / 256 % 256) as u8;
+    let [low, high] = ((x % 65536) as u16).to_le_bytes();
+    s[at] = low;
+    s[at + 1] = high;
 }
 
-// Writes a merged level or heading into a strip, and answers whether it clashes. The rule is the same whichever byte is first.
-fn merge_value_at(s: &mut [u8], l: &[u8], a: &[u8], b: &[u8], at: usize) -> bool
-    requires { (at + 1 < length s.old) × (at + 1 < length l.now) × (at + 1 < length a.now) × (at + 1 < length b.now) }
-    ensures { (s.new ≡ put_word s.old at (merge_value (word_at l.now at) (word_at a.now at) (word_at b.now at)).value) × (result ≡ (merge_value (word_at l.now at) (word_at a.now at) (word_at b.now at)).clash) }
+// Writes a merged level or heading into a strip, and answers whether it clashes. The rule is the same whichever byte is first. A strip that is
+// written is a slice: of a part that is lent as an array no fact says what the board then is.
+fn merge_value_at(s: &mut [u8], sides: &Sides<'_, STRIP_SIZE>, at: usize) -> bool
+    requires { (length s.old ≡ strip_size) × (at + 1 < strip_size) }
+    ensures { (s.new ≡ put_word s.old at (merge_value (word_at sides.now.base.now at) (word_at sides.now.mine.now at) (word_at sides.now.given.now at)).value) × (result ≡ (merge_value (word_at sides.now.base.now at) (word_at sides.now.mine.now at) (word_at sides.now.given.now at)).clash) }
 {
-    let merged = merge_value(le_word_at(l, at), le_word_at(a, at), le_word_at(b, at));
+    let merged = merge_value(
+        le_word_at(sides.base, at),
+        le_word_at(sides.mine, at),
+        le_word_at(sides.given, at),
+    );
     put_le_word(s, at, merged.value);
     merged.clash
 }
 
 // Writes merged marks into a strip. The rule is the same whichever byte is first.
-fn merge_marks_at(s: &mut [u8], l: &[u8], a: &[u8], b: &[u8], at: usize)
-    requires { (at + 1 < length s.old) × (at + 1 < length l.now) × (at + 1 < length a.now) × (at + 1 < length b.now) }
-    ensures { s.new ≡ put_word s.old at (merge_marks (word_at l.now at) (word_at a.now at) (word_at b.now at)) }
+#[tactic(auto, using(crate::proofs::LittleEndian::put_marks))]
+fn merge_marks_at(s: &mut [u8], sides: &Sides<'_, STRIP_SIZE>, at: usize)
+    requires { (length s.old ≡ strip_size) × (at + 1 < strip_size) }
+    ensures { s.new ≡ put_word s.old at (merge_marks (word_at sides.now.base.now at) (word_at sides.now.mine.now at) (word_at sides.now.given.now at)) }
 {
-    put_le_word(
-        s,
-        at,
-        merge_marks(le_word_at(l, at), le_word_at(a, at), le_word_at(b, at)),
+    let marks = merge_marks(
+        le_word_at(sides.base, at),
+        le_word_at(sides.mine, at),
+        le_word_at(sides.given, at),
     );
+    put_le_word(s, at, marks);
 }
 
 // Writes a merged count into a strip.
-fn merge_count_at(s: &mut [u8], l: &[u8], a: &[u8], b: &[u8], at: usize)
-    requires { (at + 1 < length s.old) × (at + 1 < length l.now) × (at + 1 < length a.now) × (at + 1 < length b.now) }
-    ensures { s.new ≡ put_word s.old at (merge_count (word_at l.now at) (word_at a.now at) (word_at b.now at)) }
+fn merge_count_at(s: &mut [u8], sides: &Sides<'_, STRIP_SIZE>, at: usize)
+    requires { (length s.old ≡ strip_size) × (at + 1 < strip_size) }
+    ensures { s.new ≡ put_word s.old at (merge_count (word_at sides.now.base.now at) (word_at sides.now.mine.now at) (word_at sides.now.given.now at)) }
 {
-    put_word(
-        s,
-        at,
-        merge_count(word_at(l, at), word_at(a, at), word_at(b, at)),
+    let count = merge_count(
+        word_at(sides.base, at),
+        word_at(sides.mine, at),
+        word_at(sides.given, at),
     );
+    put_word(s, at, count);
 }
 
-// Writes the merged alert cells into a strip: the count, the flag and the zero behind it.
-fn merge_alerts(s: &mut [u8], l: &[u8], a: &[u8], b: &[u8])
-    requires { (length s.old ≡ strip_size) × (length l.now ≡ strip_size) × (length a.now ≡ strip_size) × (length b.now ≡ strip_size) }
-    ensures { s.new ≡ set (set (put_word s.old (alerts_at 0) (merge_count (word_at l.now (alerts_at 0)) (word_at a.now (alerts_at 0)) (word_at b.now (alerts_at 0)))) (flag_at 0) (bit (merge_flag (flag_on a.now 0) (flag_on b.now 0) (word_at l.now (alerts_at 0)) (word_at a.now (alerts_at 0)) (word_at b.now (alerts_at 0))))) (flag_at 0 + 1) 0 }
+// Whether the alert flag of a strip is on.
+fn flag_on(strip: &[u8]) -> bool
+    requires { length strip.now ≡ strip_size }
+    ensures { result ≡ flag_on strip.now 0 }
 {
-    let base = word_at(l, ALERTS);
-    let mine = word_at(a, ALERTS);
-    let given = word_at(b, ALERTS);
+    strip[FLAG] == 1
+}
+
+// Writes the merged alert cells into a strip: the count, the flag and the zero behind it. Each count is read once, before what is written, as that
+// was faster.
+fn merge_alerts(s: &mut [u8], sides: &Sides<'_, STRIP_SIZE>)
+    requires { length s.old ≡ strip_size }
+    ensures { s.new ≡ set (set (put_word s.old (alerts_at 0) (merge_count (word_at sides.now.base.now (alerts_at 0)) (word_at sides.now.mine.now (alerts_at 0)) (word_at sides.now.given.now (alerts_at 0)))) (flag_at 0) (bit (merge_flag (flag_on sides.now.mine.now 0) (flag_on sides.now.given.now 0) (word_at sides.now.base.now (alerts_at 0)) (word_at sides.now.mine.now (alerts_at 0)) (word_at sides.now.given.now (alerts_at 0))))) (flag_at 0 + 1) 0 }
+{
+    let base = word_at(sides.base, ALERTS);
+    let mine = word_at(sides.mine, ALERTS);
+    let given = word_at(sides.given, ALERTS);
     put_word(s, ALERTS, merge_count(base, mine, given));
-    s[FLAG] = merge_flag(a[FLAG] == 1, b[FLAG] == 1, base, mine, given) as u8;
+    let flag = merge_flag(flag_on(sides.mine), flag_on(sides.given), base, mine, given);
+    s[FLAG] = u8::from(flag);
     s[REST] = 0;
 }
 
-// Writes a merged strip from three strips, and counts its clashes. They are added as bytes, so that the sum's bound is plain.
-fn merge_strip(s: &mut [u8], l: &[u8], a: &[u8], b: &[u8]) -> usize
-    requires { (length s.old ≡ strip_size) × (length l.now ≡ strip_size) × (length a.now ≡ strip_size) × (length b.now ≡ strip_size) }
-    ensures { (s.new ≡ (merge_strip l.now a.now b.now 0).bytes) × (result ≡ (merge_strip l.now a.now b.now 0).clashes) }
+// Writes a merged strip from three strips, and counts its clashes.
+fn merge_strip(s: &mut [u8], sides: &Sides<'_, STRIP_SIZE>) -> usize
+    requires { length s.old ≡ strip_size }
+    ensures { (s.new ≡ (merge_strip sides.now.base.now sides.now.mine.now sides.now.given.now 0).bytes) × (result ≡ (merge_strip sides.now.base.now sides.now.mine.now sides.now.given.now 0).clashes) }
 {
-    let level_clashes = merge_value_at(s, l, a, b, LEVEL);
-    let heading_clashes = merge_value_at(s, l, a, b, HEADING);
-    merge_marks_at(s, l, a, b, MARKS);
-    merge_count_at(s, l, a, b, CALLS);
-    merge_alerts(s, l, a, b);
-    wide(level_clashes as u8) + wide(heading_clashes as u8)
+    let level_clashes = merge_value_at(s, sides, LEVEL);
+    let heading_clashes = merge_value_at(s, sides, HEADING);
+    merge_marks_at(s, sides, MARKS);
+    merge_count_at(s, sides, CALLS);
+    merge_alerts(s, sides);
+    usize::from(level_clashes) + usize::from(heading_clashes)
 }
 
 // A strip of a board.
@@ -225,44 +247,34 @@ fn strip_of(board: &[u8], k: usize) -> &[u8]
 }
 
 // Writes strip k of the merge of three boards, and counts its clashes.
-fn merge_strip_at(board: &mut [u8], l: &[u8], a: &[u8], b: &[u8], k: usize) -> usize
-    requires { (length board.old ≡ board_size) × (length l.now ≡ board_size) × (length a.now ≡ board_size) × (length b.now ≡ board_size) × (k < strip_count) }
-    ensures { (board.new ≡ with_part board.old (strip_size * k) (merge_strip l.now a.now b.now k).bytes) × (result ≡ (merge_strip l.now a.now b.now k).clashes) }
+fn merge_strip_at(board: &mut [u8], sides: &Sides<'_, BOARD_SIZE>, k: usize) -> usize
+    requires { (length board.old ≡ board_size) × (k < strip_count) }
+    ensures { (board.new ≡ with_part board.old (strip_size * k) (merge_strip sides.now.base.now sides.now.mine.now sides.now.given.now k).bytes) × (result ≡ (merge_strip sides.now.base.now sides.now.mine.now sides.now.given.now k).clashes) }
 {
     let at = STRIP_SIZE * k;
-    let end = at + STRIP_SIZE;
-    merge_strip(
-        &mut board[at..end],
-        strip_of(l, k),
-        strip_of(a, k),
-        strip_of(b, k),
-    )
+    merge_strip(&mut board[at..at + STRIP_SIZE], &sides.strips(k))
 }
 
-// Writes the merge of three boards, strip by strip. Its clashes are let go: whoever tests or resumes a room merges the boards of every version
-// and asks for none, and a number that nobody adds up costs nothing.
-pub fn merge_board(board: &mut [u8], l: &[u8], a: &[u8], b: &[u8])
-    requires { (length board.old ≡ board_size) × (length l.now ≡ board_size) × (length a.now ≡ board_size) × (length b.now ≡ board_size) }
-    ensures { board.new ≡ (merge_board l.now a.now b.now).bytes }
-{
-    for k in 0..STRIP_COUNT {
-        merge_strip_at(board, l, a, b, k);
-    }
-}
-
-// The same, and counts its clashes.
-pub fn merge_board_counted(board: &mut [u8], l: &[u8], a: &[u8], b: &[u8]) -> usize
+/// Writes the merge of three boards, strip by strip, and counts its clashes. It is always inlined, so that a count which the caller lets go
+/// costs nothing: whoever tests or resumes a room merges the boards of every version and asks for none.
+#[inline(always)]
+pub fn merge_board(board: &mut [u8], l: &[u8], a: &[u8], b: &[u8]) -> usize
     requires { (length board.old ≡ board_size) × (length l.now ≡ board_size) × (length a.now ≡ board_size) × (length b.now ≡ board_size) }
     ensures { (board.new ≡ (merge_board l.now a.now b.now).bytes) × (result ≡ (merge_board l.now a.now b.now).clashes) }
 {
+    let sides = Sides {
+        base: l,
+        mine: a,
+        given: b,
+    };
     let mut clashes = 0;
     for k in 0..STRIP_COUNT {
-        clashes = clashes + merge_strip_at(board, l, a, b, k);
+        clashes += merge_strip_at(board, &sides, k);
     }
     clashes
 }
 
-// A board is the merge of three boards. The board that it should be is made and compared whole, which runs on many bytes at a time.
+/// A board is the merge of three boards. The board that it should be is made and compared whole, which runs on many bytes at a time.
 pub fn is_merged(board: &[u8], l: &[u8], a: &[u8], b: &[u8]) -> bool
     requires { (length board.now ≡ board_size) × (length l.now ≡ board_size) × (length a.now ≡ board_size) × (length b.now ≡ board_size) }
     ensures { result ≡ same board.now (merge_board l.now a.now b.now).bytes }
@@ -300,6 +312,7 @@ fn take_mark(s: &mut [u8], mark: usize)
 }
 
 // Makes an entry on a strip.
+#[tactic(auto, unfolding(crate::specs::Board::enter))]
 fn enter_strip(s: &mut [u8], code: usize, operand: usize)
     requires { length s.old ≡ strip_size }
     ensures { s.new ≡ enter code 0 operand s.old }
@@ -319,15 +332,14 @@ fn enter_strip(s: &mut [u8], code: usize, operand: usize)
     }
 }
 
-// Makes an entry on a strip of a board, or of a run of its strips, in which the strip's number counts from the first of the run. The bytes
-// of the other strips, 31 of a whole board, stay as they were, whatever they are.
+/// Makes an entry on a strip of a board, or of a run of its strips, in which the strip's number counts from the first of the run. The bytes
+/// of the other strips, 31 of a whole board, stay as they were, whatever they are.
 pub fn enter_board(board: &mut [u8], code: usize, strip: Strip, operand: usize)
     requires { strip_size * strip.0 + strip_size ≤ length board.old }
     ensures { (board.new ≡ enter code strip.0 operand board.old) × (other_strips strip.0 board.new ≡ other_strips strip.0 board.old) }
 {
     let at = STRIP_SIZE * strip.0;
-    let end = at + STRIP_SIZE;
-    enter_strip(&mut board[at..end], code, operand);
+    enter_strip(&mut board[at..at + STRIP_SIZE], code, operand);
 }
 
 // A quarter of a board is its parent's after an entry on one of its strips. It is made and compared whole.
@@ -342,13 +354,14 @@ fn is_quarter_entered(
     ensures { result ≡ same quarter.now (enter code strip.0 operand parent.now) }
 {
     let mut entered = [0u8; QUARTER_SIZE];
-    copy(&mut entered, parent);
+    entered.copy_from_slice(parent);
     enter_board(&mut entered, code, strip, operand);
     is_same(quarter, &entered)
 }
 
 // Half of a board is its parent's after an entry on one of its strips: the quarter with the strip is so, and the other quarter is the
-// parent's, compared where it stands.
+// parent's, compared where it stands. The test of a whole board below looks alike, but each makes and compares parts of its own length, which
+// loops on many bytes at a time need as a constant: as one function it would take three lengths and the test of its part.
 fn is_half_entered(half: &[u8], parent: &[u8], code: usize, strip: Strip, operand: usize) -> bool
     requires { (length half.now ≡ strip_size * (strip_count / 2)) × (length parent.now ≡ strip_size * (strip_count / 2)) × (strip.0 < strip_count / 2) }
     ensures { result ≡ same half.now (enter code strip.0 operand parent.now) }
@@ -363,9 +376,9 @@ fn is_half_entered(half: &[u8], parent: &[u8], code: usize, strip: Strip, operan
     ) & is_same_at(half, parent, QUARTER_SIZE - at, QUARTER_SIZE)
 }
 
-// A board is its parent's after an entry: the half with the strip is so, and the other half is the parent's, compared where it stands. Halves
-// and quarters, as loops of these lengths run on many bytes at a time and shorter ones do not. What is made stands first in each line: what is
-// compared before it is kept on the stack through the `match` of the entry.
+/// A board is its parent's after an entry: the half with the strip is so, and the other half is the parent's, compared where it stands. Halves
+/// and quarters, as loops of these lengths run on many bytes at a time and shorter ones do not. What is made stands first in each line: what is
+/// compared before it is kept on the stack through the `match` of the entry.
 pub fn is_entered(board: &[u8], parent: &[u8], code: usize, strip: Strip, operand: usize) -> bool
     requires { (length board.now ≡ board_size) × (length parent.now ≡ board_size) × (strip.0 < strip_count) }
     ensures { result ≡ same board.now (enter code strip.0 operand parent.now) }

@@ -8,7 +8,7 @@ ghost use Rattle.board.specs.Pane.{student_strip, student_pane, pane_of};
 use crate::{
     ALERTS, CALLS, FLAG, HEADING, LEVEL, MARKS, STRIP_COUNT, STRIP_SIZE, Viewer, strip_of,
 };
-use buffer::{copy, put_word, word_at};
+use buffer::{put_word, word_at};
 
 // Of the 16 bits of a field, those that a student sees: all, marks 0 to 7, or none.
 const ALL: usize = 0xFFFF;
@@ -44,8 +44,7 @@ fn show_strip_at(pane: &mut [u8], board: &[u8], k: usize)
     ensures { pane.new ≡ with_part pane.old (strip_size * k) (student_strip board.now k) }
 {
     let at = STRIP_SIZE * k;
-    let end = at + STRIP_SIZE;
-    show_strip(&mut pane[at..end], strip_of(board, k));
+    show_strip(&mut pane[at..at + STRIP_SIZE], strip_of(board, k));
 }
 
 // Writes a board as a student sees it, strip by strip.
@@ -58,13 +57,13 @@ fn show_student(pane: &mut [u8], board: &[u8])
     }
 }
 
-// Writes a board as its viewer sees it.
+/// Writes a board as its viewer sees it.
 pub fn show_board(pane: &mut [u8], board: &[u8], viewer: Viewer)
     requires { (length pane.old ≡ board_size) × (length board.now ≡ board_size) }
     ensures { pane.new ≡ pane_of viewer board.now }
 {
     match viewer {
-        Viewer::Instructor => copy(pane, board),
+        Viewer::Instructor => pane.copy_from_slice(board),
         Viewer::Student => show_student(pane, board),
     }
 }

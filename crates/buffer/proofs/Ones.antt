@@ -2,15 +2,17 @@
 -- Assumes nothing.
 use mathlib.Core.Path.{◌≡◌, refl, sym, ap, ap₂, ◌∙◌}
 use mathlib.Core.Bool.{Bool}
-use mathlib.Core.List.{List, [], ◌∷◌, ◌++◌}
-use Prim.Native.Nat.{ℕ, suc, ◌+◌, ◌*◌, ◌/◌, ◌%◌, ◌^◌, ◌≤◌, ◌<◌}
-use native.Mathlib.Nat.{suc_inj}
+use mathlib.Core.List.{List, [], ◌∷◌, ◌++◌, map}
+use Prim.Native.Nat.{ℕ, zero, suc, ◌+◌, ◌*◌, ◌/◌, ◌%◌, ◌^◌, ◌≤◌, ◌<◌}
+use native.Mathlib.Nat.{suc_inj, zero-add}
 use native.Mathlib.Omega.{arith}
 use lib.Bits.{bit_and, and_lt, and_le_l, and_block}
 use lib.Count.{ones, ones_step, ones_cat, ones-le}
-use lib.ListN.{length, take}
-use lib.Seq.{take-add, take_all, length-take-le}
-use Rattle.buffer.specs.Field.{part}
+use lib.ListN.{length, take, drop, length-drop}
+use lib.Seq.{length-take-le}
+use Rattle.std.specs.List.{fold, zip, sum}
+use Rattle.std.specs.Simd.{first_chunks}
+use Rattle.std.proofs.lemmas.List.{take-append-drop}
 use Rattle.buffer.specs.Row.{bit, row_byte, bytewise, intersection, member_count, row_width}
 use Rattle.buffer.specs.Word.{long_word}
 use Rattle.buffer.proofs.Rows.{bit_le}
@@ -74,41 +76,34 @@ unfolding member_count
 count_append [] t = omega arith
 count_append (x ∷ s) t = ap (λ (n : ℕ). ones x + n) (count_append s t) ∙ omega arith
 
--- the members that two rows have in common before place i have been counted, i being a whole number of words
-pub record Counted (s t : List ℕ) (count i : ℕ) : Type 0 where
-  pub long : length s ≡ length t
-  pub short : length s ≤ row_width
-  pub whole : length s % 8 ≡ 0
-  pub step : i % 8 ≡ 0
-  pub within : i ≤ length s
-  pub few : count ≤ 8 * i
-  pub found : count ≡ member_count (intersection (take i s) (take i t))
-
-pub counted_none : (s t : List ℕ) → length s ≡ length t → length s % 8 ≡ 0 → length s ≤ row_width → Counted s t 0 0
+-- so many members as the bits of the bytes at most
+members_bound : (s t : List ℕ) → Bytes s → length s ≡ length t → member_count (intersection s t) ≤ 8 * length s
 unfolding bytewise member_count
-counted_none s t long whole short =
-    record { long = long; short = short; whole = whole; step = refl; within = omega arith; few = omega arith; found = refl }
+members_bound [] t b e = omega arith
+members_bound (x ∷ s) [] b e = absurd (omega arith)
+members_bound (x ∷ s) (y ∷ t) b e =
+    omega (arith, members_bound s t (λ k. b (suc k)) (suc_inj e), ones-le 8 (bit_and x y) (omega (arith, and_le_l x y, b 0)))
 
-pub counted_more : {s t : List ℕ} {count i n : ℕ} → Counted s t count i → i < length s
-    → n ≡ member_count (intersection (part s i 8) (part t i 8)) → n ≤ 64 → Counted s t (count + n) (i + 8)
-counted_more {s} {t} {count} {i} {n} c h e l =
-    record {
-      long = c.long;
-      short = c.short;
-      whole = c.whole;
-      step = omega arith;
-      within = omega arith;
-      few = omega arith;
-      found =
-          ap₂ ◌+◌ c.found e
-          ∙ sym (count_append (intersection (take i s) (take i t)) (intersection (part s i 8) (part t i 8)))
-          ∙ ap member_count
-          (sym (bytewise_append bit_and (take i s) (take i t) (part s i 8) (part t i 8)
-          (length-take-le i s (omega arith) ∙ sym (length-take-le i t (omega arith))))
-          ∙ sym (ap₂ intersection (take-add i 8 s) (take-add i 8 t)));
-    }
+-- counted a word of eight bytes at a time
+abbrev pub in_word : List ℕ × List ℕ → ℕ
+in_word p = member_count (intersection p.0 p.1)
 
-pub counted_all : {s t : List ℕ} {count i : ℕ} → Counted s t count i → length s ≤ i
-    → (count ≡ member_count (intersection s t)) × (count ≤ 8 * row_width)
-counted_all {s} {t} {count} {i} c h =
-    (c.found ∙ ap member_count (ap₂ intersection (take_all i s h) (take_all i t (omega arith))), omega arith)
+pub count_words : (k : ℕ) (s t : List ℕ) (found : ℕ) → length s ≡ k * 8 → length t ≡ k * 8
+    → fold (λ a x. a + x) found (map in_word (zip (first_chunks 8 k s) (first_chunks 8 k t))) ≡ found + member_count (intersection s t)
+unfolding bytewise member_count
+count_words zero [] t found d e = omega arith
+count_words zero (x ∷ s) t found d e = absurd (omega arith)
+count_words (suc k) s t found d e =
+    let rest = bytewise bit_and (drop 8 s) (drop 8 t) in
+    let more = count_words k (drop 8 s) (drop 8 t) (found + in_word (take 8 s, take 8 t)) (rw length-drop (omega arith)) (rw length-drop (omega arith)) in
+    let front : length (take 8 s) ≡ length (take 8 t) = length-take-le 8 s (omega arith) ∙ sym (length-take-le 8 t (omega arith)) in
+    let split : intersection s t ≡ intersection (take 8 s) (take 8 t) ++ intersection (drop 8 s) (drop 8 t) =
+    ap₂ intersection (sym (take-append-drop 8 s)) (sym (take-append-drop 8 t)) ∙ bytewise_append bit_and (take 8 s) (take 8 t) (drop 8 s) (drop 8 t) front in
+    more ∙ rw split (omega (arith, count_append (intersection (take 8 s) (take 8 t)) (intersection (drop 8 s) (drop 8 t))))
+
+-- all words of rows that are not longer than a whole one
+pub all_words : (s t : List ℕ) → Bytes s → length s ≡ length t → length s % 8 ≡ 0 → length s ≤ row_width
+    → (sum (map in_word (zip (first_chunks 8 (length s / 8) s) (first_chunks 8 (length t / 8) t))) ≡ member_count (intersection s t))
+    × (member_count (intersection s t) ≤ 8 * row_width)
+all_words s t b e whole short =
+    (rw (sym e) (count_words (length s / 8) s t 0 (omega arith) (omega arith) ∙ zero-add _), omega (arith, members_bound s t b e))

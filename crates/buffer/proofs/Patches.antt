@@ -8,15 +8,25 @@ use native.Mathlib.Decide.{dec_lt}
 use native.Mathlib.Numerals.{add-one}
 use native.Mathlib.Omega.{arith}
 use lib.ListN.{length, get_or, take, drop, set, length-append, length-drop, length-set, get_or-append}
-use lib.Seq.{length-take-le, get_or-take, get_or-drop, get_or-append-add, drop-drop, take_at, drop-append-add, set_split, ext_get_or, paste, paste-zero, paste-suc}
+use lib.Seq.{length-take-le, get_or-take, get_or-drop, get_or-append-add, drop-drop, take_at, drop-append-add, set_split, ext_get_or, paste}
 use Rattle.laws.proofs.Lists.{part_at, take_put}
 use Rattle.buffer.specs.Field.{byte, word, put_word, part, with_part, overwrite}
 use Rattle.buffer.proofs.Fields.{part_length}
 use Rattle.buffer.proofs.Stands.{Stands, stands_kept}
 
-put_back : (s new : List ℕ) (at n : ℕ) → length new ≡ n → take at s ++ (new ++ drop n (drop at s)) ≡ with_part s at new
+pub put_back : (s new : List ℕ) (at n : ℕ) → length new ≡ n → take at s ++ (new ++ drop n (drop at s)) ≡ with_part s at new
 unfolding with_part
 put_back s new at n e = rw (drop-drop n at s, e)
+
+-- a part that stands before a place, of what lies before that place alone
+pub part_before : (s : List ℕ) (at n to : ℕ) → at + n ≤ to → to ≤ length s → part (take to s) at n ≡ part s at n
+part_before s at n to l m =
+    let long = part_length (take to s) at n (omega (arith, length-take-le to s m)) in
+    ext_get_or 0 (part (take to s) at n) (part s at n)
+    (long ∙ sym (part_length s at n (omega arith)))
+    (λ i k.
+    let small : i < n = rw long at k in
+    part_at (take to s) at n i small ∙ get_or-take to s (at + i) 0 (omega arith) ∙ sym (part_at s at n i small))
 
 -- one element replaced
 pub set_part : (s : List ℕ) (at x : ℕ) → at < length s → set s at x ≡ with_part s at (x ∷ [])
@@ -158,49 +168,9 @@ changed_lent s t new f from at to n a read write keeps e g =
     put_lent t new (f copied) at to n a same (keeps copied long)
     ∙ rw e (with_again s copied to (omega arith) (f copied) (keeps copied long ∙ sym long))
 
--- n bytes copied to a place behind them, the first i of them done
-pub record Copied (s : List ℕ) (from to n i : ℕ) (t : List ℕ) : Type 0 where
-  pub apart : from + n ≤ to
-  pub fits : to + n ≤ length s
-  pub within : i ≤ n
-  pub kept : length t ≡ length s
-  pub reads : t ≡ paste s to (drop from s) i
-
-pub copied_none : (s : List ℕ) (from to n : ℕ) → from + n ≤ to → to + n ≤ length s → Copied s from to n 0 s
-copied_none s from to n a b =
-    record { apart = a; fits = b; within = omega arith; kept = refl; reads = paste-zero s to (drop from s) }
-
-module _ {s t : List ℕ} {from to n i : ℕ} (c : Copied s from to n i t) where
-  -- what is copied next has not been written over
-  ahead : i < n → get_or t (from + i) 0 ≡ get_or (drop from s) i 0
-  ahead l =
-      let a = c.apart in
-      let b = c.fits in
-      let front : length (take to s) ≡ to = length-take-le to s (omega arith) in
-      rw (c.reads, append_assoc (take to s) (take i (drop from s)) (drop (to + i) s))
-      (get_or-append (take to s) (take i (drop from s) ++ drop (to + i) s) 0 (from + i) (omega arith)
-      ∙ get_or-take to s (from + i) 0 (omega arith) ∙ sym (get_or-drop from s i 0))
-
-  pub copied_more : i < n → Copied s from to n (i + 1) (set t (to + i) (get_or t (from + i) 0))
-  copied_more l =
-      let a = c.apart in
-      let b = c.fits in
-      record {
-        apart = a;
-        fits = b;
-        within = omega arith;
-        kept = length-set t (to + i) (get_or t (from + i) 0) ∙ c.kept;
-        reads =
-            rw (ahead l, c.reads, add-one)
-            (paste-suc s to (drop from s) i 0 (omega arith) (rw length-drop (omega arith)));
-      }
-
-  pub copied_all : n ≤ i → t ≡ with_part s to (part s from n)
-  unfolding with_part
-  copied_all l =
-      let w = c.within in
-      let a = c.apart in
-      let b = c.fits in
-      let e : i ≡ n = omega arith in
-      c.reads
-      ∙ rw (e, part_length s from n (omega arith)) (append_assoc (take to s) (part s from n) (drop (to + n) s))
+-- the n bytes at one place copied to another
+pub pasted : (s : List ℕ) (from to n : ℕ) → from + n ≤ length s → paste s to (drop from s) (from + n - from) ≡ with_part s to (part s from n)
+unfolding with_part
+pasted s from to n read =
+    let count : from + n - from ≡ n = omega arith in
+    rw (count, part_length s from n read) (append_assoc (take to s) (part s from n) (drop (to + n) s))

@@ -19,8 +19,7 @@ use Rattle.refusal.specs.Refusal.{first_refusal}
 use Rattle.command.specs.Code.{console_count}
 use Rattle.command.specs.declared.Command.{Command}
 use Rattle.command.specs.declared.Command.TheVariants.{Fork, Entry, Merge, FastForward, Leave, MakeHub}
-use Rattle.command.specs.declared.Decoded.{Decoded}
-use Rattle.command.specs.declared.Decoded.TheVariants.{Whole, Refused}
+use Rattle.std.specs.Prelude.{Result, Ok, Err}
 use Rattle.command.specs.Decode.{decode}
 use Rattle.refusal.proofs.Refusals.{none_applies}
 use Rattle.command.proofs.Ranges.{decode_range}
@@ -64,22 +63,22 @@ step_capacity r (Leave console) = refl
 step_capacity r MakeHub = refl
 
 -- and each leaves a sound room
-after_sound : (r : Room) (c : List ℕ) (d : Decoded) → decode c ≡ d → sound_room r ≡ true → sound_room (room_after r d) ≡ true
+after_sound : (r : Room) (c : List ℕ) (d : Result Command ℕ) → decode c ≡ d → sound_room r ≡ true → sound_room (room_after r d) ≡ true
 unfolding room_after
-after_sound r c (Refused n) e s = s
-after_sound r c (Whole k) e s =
+after_sound r c (Err n) e s = s
+after_sound r c (Ok k) e s =
     either (λ (n : Room). sound_room n ≡ true) (eqb (step_refusal r k) 0) (λ t. step_sound r k s (decode_range c k e) (eqb-true _ 0 t)) s
 
 module _ (r : Room) (rest : List ℕ) (s : sound_room r ≡ true) where
-  step_called : (c : List ℕ) (d : Decoded) → decode c ≡ d
+  step_called : (c : List ℕ) (d : Result Command ℕ) → decode c ≡ d
       → step_outcome (encode r ++ rest) d ≡ record { reply = replied (answer_in r d) (count_in r d); buffer = encode (room_after r d) ++ rest }
   unfolding step_outcome answer_in count_in room_after
-  step_called c (Refused n) e = λ i. record { reply = replied n 0; buffer = go (eqb n 0) i }
+  step_called c (Err n) e = λ i. record { reply = replied n 0; buffer = go (eqb n 0) i }
     where
       go : (b : Bool) → cond b (overwrite [] (encode r ++ rest)) (encode r ++ rest) ≡ encode r ++ rest
       go true = refl
       go false = refl
-  step_called c (Whole k) e =
+  step_called c (Ok k) e =
       let kept = go (eqb (step_refusal r k) 0) (λ t. step_sound r k s (decode_range c k e) (eqb-true (step_refusal r k) 0 t)) in
       rw (held_refused (encode r ++ rest) k (holds_encode r rest s), room_encode r rest s) (λ i. record { reply = replied (step_refusal r k) (clash_count r k); buffer = kept i })
     where

@@ -10,7 +10,7 @@ use Rattle.graph.specs.Graph.{ancestor, is_meet, meet, every_version}
 use Rattle.refusal.specs.Refusal.{first_refusal}
 use Rattle.graph.specs.declared.Console.{Console}
 use Rattle.command.specs.declared.Command.TheVariants.{Entry}
-use Rattle.command.specs.declared.Decoded.TheVariants.{Whole}
+use Rattle.std.specs.Prelude.{Ok}
 use Rattle.command.specs.Code.{console_count, shape_of, length_of, number_at, operands_of, is_operand, kind_of}
 use Rattle.command.specs.Decode.{command_refusal, decode, command_bytes}
 use Rattle.room.specs.Room.{common}
@@ -106,7 +106,7 @@ sessions_agree =
     record { versions = same _ (unseen 3 _ _ refl refl (unseen 3 _ _ refl refl (unseen 2 _ _ refl refl (same _ (same _ none))))); heads = refl }
 
 -- and so do their commands, call by call
-enters : {console : Console} {bytes : List ℕ} (code k x : ℕ) → decode bytes ≡ Whole (Entry console code (record { 0 = k }) x) → is_unseen code x ≡ true
+enters : {console : Console} {bytes : List ℕ} (code k x : ℕ) → decode bytes ≡ Ok (Entry console code (record { 0 = k }) x) → is_unseen code x ≡ true
     → EntersUnseen console bytes
 enters code k x told kind = record { code = code; strip = record { 0 = k }; operand = x; decoded = told; unseen = kind }
 

@@ -1,8 +1,8 @@
 -- How the cases are put: commands by name, rooms that commands make, and a row of the table.
 use Rattle.std.specs.Prelude.{ℕ, suc, ◌/◌, ◌%◌, cond, List, [], ◌∷◌, map, eqb}
 use Rattle.std.proofs.Math.Option.{Option, none, some}
-use Rattle.command.specs.declared.Decoded.{Decoded}
-use Rattle.command.specs.declared.Decoded.TheVariants.{Whole, Refused}
+use Rattle.std.specs.Prelude.{Result, Ok, Err}
+use Rattle.command.specs.declared.Command.{Command}
 use Rattle.command.specs.Decode.{decode}
 use Rattle.graph.specs.Graph.{version_count}
 use Rattle.room.specs.Room.{Room, head_of}
@@ -57,18 +57,18 @@ abbrev pub hub : List ℕ
 hub = 0x0C ∷ []
 
 -- the answer to a command in a room
-unfoldable pub answer_in : Room → Decoded → ℕ
-answer_in r (Refused n) = n
-answer_in r (Whole c) = step_refusal r c
+unfoldable pub answer_in : Room → Result Command ℕ → ℕ
+answer_in r (Err n) = n
+answer_in r (Ok c) = step_refusal r c
 
 -- what it counts where it is accepted
-unfoldable pub count_in : Room → Decoded → ℕ
-count_in r (Refused n) = 0
-count_in r (Whole c) = clash_count r c
+unfoldable pub count_in : Room → Result Command ℕ → ℕ
+count_in r (Err n) = 0
+count_in r (Ok c) = clash_count r c
 
-unfoldable pub room_after : Room → Decoded → Room
-room_after r (Refused n) = r
-room_after r (Whole c) = cond (eqb (step_refusal r c) 0) (step r c) r
+unfoldable pub room_after : Room → Result Command ℕ → Room
+room_after r (Err n) = r
+room_after r (Ok c) = cond (eqb (step_refusal r c) 0) (step r c) r
 
 -- the room that these commands make
 unfoldable pub made : Room → List (List ℕ) → Room

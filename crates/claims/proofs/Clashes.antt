@@ -11,15 +11,15 @@ use Rattle.laws.proofs.Logic.{either}
 use Rattle.board.proofs.Clashes.{board_counted}
 use Rattle.refusal.specs.Refusal.{first_refusal}
 use Rattle.command.specs.declared.Command.TheVariants.{Merge}
-use Rattle.command.specs.declared.Decoded.{Decoded}
-use Rattle.command.specs.declared.Decoded.TheVariants.{Whole, Refused}
+use Rattle.std.specs.Prelude.{Option as Found, Some, None, Result, Ok, Err}
+use Rattle.command.specs.declared.Command.{Command}
 use Rattle.command.specs.declared.Kind.{Kind}
 use Rattle.command.specs.declared.Kind.TheVariants as kind_is
 use Rattle.command.specs.declared.Operands.{Operands}
 use Rattle.command.specs.Code.{merge_command, kind_of, shape_of, operands_of, number_at}
-use Rattle.command.specs.Decode.{code_in, operands_in, command_of, decode}
+use Rattle.command.specs.Decode.{code_in, operands_in, decode}
 use Rattle.command.proofs.CodeKinds.{Says, kind_says}
-use Rattle.command.proofs.Ranges.{whole_told, refused_told}
+use Rattle.command.proofs.Ranges.{command_by, whole_told, refused_told}
 use Rattle.room.specs.Room.{Room, common}
 use Rattle.room.specs.Step.{clash_count}
 use Rattle.room.proofs.Clashes.{few_counted}
@@ -29,35 +29,35 @@ use Rattle.unit.specs.Calls.{command_tests, step_outcome, command_outcome, resum
 use Rattle.claims.specs.Clashes.{clashes_between, ClashesCounted}
 
 -- only the command of a merge's code counts
-only_merges : (r : Room) (k : Kind) (code : ℕ) (o : Operands) → Says code k → (code ≡ merge_command → ⊥) → clash_count r (command_of k code o) ≡ 0
+only_merges : (r : Room) (k : Found Kind) (code : ℕ) (o : Operands) → Says code k → (code ≡ merge_command → ⊥) → clash_count r (command_by k code o) ≡ 0
 unfolding clash_count
-only_merges r kind_is.Fork code o says other = refl
-only_merges r kind_is.Entry code o says other = refl
-only_merges r kind_is.Merge code o says other = absurd (other says)
-only_merges r kind_is.FastForward code o says other = refl
-only_merges r kind_is.Leave code o says other = refl
-only_merges r kind_is.MakeHub code o says other = refl
-only_merges r kind_is.Unknown code o says other = refl
+only_merges r (Some kind_is.Fork) code o says other = refl
+only_merges r (Some kind_is.Entry) code o says other = refl
+only_merges r (Some kind_is.Merge) code o says other = absurd (other says)
+only_merges r (Some kind_is.FastForward) code o says other = refl
+only_merges r (Some kind_is.Leave) code o says other = refl
+only_merges r (Some kind_is.MakeHub) code o says other = refl
+only_merges r None code o says other = refl
 
 module _ (store : List ℕ) where
-  within64 : (d : Decoded) → (step_outcome store d).reply.count ≤ 64
+  within64 : (d : Result Command ℕ) → (step_outcome store d).reply.count ≤ 64
   unfolding step_outcome
-  within64 (Refused n) = either (λ x. x ≤ 64) (eqb n 0) (λ _. omega arith) (omega arith)
-  within64 (Whole c) = either (λ x. x ≤ 64) (eqb (first_refusal (command_tests store c)) 0) (λ _. few_counted (room_in store) c refl) (omega arith)
+  within64 (Err n) = either (λ x. x ≤ 64) (eqb n 0) (λ _. omega arith) (omega arith)
+  within64 (Ok c) = either (λ x. x ≤ 64) (eqb (first_refusal (command_tests store c)) 0) (λ _. few_counted (room_in store) c refl) (omega arith)
 
-  others : (s : List ℕ) (d : Decoded) → decode s ≡ d → (code_in s ≡ merge_command → (step_outcome store d).reply.answer ≡ 0 → ⊥) → (step_outcome store d).reply.count ≡ 0
+  others : (s : List ℕ) (d : Result Command ℕ) → decode s ≡ d → (code_in s ≡ merge_command → (step_outcome store d).reply.answer ≡ 0 → ⊥) → (step_outcome store d).reply.count ≡ 0
   unfolding step_outcome
-  others s (Refused n) e other = either (λ x. x ≡ 0) (eqb n 0) (λ _. refl) refl
-  others s (Whole c) e other =
+  others s (Err n) e other = either (λ x. x ≡ 0) (eqb n 0) (λ _. refl) refl
+  others s (Ok c) e other =
       either (λ x. x ≡ 0) (eqb (first_refusal (command_tests store c)) 0)
       (λ t. ap (clash_count (room_in store)) (sym (whole_told s c e).1)
       ∙ only_merges (room_in store) (kind_of (code_in s)) (code_in s) (operands_in s) (kind_says (code_in s)) (λ nine. other nine (eqb-true _ 0 t))) refl
 
-  merge_counted : (c d : ℕ) (k : Decoded) → decode (merge_command ∷ c ∷ d ∷ []) ≡ k → (step_outcome store k).reply.answer ≡ 0
+  merge_counted : (c d : ℕ) (k : Result Command ℕ) → decode (merge_command ∷ c ∷ d ∷ []) ≡ k → (step_outcome store k).reply.answer ≡ 0
       → (step_outcome store k).reply.count ≡ clashes_between store c d
   unfolding step_outcome kind_of shape_of operands_of number_at clash_count common
-  merge_counted c d (Refused n) e h = absurd (omega (arith, refused_told (merge_command ∷ c ∷ d ∷ []) n (sym e)))
-  merge_counted c d (Whole k) e h =
+  merge_counted c d (Err n) e h = absurd (omega (arith, refused_told (merge_command ∷ c ∷ d ∷ []) n (sym e)))
+  merge_counted c d (Ok k) e h =
       let same : Merge (record { 0 = c }) (record { 0 = d }) ≡ k = (whole_told (merge_command ∷ c ∷ d ∷ []) k e).1 in
       rw (h, ← same) (board_counted _ _ _)
 

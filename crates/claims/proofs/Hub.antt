@@ -19,10 +19,9 @@ use Rattle.command.specs.declared.Kind.TheVariants as kind_is
 use Rattle.command.specs.declared.Operands.{Operands}
 use Rattle.command.specs.declared.Command.{Command}
 use Rattle.command.specs.declared.Command.TheVariants.{MakeHub}
-use Rattle.command.specs.declared.Decoded.{Decoded}
-use Rattle.command.specs.declared.Decoded.TheVariants.{Whole, Refused}
+use Rattle.std.specs.Prelude.{Option as Found, Some, None, Result, Ok, Err}
 use Rattle.command.specs.Code.{fork_command, merge_command, fast_forward_command, kind_of, shape_of, length_of, operands_of, number_at}
-use Rattle.command.specs.Decode.{code_in, is_command_code, operands_in, number_tests, command_refusal, decode, command_bytes}
+use Rattle.command.specs.Decode.{code_in, is_command_code, operands_in, code_tests, command_refusal, decode, command_bytes}
 use Rattle.command.proofs.Ranges.{command_in, decode_range}
 use Rattle.command.proofs.Encoded.{bytes_decode}
 use Rattle.room.specs.Room.{Room, present, head}
@@ -83,14 +82,14 @@ after_hub [] r hub = hub
 after_hub (c ∷ commands) r hub = after_hub commands (step r c) (hub_kept r c hub)
 
 -- no byte string is refused with 17 before a store is looked at
-bytes_lack_17 : (k : Kind) (code : ℕ) (o : Operands) (one two : Bool) → lacks 17 (1 when one ∷ 2 when two ∷ number_tests k code o) ≡ true
-bytes_lack_17 kind_is.Fork code o one two = refl
-bytes_lack_17 kind_is.Entry code o one two = refl
-bytes_lack_17 kind_is.Merge code o one two = refl
-bytes_lack_17 kind_is.FastForward code o one two = refl
-bytes_lack_17 kind_is.Leave code o one two = refl
-bytes_lack_17 kind_is.MakeHub code o one two = refl
-bytes_lack_17 kind_is.Unknown code o one two = refl
+bytes_lack_17 : (k : Found Kind) (code : ℕ) (o : Operands) (one two : Bool) → lacks 17 (1 when one ∷ 2 when two ∷ code_tests k code o) ≡ true
+bytes_lack_17 (Some kind_is.Fork) code o one two = refl
+bytes_lack_17 (Some kind_is.Entry) code o one two = refl
+bytes_lack_17 (Some kind_is.Merge) code o one two = refl
+bytes_lack_17 (Some kind_is.FastForward) code o one two = refl
+bytes_lack_17 (Some kind_is.Leave) code o one two = refl
+bytes_lack_17 (Some kind_is.MakeHub) code o one two = refl
+bytes_lack_17 None code o one two = refl
 
 bytes_not_17 : (bytes : List ℕ) → command_refusal bytes ≡ 17 → ⊥
 unfolding command_refusal
@@ -111,10 +110,10 @@ module _ (store : List ℕ) (h : has_hub store ≡ true) where
   sound = holds_sound store held
 
   -- a command keeps it
-  command_keeps : (bytes : List ℕ) (d : Decoded) → decode bytes ≡ d → has_hub (step_outcome store d).buffer ≡ true
+  command_keeps : (bytes : List ℕ) (d : Result Command ℕ) → decode bytes ≡ d → has_hub (step_outcome store d).buffer ≡ true
   unfolding step_outcome
-  command_keeps bytes (Refused n) e = either (λ (x : List ℕ). has_hub x ≡ true) (eqb n 0) (λ _. h) h
-  command_keeps bytes (Whole c) e =
+  command_keeps bytes (Err n) e = either (λ (x : List ℕ). has_hub x ≡ true) (eqb n 0) (λ _. h) h
+  command_keeps bytes (Ok c) e =
       either (λ (x : List ℕ). has_hub x ≡ true) (eqb (first_refusal (command_tests store c)) 0)
       (λ t.
       let accepted = sym (held_refused store c held) ∙ eqb-true _ 0 t in

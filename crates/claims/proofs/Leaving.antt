@@ -20,8 +20,7 @@ use Rattle.graph.proofs.Below.{some_at, some_of}
 use Rattle.graph.proofs.Meet.{meet_behind}
 use Rattle.command.specs.declared.Command.{Command}
 use Rattle.command.specs.declared.Command.TheVariants.{Leave}
-use Rattle.command.specs.declared.Decoded.{Decoded}
-use Rattle.command.specs.declared.Decoded.TheVariants.{Whole, Refused}
+use Rattle.std.specs.Prelude.{Result, Ok, Err}
 use Rattle.command.specs.Code.{console_count, merge_command, fast_forward_command, kind_of, shape_of, operands_of, number_at}
 use Rattle.command.specs.Decode.{decode, command_bytes}
 use Rattle.command.proofs.Ranges.{command_in, whole_told}
@@ -204,9 +203,9 @@ module _ (store : List ℕ) (c : ℕ) (a : Accepted store c) where
   unfolding command_outcome step_outcome
   reply_stays bytes same count = go (decode bytes) refl
     where
-      go : (d : Decoded) → decode bytes ≡ d → (step_outcome after d).reply ≡ (step_outcome store d).reply
-      go (Refused n) e = refl
-      go (Whole k) e = rw (held_refused after k after_held, after_room, held_refused store k a.held, ← (whole_told bytes k e).1, same, count)
+      go : (d : Result Command ℕ) → decode bytes ≡ d → (step_outcome after d).reply ≡ (step_outcome store d).reply
+      go (Err n) e = refl
+      go (Ok k) e = rw (held_refused after k after_held, after_room, held_refused store k a.held, ← (whole_told bytes k e).1, same, count)
 
   gone : Gone store c after
   unfolding kind_of shape_of operands_of number_at clash_count

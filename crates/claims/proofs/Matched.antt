@@ -14,8 +14,7 @@ use Rattle.laws.proofs.Logic.{clash}
 use Rattle.buffer.specs.Field.{overwrite}
 use Rattle.command.specs.declared.Command.{Command}
 use Rattle.command.specs.declared.Command.TheVariants.{Fork, Entry, Merge, FastForward, Leave, MakeHub}
-use Rattle.command.specs.declared.Decoded.{Decoded}
-use Rattle.command.specs.declared.Decoded.TheVariants.{Whole, Refused}
+use Rattle.std.specs.Prelude.{Result, Ok, Err}
 use Rattle.refusal.specs.Refusal.{first_refusal}
 use Rattle.command.specs.Decode.{decode}
 use Rattle.refusal.proofs.Refusals.{none_applies}
@@ -57,7 +56,7 @@ resume_matched t j buffer h =
     written_matched (room_of t) buffer (not-false _ (none_applies _ refl h).1.1.0) refl
 
 -- a command takes the journal of a room to that of the next
-step_journal : (r : Room) (c : Command) → journal_of (step r c) ≡ after_command (journal_of r) (Whole c)
+step_journal : (r : Room) (c : Command) → journal_of (step r c) ≡ after_command (journal_of r) (Ok c)
 unfolding step after_command
 step_journal r (Fork new old) = refl
 step_journal r (Entry console code strip operand) = cc (length-map r.versions made_by)
@@ -87,20 +86,20 @@ module _ (store : List ℕ) (j : Journal) (m : Matched store j) where
   resume_kept none = m
   resume_kept (some t) = either_matched (first_refusal (resume_tests (some t) store)) m (resume_matched t j store)
 
-  command_matched : (s : List ℕ) (c : Command) → decode s ≡ Whole c → (step_outcome store (Whole c)).reply.answer ≡ 0
-      → Matched (overwrite (encode (step (room_in store) c)) store) (after_command j (Whole c))
+  command_matched : (s : List ℕ) (c : Command) → decode s ≡ Ok c → (step_outcome store (Ok c)).reply.answer ≡ 0
+      → Matched (overwrite (encode (step (room_in store) c)) store) (after_command j (Ok c))
   unfolding step_outcome
   command_matched s c e h =
       let r = room_in store in
       let accepted = sym (held_refused store c m.holds) ∙ h in
       written_matched (step r c) store (step_sound r c (holds_sound store m.holds) (decode_range s c e) accepted)
-      (step_journal r c ∙ ap (λ (k : Journal). after_command k (Whole c)) m.journal)
+      (step_journal r c ∙ ap (λ (k : Journal). after_command k (Ok c)) m.journal)
 
-  command_kept : (s : List ℕ) (d : Decoded) → decode s ≡ d
+  command_kept : (s : List ℕ) (d : Result Command ℕ) → decode s ≡ d
       → Matched (step_outcome store d).buffer (cond (eqb (step_outcome store d).reply.answer 0) (after_command j d) j)
   unfolding step_outcome after_command
-  command_kept s (Refused n) e = either_matched n m (λ _. m)
-  command_kept s (Whole c) e = either_matched (first_refusal (command_tests store c)) m (command_matched s c e)
+  command_kept s (Err n) e = either_matched n m (λ _. m)
+  command_kept s (Ok c) e = either_matched (first_refusal (command_tests store c)) m (command_matched s c e)
 
   -- each call keeps them matched
   call_kept : (c : Call) → Matched (store_after store c) (feed j c (reply_to store c).answer)

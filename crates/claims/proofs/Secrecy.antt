@@ -19,8 +19,7 @@ use Rattle.graph.specs.Graph.{is_some}
 use Rattle.refusal.specs.Refusal.{◌when◌, first_refusal}
 use Rattle.refusal.proofs.Refusals.{none_applies, none_given}
 use Rattle.command.specs.declared.Command.{Command}
-use Rattle.command.specs.declared.Decoded.{Decoded}
-use Rattle.command.specs.declared.Decoded.TheVariants.{Whole, Refused}
+use Rattle.std.specs.Prelude.{Result, Ok, Err}
 use Rattle.command.specs.Code.{is_console}
 use Rattle.command.specs.Decode.{decode}
 use Rattle.command.proofs.Ranges.{decode_range}
@@ -90,10 +89,10 @@ resumed_agree t u store other a h k =
 
 module _ {store other : List ℕ} (a : StoresAgree store other) where
   -- two commands that take rooms that agree to rooms that agree
-  commands_agree : (bytes others : List ℕ) (c d : Command) → decode bytes ≡ Whole c → decode others ≡ Whole d
+  commands_agree : (bytes others : List ℕ) (c d : Command) → decode bytes ≡ Ok c → decode others ≡ Ok d
       → (RoomsAgree (room_in store) (room_in other) → RoomsAgree (step (room_in store) c) (step (room_in other) d))
-      → (step_outcome store (Whole c)).reply.answer ≡ (step_outcome other (Whole d)).reply.answer
-      → StoresAgree (step_outcome store (Whole c)).buffer (step_outcome other (Whole d)).buffer
+      → (step_outcome store (Ok c)).reply.answer ≡ (step_outcome other (Ok d)).reply.answer
+      → StoresAgree (step_outcome store (Ok c)).buffer (step_outcome other (Ok d)).buffer
   unfolding step_outcome
   commands_agree bytes others c d p q steps e =
       either_agree a e
@@ -116,11 +115,11 @@ module _ {store other : List ℕ} (a : StoresAgree store other) where
       (rw (m.decoded, n.decoded) at e))
 
   -- the same bytes
-  command_agree : (bytes : List ℕ) (d : Decoded) → decode bytes ≡ d → (step_outcome store d).reply.answer ≡ (step_outcome other d).reply.answer
+  command_agree : (bytes : List ℕ) (d : Result Command ℕ) → decode bytes ≡ d → (step_outcome store d).reply.answer ≡ (step_outcome other d).reply.answer
       → StoresAgree (step_outcome store d).buffer (step_outcome other d).buffer
   unfolding step_outcome
-  command_agree bytes (Refused n) p e = either_agree {m = n} {n = n} a refl (λ _ _. a)
-  command_agree bytes (Whole c) p e = commands_agree bytes bytes c c p p (λ r. step_agree r c) e
+  command_agree bytes (Err n) p e = either_agree {m = n} {n = n} a refl (λ _ _. a)
+  command_agree bytes (Ok c) p e = commands_agree bytes bytes c c p p (λ r. step_agree r c) e
 
   tapes_agree : (t u : Content) → RoomsAgree (room_of t) (room_of u) → (resumed (some t) store).reply.answer ≡ (resumed (some u) other).reply.answer
       → StoresAgree (resumed (some t) store).buffer (resumed (some u) other).buffer

@@ -9,8 +9,8 @@ use Rattle.graph.specs.declared.Node.{Node}
 use Rattle.graph.specs.declared.Node.TheVariants as node_is
 use Rattle.graph.specs.Graph.{is_some}
 use Rattle.command.specs.declared.Command.TheVariants.{Fork, Entry, Merge, FastForward, Leave, MakeHub}
-use Rattle.command.specs.declared.Decoded.{Decoded}
-use Rattle.command.specs.declared.Decoded.TheVariants.{Whole, Refused}
+use Rattle.std.specs.Prelude.{Result, Ok, Err}
+use Rattle.command.specs.declared.Command.{Command}
 use Rattle.command.specs.Code.{console_count}
 use Rattle.command.specs.Decode.{decode}
 use Rattle.tape.specs.Tape.{Content, content_of, head_slots}
@@ -59,16 +59,16 @@ opened = record { versions = []; heads = set (replicate console_count none) 0 (s
 -- receiver's and the giver's head; the receiver moves to it. Fork: the new console gets the old one's head. Fast-forward: the receiver
 -- gets the giver's." "Code 0B with one console removes it"; "meanwhile the store has no common for it, and the book of demand 3 no head".
 -- 0C: "It never changes the book."
-unfoldable pub after_command : Journal → Decoded → Journal
-after_command j (Whole (Entry console code strip operand)) =
+unfoldable pub after_command : Journal → Result Command ℕ → Journal
+after_command j (Ok (Entry console code strip operand)) =
     add_version j console.0 (entered (head_number j console.0) code strip.0)
-after_command j (Whole (Merge receiver giver)) =
+after_command j (Ok (Merge receiver giver)) =
     add_version j receiver.0 (merged (head_number j receiver.0) (head_number j giver.0))
-after_command j (Whole (Fork new old)) = move_to j new.0 (slot_of j old.0)
-after_command j (Whole (FastForward receiver giver)) = move_to j receiver.0 (slot_of j giver.0)
-after_command j (Whole (Leave console)) = move_to j console.0 none
-after_command j (Whole MakeHub) = j
-after_command j (Refused n) = j
+after_command j (Ok (Fork new old)) = move_to j new.0 (slot_of j old.0)
+after_command j (Ok (FastForward receiver giver)) = move_to j receiver.0 (slot_of j giver.0)
+after_command j (Ok (Leave console)) = move_to j console.0 none
+after_command j (Ok MakeHub) = j
+after_command j (Err n) = j
 
 -- "Resume: version 0 anew, then a version for each record 21 or 22 in order, with the parents, code and strip written there, then the
 -- heads of records 23."

@@ -8,7 +8,7 @@ use Rattle.graph.specs.declared.Console.{Console}
 use Rattle.graph.specs.declared.Strip.{Strip}
 use Rattle.graph.specs.Graph.{Graph}
 use Rattle.command.specs.declared.Command.TheVariants.{Entry}
-use Rattle.command.specs.declared.Decoded.TheVariants.{Whole}
+use Rattle.std.specs.Prelude.{Ok}
 use Rattle.command.specs.Decode.{decode}
 use Rattle.room.specs.Room.{Room}
 use Rattle.room.specs.Boards.{board_of}
@@ -23,7 +23,7 @@ pub record EntersUnseen (console : Console) (bytes : List ℕ) : Type 0 where
   pub code : ℕ
   pub strip : Strip
   pub operand : ℕ
-  pub decoded : decode bytes ≡ Whole (Entry console code strip operand)
+  pub decoded : decode bytes ≡ Ok (Entry console code strip operand)
   pub unseen : is_unseen code operand ≡ true
 
 -- two tapes say rooms that agree

@@ -9,19 +9,20 @@ use lib.Dec.{eqb}
 use borrow.Author.Tests.{eqb-true, ne_eqb}
 use Rattle.laws.proofs.Logic.{either}
 use Rattle.board.specs.Board.{level_entry, alert_off_entry}
+use Rattle.std.specs.Prelude.{Option, Some, None}
 use Rattle.command.specs.declared.Kind.{Kind}
 use Rattle.command.specs.declared.Kind.TheVariants as kind_is
-use Rattle.command.specs.Code.{fork_command, merge_command, fast_forward_command, leave_command, make_hub_command, is_entry_code, kind_of, kind_refusal}
+use Rattle.command.specs.Code.{fork_command, merge_command, fast_forward_command, leave_command, make_hub_command, is_entry_code, kind_of}
 use Rattle.command.proofs.Limits.{within_false, each_entry}
 
-abbrev pub Says : ℕ → Kind → Type 0
-Says code kind_is.Fork = code ≡ fork_command
-Says code kind_is.Entry = is_entry_code code ≡ true
-Says code kind_is.Merge = code ≡ merge_command
-Says code kind_is.FastForward = code ≡ fast_forward_command
-Says code kind_is.Leave = code ≡ leave_command
-Says code kind_is.MakeHub = code ≡ make_hub_command
-Says code kind_is.Unknown = Unit {0}
+abbrev pub Says : ℕ → Option Kind → Type 0
+Says code (Some kind_is.Fork) = code ≡ fork_command
+Says code (Some kind_is.Entry) = is_entry_code code ≡ true
+Says code (Some kind_is.Merge) = code ≡ merge_command
+Says code (Some kind_is.FastForward) = code ≡ fast_forward_command
+Says code (Some kind_is.Leave) = code ≡ leave_command
+Says code (Some kind_is.MakeHub) = code ≡ make_hub_command
+Says code None = Unit {0}
 
 pub kind_says : (code : ℕ) → Says code (kind_of code)
 unfolding kind_of
@@ -33,21 +34,11 @@ kind_says code =
     (either (Says code) (eqb code leave_command) (eqb-true code leave_command)
     (either (Says code) (eqb code make_hub_command) (eqb-true code make_hub_command) tt)))))
 
-pub kind_entry : (code : ℕ) → is_entry_code code ≡ true → kind_is.Entry ≡ kind_of code
+pub kind_entry : (code : ℕ) → is_entry_code code ≡ true → Some kind_is.Entry ≡ kind_of code
 unfolding kind_of
-kind_entry = each_entry (λ k. kind_is.Entry ≡ kind_of k) refl refl refl refl refl refl refl
+kind_entry = each_entry (λ k. Some kind_is.Entry ≡ kind_of k) refl refl refl refl refl refl refl
 
-pub kind_none : (code : ℕ) → alert_off_entry < code → code ≢ fork_command → code ≢ merge_command → code ≢ fast_forward_command → code ≢ leave_command → code ≢ make_hub_command → kind_is.Unknown ≡ kind_of code
+pub kind_none : (code : ℕ) → alert_off_entry < code → code ≢ fork_command → code ≢ merge_command → code ≢ fast_forward_command → code ≢ leave_command → code ≢ make_hub_command → None ≡ kind_of code
 unfolding kind_of
 kind_none code high fork merge forward leave hub =
     rw (ne_eqb code fork_command fork, within_false level_entry alert_off_entry code (λ p q. omega arith), ne_eqb code merge_command merge, ne_eqb code fast_forward_command forward, ne_eqb code leave_command leave, ne_eqb code make_hub_command hub)
-
--- the refusal of a kind, where there is one, is 1
-pub kind_one : (k : Kind) → (kind_refusal k ≡ 0 → ⊥) → kind_refusal k ≡ 1
-kind_one kind_is.Fork h = absurd (h refl)
-kind_one kind_is.Entry h = absurd (h refl)
-kind_one kind_is.Merge h = absurd (h refl)
-kind_one kind_is.FastForward h = absurd (h refl)
-kind_one kind_is.Leave h = absurd (h refl)
-kind_one kind_is.MakeHub h = absurd (h refl)
-kind_one kind_is.Unknown h = refl

@@ -1,12 +1,11 @@
 -- "One code byte, then operands; the code alone decides the length." Codes of commands and of tape records, the widths of what follows
 -- each, and which numbers may stand there or in a question.
-use Rattle.std.specs.Prelude.{ℕ, ◌+◌, Bool, cond, ◌&&◌, List, eqb, leb, ltb, get_or}
+use Rattle.std.specs.Prelude.{ℕ, ◌+◌, Bool, cond, ◌&&◌, List, eqb, leb, ltb, get_or, Option, Some, None}
 use Rattle.buffer.specs.Field.{word_at}
 use Rattle.board.specs.Board.{strip_count, mark_count, cell_count, level_entry, heading_entry, mark_put_entry, mark_taken_entry, call_entry, alert_off_entry}
 use Rattle.command.specs.declared.Kind.{Kind}
 use Rattle.command.specs.declared.Kind.TheVariants as kind_is
-use Rattle.command.specs.declared.Shape.{Shape}
-use Rattle.command.specs.declared.Shape.TheVariants.{Known, Unknown}
+use Rattle.command.specs.declared.Widths.{Widths}
 use Rattle.command.specs.declared.Operands.{Operands}
 
 -- "up to 16 consoles"
@@ -56,67 +55,66 @@ hub_record = 0x25
 abbrev pub is_entry_code : ℕ → Bool
 is_entry_code code = within level_entry alert_off_entry code
 
--- The kind of a code. The codes of commands are those of a kind other than Unknown: 01 to 0C.
-unfoldable pub kind_of : ℕ → Kind
+-- The kind of a code. The codes of commands are those that have one: 01 to 0C.
+unfoldable pub kind_of : ℕ → Option Kind
 kind_of code =
-    cond (eqb code fork_command) kind_is.Fork
-    (cond (is_entry_code code) kind_is.Entry
-    (cond (eqb code merge_command) kind_is.Merge
-    (cond (eqb code fast_forward_command) kind_is.FastForward
-    (cond (eqb code leave_command) kind_is.Leave
-    (cond (eqb code make_hub_command) kind_is.MakeHub kind_is.Unknown)))))
+    cond (eqb code fork_command) (Some kind_is.Fork)
+    (cond (is_entry_code code) (Some kind_is.Entry)
+    (cond (eqb code merge_command) (Some kind_is.Merge)
+    (cond (eqb code fast_forward_command) (Some kind_is.FastForward)
+    (cond (eqb code leave_command) (Some kind_is.Leave)
+    (cond (eqb code make_hub_command) (Some kind_is.MakeHub) None)))))
 
 -- the paper's number for a kind: 0, or "1 empty command, or code outside 01 to 0A.", which the requests make 01 to 0C
-abbrev pub kind_refusal : Kind → ℕ
-kind_refusal kind_is.Fork = 0
-kind_refusal kind_is.Entry = 0
-kind_refusal kind_is.Merge = 0
-kind_refusal kind_is.FastForward = 0
-kind_refusal kind_is.Leave = 0
-kind_refusal kind_is.MakeHub = 0
-kind_refusal kind_is.Unknown = 1
+abbrev pub kind_refusal : Option Kind → ℕ
+kind_refusal None = 1
+kind_refusal (Some kind) = 0
+
+-- the widths of what follows a known code
+abbrev pub widths : ℕ → ℕ → ℕ → ℕ → Option Widths
+widths a b c d = Some (record { first = a; second = b; third = c; fourth = d })
 
 -- "01 fork", "02 level", .. "0A fast-forward", "0B with one console", "0C, no operands"; the tape's records are 20 to 25
-unfoldable pub shape_of : ℕ → Shape
+unfoldable pub shape_of : ℕ → Option Widths
 shape_of code =
-    cond (eqb code fork_command) (Known 1 1 0 0)
-    (cond (within level_entry heading_entry code) (Known 1 1 2 0)
-    (cond (within mark_put_entry mark_taken_entry code) (Known 1 1 1 0)
-    (cond (within call_entry alert_off_entry code) (Known 1 1 0 0)
-    (cond (within merge_command fast_forward_command code) (Known 1 1 0 0)
-    (cond (eqb code leave_command) (Known 1 0 0 0)
-    (cond (eqb code make_hub_command) (Known 0 0 0 0)
-    (cond (eqb code start_record) (Known 2 0 0 0)
-    (cond (eqb code entry_record) (Known 2 1 1 2)
-    (cond (eqb code merge_record) (Known 2 2 0 0)
-    (cond (eqb code head_record) (Known 1 2 0 0)
-    (cond (eqb code end_record) (Known 0 0 0 0)
-    (cond (eqb code hub_record) (Known 0 0 0 0) Unknown))))))))))))
+    cond (eqb code fork_command) (widths 1 1 0 0)
+    (cond (within level_entry heading_entry code) (widths 1 1 2 0)
+    (cond (within mark_put_entry mark_taken_entry code) (widths 1 1 1 0)
+    (cond (within call_entry alert_off_entry code) (widths 1 1 0 0)
+    (cond (within merge_command fast_forward_command code) (widths 1 1 0 0)
+    (cond (eqb code leave_command) (widths 1 0 0 0)
+    (cond (eqb code make_hub_command) (widths 0 0 0 0)
+    (cond (eqb code start_record) (widths 2 0 0 0)
+    (cond (eqb code entry_record) (widths 2 1 1 2)
+    (cond (eqb code merge_record) (widths 2 2 0 0)
+    (cond (eqb code head_record) (widths 1 2 0 0)
+    (cond (eqb code end_record) (widths 0 0 0 0)
+    (cond (eqb code hub_record) (widths 0 0 0 0) None))))))))))))
 
 -- what refuses a shape: nothing (0), or for an unknown code the number given by whoever asks
-abbrev pub shape_refusal : ℕ → Shape → ℕ
-shape_refusal number (Known a b c d) = 0
-shape_refusal number Unknown = number
+abbrev pub shape_refusal : ℕ → Option Widths → ℕ
+shape_refusal number None = number
+shape_refusal number (Some w) = 0
 
 -- how many bytes a code and what follows it take
-unfoldable pub length_of : Shape → ℕ
-length_of (Known a b c d) = 1 + a + b + c + d
-length_of Unknown = 0
+unfoldable pub length_of : Option Widths → ℕ
+length_of None = 0
+length_of (Some w) = 1 + w.first + w.second + w.third + w.fourth
 
 -- the number that stands at a place, one or two bytes wide; of width 0 there is none, and it reads as 0
 unfoldable pub number_at : List ℕ → ℕ → ℕ → ℕ
 number_at s at width = cond (eqb width 2) (word_at s at) (cond (eqb width 1) (get_or s at 0) 0)
 
 -- what follows the code at the front of these bytes
-unfoldable pub operands_of : Shape → List ℕ → Operands
-operands_of (Known a b c d) s =
+unfoldable pub operands_of : Option Widths → List ℕ → Operands
+operands_of None s = record { first = 0; second = 0; third = 0; fourth = 0 }
+operands_of (Some w) s =
     record {
-      first = number_at s 1 a;
-      second = number_at s (1 + a) b;
-      third = number_at s (1 + a + b) c;
-      fourth = number_at s (1 + a + b + c) d;
+      first = number_at s 1 w.first;
+      second = number_at s (1 + w.first) w.second;
+      third = number_at s (1 + w.first + w.second) w.third;
+      fourth = number_at s (1 + w.first + w.second + w.third) w.fourth;
     }
-operands_of Unknown s = record { first = 0; second = 0; third = 0; fourth = 0 }
 
 abbrev pub is_console : ℕ → Bool
 is_console c = ltb c console_count

@@ -1,16 +1,15 @@
 -- What the contracts of the decoder's parts and of its callers cite: the bound on widths, and what is true of the numbers of a command that
 -- passed their tests.
-use Rattle.std.specs.Prelude.{ℕ, ◌<◌, ◌≤◌, ◌≡◌, true, ◌&&◌}
-use Rattle.command.specs.declared.Shape.{Shape}
-use Rattle.command.specs.declared.Shape.TheVariants.{Known, Unknown}
+use Rattle.std.specs.Prelude.{ℕ, ◌<◌, ◌≤◌, ◌≡◌, true, ◌&&◌, Option, Some, None}
+use Rattle.command.specs.declared.Widths.{Widths}
 use Rattle.command.specs.declared.Command.{Command}
 use Rattle.command.specs.declared.Command.TheVariants.{Fork, Entry, Merge, FastForward, Leave, MakeHub}
 use Rattle.command.specs.Code.{console_count, is_entry_code, is_strip, is_operand}
 
 -- no operand is wider than two bytes
-abbrev pub narrow : Shape → Type 0
-narrow (Known a b c d) = (a ≤ 2) × (b ≤ 2) × (c ≤ 2) × (d ≤ 2)
-narrow Unknown = Unit {0}
+abbrev pub narrow : Option Widths → Type 0
+narrow None = Unit {0}
+narrow (Some w) = (w.first ≤ 2) × (w.second ≤ 2) × (w.third ≤ 2) × (w.fourth ≤ 2)
 
 -- two different consoles
 abbrev pub TwoConsoles : ℕ → ℕ → Type 0

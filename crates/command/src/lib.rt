@@ -7,8 +7,8 @@ pub mod codes;
 pub mod decoder;
 pub mod numbers;
 
-// The kind of a command, by its code; Unknown is no command's.
-#[derive(Clone, Copy)]
+/// The kind of a command, by its code.
+#[derive(Clone, Copy, Debug, PartialEq, Eq)]
 pub enum Kind {
     Fork,
     Entry,
@@ -16,18 +16,19 @@ pub enum Kind {
     FastForward,
     Leave,
     MakeHub,
-    Unknown,
 }
 
-// The widths in bytes of what follows a code, in their order; 0 where there is no such operand.
-#[derive(Clone, Copy)]
-pub enum Shape {
-    Known(usize, usize, usize, usize),
-    Unknown,
+/// The widths in bytes of what follows a code, in their order; 0 where there is no such operand.
+#[derive(Clone, Copy, Debug, PartialEq, Eq)]
+pub struct Widths {
+    pub first: usize,
+    pub second: usize,
+    pub third: usize,
+    pub fourth: usize,
 }
 
-// The numbers that follow a code, in their order; 0 where there is no such operand.
-#[derive(Clone, Copy)]
+/// The numbers that follow a code, in their order; 0 where there is no such operand.
+#[derive(Clone, Copy, Debug, PartialEq, Eq)]
 pub struct Operands {
     pub first: usize,
     pub second: usize,
@@ -35,7 +36,8 @@ pub struct Operands {
     pub fourth: usize,
 }
 
-#[derive(Clone, Copy)]
+/// A command, with the numbers that it names.
+#[derive(Clone, Copy, Debug, PartialEq, Eq)]
 pub enum Command {
     Fork {
         new: Console,
@@ -58,13 +60,6 @@ pub enum Command {
     Leave {
         console: Console,
     },
-    // Console 0 is made the hub of the room, for good: the others merge and fast-forward with it alone, and are forked from it.
+    /// Console 0 is made the hub of the room, for good: the others merge and fast-forward with it alone, and are forked from it.
     MakeHub,
-}
-
-// A command is decoded whole, or refused with the number of its refusal.
-#[derive(Clone, Copy)]
-pub enum Decoded {
-    Whole(Command),
-    Refused(u32),
 }

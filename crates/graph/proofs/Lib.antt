@@ -6,3 +6,4 @@ pub mod Closure
 pub mod Meet
 pub mod Growth
 pub mod Counting
+pub mod Ranges

@@ -98,11 +98,6 @@ pub not_e : (a : Bool) → not a ≡ true → a ≡ false
 not_e true h = sym h
 not_e false h = refl
 
--- a test or the same test
-pub or_same : (b : Bool) → b || b ≡ b
-or_same true = refl
-or_same false = refl
-
 -- two tests that are true together are equal
 pub bool_ext : (a b : Bool) → (a ≡ true → b ≡ true) → (b ≡ true → a ≡ true) → a ≡ b
 bool_ext true true f g = refl

@@ -5,18 +5,19 @@ use mathlib.Core.Bool.{true, false}
 use mathlib.Core.List.{List, [], ◌∷◌, ◌++◌, append_assoc}
 use mathlib.Core.Option
 use mathlib.Core.Option.{Option, none, some}
-use Prim.Native.Nat.{ℕ, zero, suc, ◌+◌}
+use Prim.Native.Nat.{ℕ, zero, suc, ◌+◌, ◌≤◌}
 use native.Mathlib.Nat.{add-zero, zero-add}
 use native.Mathlib.Numerals.{add-one}
 use native.Mathlib.Omega.{arith}
-use lib.ListN.{get_or, take}
+use lib.ListN.{get_or, take, length}
 use Rattle.laws.proofs.Logic.{clash}
+use Rattle.graph.specs.declared.Node.{Node}
 use Rattle.graph.specs.Graph.{is_some}
 use Rattle.room.specs.declared.Settings.{Settings}
 use Rattle.room.specs.Room.{Room, head_of, present, head}
 use Rattle.store.specs.Layout.{versions_in}
 use Rattle.tape.specs.declared.Record.TheVariants.{Head, Hub}
-use Rattle.tape.specs.Record.{record_bytes}
+use Rattle.tape.specs.Record.{record_bytes, version_bytes, longest_record}
 use Rattle.tape.specs.Tape.{version_records, head_records, hub_records}
 use Rattle.pause.specs.Pieces.{version_piece, version_pieces, head_piece, head_pieces}
 use Rattle.pause.proofs.Piled.{Pieces}
@@ -68,6 +69,19 @@ module _ (r : Room) (c : ℕ) where
   pub absent_piece : present r c ≡ false → [] ≡ head_piece r c
   unfolding head_piece
   absent_piece p = no_head c (head_of r c) p
+
+-- no piece is longer than the longest record
+pub version_short : (node : Node) → length (version_bytes node) ≤ longest_record
+version_short node = grind arith
+
+head_short : (c : ℕ) (h : Option ℕ) → length (head_records c (h ∷ [])) ≤ longest_record
+unfolding head_records
+head_short c none = omega arith
+head_short c (some v) = omega arith
+
+pub head_piece_short : (r : Room) (c : ℕ) → length (head_piece r c) ≤ longest_record
+unfolding head_piece
+head_piece_short r c = head_short c (head_of r c)
 
 -- what stands behind the heads, by whether console 0 is the hub, as settings that were read say
 module _ (r : Room) {read : Settings} (same : read ≡ r.settings) where

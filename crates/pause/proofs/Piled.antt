@@ -1,12 +1,15 @@
 -- Pieces written or counted one after the other: the invariants of the loops over versions and over consoles.
 -- Assumes nothing.
-use mathlib.Core.Path.{◌≡◌, ap, ◌∙◌}
+use mathlib.Core.Path.{◌≡◌, sym, ap, ap₂, ◌∙◌}
 use mathlib.Core.List.{List, [], ◌++◌}
 use Prim.Native.Nat.{ℕ, zero, suc, ◌+◌, ◌*◌, ◌≤◌, ◌<◌}
 use native.Mathlib.Decide.{ℕ_discrete}
 use native.Mathlib.Numerals.{add-one}
 use native.Mathlib.Omega.{arith}
 use lib.ListN.{length, length-append}
+use Rattle.std.specs.List.{range_with_len, sum_by}
+use Rattle.std.proofs.lemmas.List.Sums.{sum_by_push}
+use Rattle.graph.proofs.Ranges.{range_more}
 use Rattle.tape.specs.Record.{longest_record}
 use Rattle.buffer.proofs.Laid.{Put, Laid, laid_none, laid_more}
 
@@ -20,12 +23,6 @@ pub record Piled (w : ℕ → List ℕ) (s : List ℕ) (from n k at : ℕ) (t : 
   pub within : k ≤ n
   pub room : from + length (w n) ≤ length s
   pub laid : Laid s from (w k) t at
-
--- the first k of n pieces have this many bytes; none has more than the longest record
-pub record Measured (w : ℕ → List ℕ) (n k sum : ℕ) : Type 0 where
-  pub within : k ≤ n
-  pub total : sum ≡ length (w k)
-  pub small : sum ≤ longest_record * k
 
 module _ {w piece : ℕ → List ℕ} (p : Pieces w piece) where
   more_length : (k : ℕ) → length (w (k + 1)) ≡ length (w k) + length (piece k)
@@ -55,15 +52,19 @@ module _ {w piece : ℕ → List ℕ} (p : Pieces w piece) where
       let g = q.laid in
       record { within = omega arith; room = q.room; laid = rw (p.more k) (laid_more (piece k) g (omega arith) put) }
 
-  pub measured_none : (n : ℕ) → Measured w n 0 0
-  measured_none n = record { within = omega arith; total = rw p.none; small = omega arith }
+  -- how long they are together, counted from a number on, and how long at most
+  pub pieces_sum : (a : ℕ) (from : ℕ → List ℕ) → ((k : ℕ) → from (a + k) ≡ piece k) → (n : ℕ)
+      → sum_by (λ k. length (from k)) (range_with_len a n) ≡ length (w n)
+  pieces_sum a from same zero = rw p.none
+  pieces_sum a from same (suc n) =
+      ap (λ (x : List ℕ). sum_by (λ k. length (from k)) x) (range_more a n)
+      ∙ sum_by_push (λ k. length (from k)) (range_with_len a n) (a + n)
+      ∙ ap₂ (λ (x y : ℕ). x + y) (pieces_sum a from same n) (ap length (same n))
+      ∙ sym (rw add-one at (more_length n))
 
-  pub measured_more : {n k sum r : ℕ} → Measured w n k sum → k < n → r ≡ length (piece k) → r ≤ longest_record
-      → Measured w n (k + 1) (sum + r)
-  measured_more {k = k} q l e small = record { within = omega arith; total = omega (arith, more_length k); small = omega arith }
+  pub pieces_short : ((k : ℕ) → length (piece k) ≤ longest_record) → (n : ℕ) → length (w n) ≤ longest_record * n
+  pieces_short short zero = rw p.none (omega arith)
+  pieces_short short (suc n) = omega (arith, rw add-one at (more_length n), short n, pieces_short short n)
 
 pub piled_all : {w : ℕ → List ℕ} {s t : List ℕ} {from n k at : ℕ} → Piled w s from n k at t → n ≤ k → Put s from (w n) t at
 piled_all {n = n} {k = k} q l = let e : k ≡ n = omega (arith, q.within) in rw e at q.laid.put
-
-pub measured_all : {w : ℕ → List ℕ} {n k sum : ℕ} → Measured w n k sum → n ≤ k → (sum ≡ length (w n)) × (sum ≤ longest_record * n)
-measured_all {n = n} {k = k} q l = let e : k ≡ n = omega (arith, q.within) in (rw e at q.total, rw e at q.small)

@@ -5,37 +5,39 @@
 mod measure;
 mod write;
 
-ghost use Rattle.std.specs.Prelude.{◌≡◌, true, ◌≤◌, length};
+ghost use Rattle.std.specs.Prelude.{◌≡◌, ◌≤◌, length};
 ghost use Rattle.buffer.specs.Field.{overwrite};
-ghost use Rattle.store.specs.Layout.{room_in, holds_store};
 ghost use Rattle.tape.specs.Tape.{tape_of};
 ghost use Rattle.pause.specs.Pieces.{longest_tape};
 
-use query::{settings_of, version_count};
-use tape::lengths::{end_length, start_length};
+use command::codes::{END_RECORD, START_RECORD};
+use query::Store;
+use tape::lengths::coded_length;
 use tape::writer::{put_end_record, put_start_record};
 
-// How many bytes the tape of a store takes.
-pub fn tape_length(s: &[u8]) -> usize
-    requires { holds_store s.now ≡ true }
-    ensures { (result ≡ length (tape_of (room_in s.now))) × (result ≤ longest_tape) }
+/// How many bytes the tape of a store takes.
+#[tactic(auto, unfolding(command::specs::Code::shape_of, command::specs::Code::length_of), using(crate::proofs::Tapes::blocks_lie, crate::proofs::Tapes::tape_size))]
+pub fn tape_length(store: &Store) -> usize
+    ensures { (result ≡ length (tape_of store.now)) × (result ≤ longest_tape) }
 {
-    start_length()
-        + measure::versions_length(s, version_count(s) - 1)
-        + measure::heads_length(s)
-        + measure::hub_records_length(s)
-        + end_length()
+    coded_length(START_RECORD)
+        + measure::versions_length(store.bytes(), store.version_count() - 1)
+        + measure::heads_length(store)
+        + measure::hub_records_length(store)
+        + coded_length(END_RECORD)
 }
 
-// Writes the tape of a store over the front of an output buffer.
-pub fn write_tape(s: &[u8], tape: &mut [u8])
-    requires s_value { holds_store s.now ≡ true }
-    requires s_in_bounds { length (tape_of (room_in s.now)) ≤ length tape.old }
-    ensures { tape.new ≡ overwrite (tape_of (room_in s.now)) tape.old }
+/// Writes the tape of a store over the front of an output buffer.
+#[tactic(auto, using(crate::proofs::Tapes::blocks_lie, crate::proofs::Tapes::tape_size))]
+pub fn write_tape(store: &Store, tape: &mut [u8])
+    requires { length (tape_of store.now) ≤ length tape.old }
+    ensures { tape.new ≡ overwrite (tape_of store.now) tape.old }
 {
-    let versions = put_start_record(tape, settings_of(s));
-    let heads = write::put_version_records(s, version_count(s) - 1, tape, versions);
-    let hub = write::put_head_records(s, tape, heads);
-    let end = write::put_hub_records(s, tape, hub);
+    let bytes = store.bytes();
+    let last = store.version_count() - 1;
+    let versions = put_start_record(tape, store.settings());
+    let heads = write::put_version_records(bytes, last, tape, versions);
+    let hub = write::put_head_records(store, tape, heads);
+    let end = write::put_hub_records(store, tape, hub);
     put_end_record(tape, end);
 }

@@ -24,7 +24,7 @@ use Rattle.store.proofs.Commons.{head_is, present_is}
 use Rattle.store.proofs.Reading.{count_read}
 use Rattle.store.proofs.Checks.{own_heads}
 use Rattle.store.proofs.Versions.{versions_length_lem, versions_node}
-use Rattle.store.proofs.Whole.{whole_sound, whole_front, whole_long, whole_small, whole_held, whole_fields, whole_low}
+use Rattle.store.proofs.Whole.{whole_sound, whole_header, whole_front, whole_long, whole_small, whole_held, whole_fields, whole_low}
 use Rattle.room.specs.Sound.{max_capacity}
 
 pub present_answer : (s : List ℕ) (c : ℕ) → c < console_count → not (eqb (common_in s c c) 0) ≡ present (room_in s) c
@@ -68,3 +68,6 @@ module _ (s : List ℕ) (t : holds_store s ≡ true) where
 
   pub board_answer : (v : ℕ) → v < version_count (room_in s).versions → board_part s v ≡ board_of (room_in s).versions v
   board_answer v l = ((whole_held s t).told v l).board
+
+-- what a proof about a store may take for granted
+pub ruleset answers = (whole_header, whole_small, versions_inside, settings_answer, count_answer, present_answer, head_answer, common_answer, ancestor_answer, board_answer)

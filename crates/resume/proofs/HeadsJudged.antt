@@ -4,7 +4,6 @@ use mathlib.Core.Path.{◌≡◌, sym, ap, subst, ◌∙◌}
 use mathlib.Core.Bool.{Bool, true, not, ◌&&◌, ◌||◌}
 use mathlib.Core.List.{List}
 use Prim.Native.Nat.{ℕ, pred, ◌+◌, ◌*◌, ◌≤◌, ◌<◌}
-use native.Mathlib.Nat.{zero-add}
 use native.Mathlib.Omega.{arith}
 use lib.Dec.{ltb}
 use lib.ListN.{length}
@@ -33,9 +32,6 @@ module _ (t : Content) (rise : consoles_rise t.heads ≡ true) (named : heads_na
   diagonal : Diagonal (room_of t) header
   diagonal = subst (Diagonal (room_of t)) (sym made) (heads_diagonal t rise named)
 
-  pub heads_long : length header ≡ header_size
-  heads_long = diagonal.long
-
   module _ (small : version_count t.versions ≤ max_capacity) where
     pub heads_low : (k : ℕ) → k < console_count → common_in header k k ≤ max_capacity
     heads_low k l = omega (arith, diagonal_read small diagonal k l, diagonal.named k l)
@@ -56,21 +52,21 @@ module _ (t : Content) (rise : consoles_rise t.heads ≡ true) (named : heads_na
   own : (k : ℕ) → k < console_count → common_in header k k ≡ head_field (head_of (room_of t) k)
   own = diagonal_read small filled
 
-  pub rows_inside : (k : ℕ) → k < console_count → 0 < common_in header k k → 0 + row_size * pred (common_in header k k) + row_size ≤ length rows
+  pub rows_inside : (k : ℕ) → k < console_count → 0 < common_in header k k → row_size * pred (common_in header k k) + row_size ≤ length rows
   rows_inside k l p = let all = shown.long in omega (arith, own k l, filled.named k l)
 
   pub behind_told : {n : ℕ} {r : Bool} → n ≡ version_count t.versions
-      → r ≡ same (behind_heads header (λ v. part rows (0 + row_size * v) row_size) console_count) (row (λ v. ltb v n) row_size)
+      → r ≡ same (behind_heads header (λ v. part rows (row_size * v) row_size) console_count) (row (λ v. ltb v n) row_size)
       → r ≡ all_behind_heads (room_of t)
   behind_told {n} e er =
       let heads : (c : ℕ) → c < console_count → head_of (room_of t) c ≡ head_from (common_in header c c) =
       λ c l. sym (ap head_from (own c l) ∙ head_from_lem (head_of (room_of t) c)) in
-      let lines : (v : ℕ) → v < version_count t.versions → part rows (0 + row_size * v) row_size ≡ row (λ u. ancestor t.versions u v) row_size =
-      λ v l. rw zero-add (shown.shown v l) in
+      let lines : (v : ℕ) → v < version_count t.versions → part rows (row_size * v) row_size ≡ row (λ u. ancestor t.versions u v) row_size =
+      λ v l. shown.shown v l in
       er
       ∙ rw e
       (behind_judged (room_of t) small
-      (behind_row header (room_of t) heads (λ v. part rows (0 + row_size * v) row_size) lines (λ c l. omega (arith, own c l, filled.named c l))))
+      (behind_row header (room_of t) heads (λ v. part rows (row_size * v) row_size) lines (λ c l. omega (arith, own c l, filled.named c l))))
 
   -- the fields are the room's, so that the test of the hub says of the tape's room whether console 0 could be made the hub
   fields : (c d : ℕ) → c < console_count → d < console_count → common_in header c d ≡ common_field (room_of t) c d
@@ -82,9 +78,9 @@ module _ (t : Content) (rise : consoles_rise t.heads ≡ true) (named : heads_na
   pub fields_low : (c d : ℕ) → c < console_count → d < console_count → common_in header c d ≤ max_capacity
   fields_low c d i j = omega (arith, fields c d i j, field_below (present (room_of t) c && present (room_of t) d) (room_of t) c d)
 
-  pub hub_judged : {hub r : Bool} → hub ≡ t.settings.hub → r ≡ (not hub || commons_in_row header (part rows (0 + row_size * pred (common_in header 0 0)) row_size))
+  pub hub_judged : {hub r : Bool} → hub ≡ t.settings.hub → r ≡ (not hub || commons_in_row header (part rows (row_size * pred (common_in header 0 0)) row_size))
       → r ≡ hub_is_right (room_of t)
   hub_judged eh er =
       let first : pred (common_in header 0 0) ≡ head (room_of t) 0 = ap pred (own 0 (omega arith)) ∙ field_head (head_of (room_of t) 0) in
       let line = shown.shown (pred (common_in header 0 0)) (omega (arith, own 0 (omega arith), filled.named 0 (omega arith))) in
-      er ∙ rw (eh, zero-add, line, first) (ap (λ (can : Bool). not t.settings.hub || can) (hub_told header (room_of t) small fields))
+      er ∙ rw (eh, line, first) (ap (λ (can : Bool). not t.settings.hub || can) (hub_told header (room_of t) small fields))

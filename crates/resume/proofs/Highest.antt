@@ -26,9 +26,6 @@ pub record NoneAbove (p q : List ℕ) (k : ℕ) : Type 0 where
   pub within : k ≤ row_size
   pub none : (v : ℕ) → 8 * k ≤ v → v < max_capacity → member p v && member q v ≡ false
 
-pub above_start : (p q : List ℕ) → NoneAbove p q row_size
-above_start p q = record { within = omega arith; none = λ v a b. absurd (omega arith) }
-
 -- the byte of v, and the bit in it
 shared_at : (p q : List ℕ) (k v : ℕ) → v / 8 ≡ k → member p v && member q v ≡ eqb (bit_and (get_or p k 0) (get_or q k 0) / 2 ^ (v % 8) % 2) 1
 shared_at p q k v e = member_both p q v ∙ ap (λ (i : ℕ). eqb (bit_and (get_or p i 0) (get_or q i 0) / 2 ^ (v % 8) % 2) 1) e

@@ -29,7 +29,7 @@ use Rattle.resume.specs.Ranges.{versions_in_range}
 use Rattle.resume.specs.Rows.{RowsOf}
 use Rattle.resume.specs.Heads.{head_table}
 use Rattle.resume.specs.Versions.{rows_with, base_found}
-use Rattle.resume.proofs.Along.{Versions, Heads, along_none, along_all, versions_none, version_number, version_holds, version_more, head_first, head_more}
+use Rattle.resume.proofs.Along.{Versions, Heads, along_none, versions_none, version_number, version_holds, version_more, head_first, head_more}
 use Rattle.resume.proofs.Passed.{node_ranged}
 use Rattle.resume.proofs.Meets.{base_shown}
 use Rattle.resume.proofs.Grown.{rows_entry, rows_merge}
@@ -52,10 +52,6 @@ Rowed rows based g = RowsOf rows g × (based ≡ every_version merge_has_base g)
 pub rowed_none : (t : Content) {rows : List ℕ} {at : ℕ} → at ≡ start_length → RowsOf rows [] → Versions t (Rowed rows true) 0 at
 unfolding every_version
 rowed_none t {rows} e r = versions_none t e (Rowed rows true) (r, refl)
-
-pub rowed_all : (t : Content) {k at : ℕ} {rows : List ℕ} {based : Bool} → Versions t (Rowed rows based) k at → length t.versions ≤ k
-    → (based ≡ every_version merge_has_base t.versions) × RowsOf rows t.versions
-rowed_all t a l = let done = (along_all _ _ a l).0 in (done.1, done.0)
 
 module _ (tape : List ℕ) (t : Content) (bytes : Bytes tape) (says : content_of tape ≡ some t) (range : versions_in_range t.versions ≡ true)
     {Old : Graph → Type 0} {k at : ℕ} (a : Versions t Old k at) (l : k < length t.versions) {x : Node} (read : x ≡ node_on (record_in (drop at tape))) where
@@ -100,9 +96,6 @@ pub headed_none : (t : Content) {at : ℕ} {header : List ℕ} → at ≡ head_p
     → Heads t (Headed header) 0 at
 unfolding head_table
 headed_none t {header = header} e long z = along_none t.heads (head_place t) (Headed header) e (long, z)
-
-pub headed_all : (t : Content) {j at : ℕ} {header : List ℕ} → Heads t (Headed header) j at → length t.heads ≤ j → header ≡ head_table t.heads
-headed_all t a l = (along_all _ _ a l).0.1
 
 module _ (tape : List ℕ) (t : Content) (bytes : Bytes tape) (says : content_of tape ≡ some t) {j at : ℕ} {header : List ℕ}
     (a : Heads t (Headed header) j at) (l : j < length t.heads) {c v : ℕ} (console : c ≡ (head_on (record_in (drop at tape))).0) (version : v ≡ (head_on (record_in (drop at tape))).1) where

@@ -14,7 +14,6 @@ use Rattle.buffer.proofs.Patches.{with_length, with_outside, with_stands}
 use Rattle.buffer.proofs.Writes.{put_length, put_other_lem}
 use Rattle.graph.specs.Graph.{version_count, is_entry}
 use Rattle.command.specs.Code.{console_count}
-use Rattle.room.specs.declared.Settings.{Settings}
 use Rattle.room.specs.Room.{Room, fresh_room}
 use Rattle.room.specs.Sound.{sound_room}
 use Rattle.room.proofs.Sound.{sound_facts}
@@ -30,19 +29,13 @@ use Rattle.resume.specs.Writing.{with_header}
 use Rattle.resume.proofs.VersionsWritten.{Built}
 
 -- where the store of a fresh room of the tape's capacity was written over the old bytes
-module _ (t : Content) (sound : sound_room (room_of t) ≡ true) (old : List ℕ) (settings : Settings) (size : settings ≡ t.settings)
-    (room_for : store_size settings.capacity ≤ length old) {s : List ℕ} (made : s ≡ overwrite (encode (fresh_room settings)) old) where
+module _ (t : Content) (sound : sound_room (room_of t) ≡ true) (old : List ℕ) (fits : store_size t.settings.capacity ≤ length old)
+    {s : List ℕ} (opened : s ≡ overwrite (encode (fresh_room t.settings)) old) where
   abbrev r : Room
   r = room_of t
 
   abbrev n : ℕ
   n = version_count t.versions
-
-  fits : store_size t.settings.capacity ≤ length old
-  fits = let e = ap (λ (x : Settings). x.capacity) size in omega arith
-
-  opened : s ≡ overwrite (encode (fresh_room t.settings)) old
-  opened = rw size at made
 
   fresh_length : length (encode (fresh_room t.settings)) ≡ store_size t.settings.capacity
   fresh_length = encode_length (fresh_room t.settings) (fresh_sound t.settings (sound_facts r sound).settings)
@@ -86,9 +79,6 @@ module _ (t : Content) (sound : sound_room (room_of t) ≡ true) (old : List ℕ
 
     large : header_size ≤ length old
     large = let f = fits in omega arith
-
-    pub header_fits : header_size ≤ length now
-    header_fits = let h = large in let l = now_long in omega arith
 
     -- behind and before the table, and but for the count
     outside : (k : ℕ) → (commons_at ≤ k → k < commons_end → ⊥) → get_or final k 0 ≡ get_or counted k 0

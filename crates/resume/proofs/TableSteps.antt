@@ -1,19 +1,17 @@
 -- The table of common versions, pair by pair and console by console: what is written leaves the diagonal as it was.
 -- Assumes nothing.
 use mathlib.Core.Path.{◌≡◌, refl, sym, ap, ap₂, ◌∙◌}
-use mathlib.Core.Bool.{Bool, true, not, ◌&&◌, ◌||◌}
+use mathlib.Core.Bool.{Bool, true, ◌&&◌}
 use mathlib.Core.List.{List}
-use Prim.Native.Nat.{ℕ, zero, suc, pred, ◌+◌, ◌*◌, ◌/◌, ◌≤◌, ◌<◌}
+use Prim.Native.Nat.{ℕ, zero, suc, ◌+◌, ◌*◌, ◌/◌, ◌≤◌, ◌<◌}
 use native.Mathlib.Numerals.{add-one}
 use native.Mathlib.Omega.{arith}
-use lib.Dec.{eqb, eqb-suc-zero}
 use lib.ListN.{length, get_or}
 use Rattle.command.specs.Code.{console_count}
 use Rattle.store.specs.Layout.{header_size, common_at}
 use Rattle.store.specs.Check.{common_in}
 use Rattle.update.specs.Commons.{put_common}
 use Rattle.update.proofs.CommonsTable.{Clear, common_length, put_kept}
-use Rattle.resume.specs.Rows.{meet_field}
 use Rattle.resume.specs.Heads.{pair_field, pair_meets, with_pairs, console_meets, with_consoles, table_meets}
 
 -- two fields at one place are of the same consoles
@@ -66,23 +64,19 @@ pub paired_none : (rows t : List ℕ) (c : ℕ) → length t ≡ header_size →
 unfolding with_pairs console_meets
 paired_none rows t c l = record { within = omega arith; long = l; written = refl; met = refl }
 
-pub paired_all : {rows t : List ℕ} {c d : ℕ} {header : List ℕ} {ok : Bool} → Paired rows t c d header ok → c ≤ d
-    → (ok ≡ console_meets rows t c c) × (header ≡ with_pairs rows t c c)
-paired_all {c = c} {d = d} p l = let w = p.within in let e : d ≡ c = omega arith in (rw e at p.met, rw e at p.written)
-
 module _ {rows t : List ℕ} {c d : ℕ} {header : List ℕ} {ok : Bool} (p : Paired rows t c d header ok) (cn : c < console_count) where
   -- the diagonal reads as at first
   pub paired_own : (k : ℕ) → k < console_count → common_in header k k ≡ common_in t k k
   paired_own k kn = ap (λ (u : List ℕ). common_in u k k) p.written ∙ pairs_own rows t c d k p.within cn kn
 
-  pub paired_more : {x y : ℕ} {after : List ℕ} {met : Bool} → d < c → x ≡ common_in header c c → y ≡ common_in header d d
-      → met ≡ pair_meets rows x y → after ≡ put_common header c d (pair_field rows x y) → Paired rows t c (d + 1) after (ok && met)
+  pub paired_more : {after : List ℕ} {met : Bool} → d < c → met ≡ pair_meets rows (common_in header c c) (common_in header d d)
+      → after ≡ put_common header c d (pair_field rows (common_in header c c) (common_in header d d)) → Paired rows t c (d + 1) after (ok && met)
   unfolding with_pairs console_meets
-  paired_more {x} {y} {after} {met} dc ex ey em ea =
-      let own : x ≡ common_in t c c = ex ∙ paired_own c cn in
-      let other : y ≡ common_in t d d = ey ∙ paired_own d (omega arith) in
-      let made : after ≡ with_pairs rows t c (suc d) = rw (ea, p.written, own, other) in
-      let told : ok && met ≡ console_meets rows t c (suc d) = rw (em, p.met, own, other) in
+  paired_more {after} {met} dc em ea =
+      let own = paired_own c cn in
+      let other = paired_own d (omega arith) in
+      let made : after ≡ with_pairs rows t c (suc d) = rw (ea, own, other, p.written) in
+      let told : ok && met ≡ console_meets rows t c (suc d) = rw (em, own, other, p.met) in
       record {
         within = omega arith;
         long = rw ea (common_length header c d _ ∙ p.long);
@@ -123,24 +117,3 @@ module _ {rows t : List ℕ} {c : ℕ} {header : List ℕ} {ok : Bool} (p : Tabl
         written = rw (ea, add-one, p.written);
         met = rw (em, add-one, p.met, meets_own rows t header c c (omega arith) cn tabled_own);
       }
-
-  pub tabled_all : console_count ≤ c → (ok ≡ table_meets rows t console_count) × (header ≡ with_consoles rows t console_count)
-  tabled_all l = let w = p.within in let e : c ≡ console_count = omega arith in (rw e at p.met, rw e at p.written)
-
--- the answers of the functions for one pair
-pub pair_none_left : (rows : List ℕ) (x y : ℕ) → x ≡ 0 → 0 ≡ pair_field rows x y
-pair_none_left rows x y e = rw e
-
-pub pair_none_right : (rows : List ℕ) (x y : ℕ) → y ≡ 0 → 0 ≡ pair_field rows x y
-pair_none_right rows zero y e = refl
-pair_none_right rows (suc u) y e = rw e
-
-pub pair_both : (rows : List ℕ) (x y : ℕ) → (x ≡ 0 → ⊥) → (y ≡ 0 → ⊥) → meet_field rows (pred x) (pred y) ≡ pair_field rows x y
-pair_both rows zero y p q = absurd (p refl)
-pair_both rows (suc u) zero p q = absurd (q refl)
-pair_both rows (suc u) (suc v) p q = refl
-
-pub pair_answer : (rows : List ℕ) (x y : ℕ) {z : ℕ} → z ≡ pair_field rows x y → (eqb x 0 || eqb y 0) || not (eqb z 0) ≡ pair_meets rows x y
-pair_answer rows zero y e = refl
-pair_answer rows (suc u) zero e = rw eqb-suc-zero
-pair_answer rows (suc u) (suc v) e = rw (e, eqb-suc-zero u, eqb-suc-zero v)

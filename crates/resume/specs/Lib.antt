@@ -1,4 +1,3 @@
-pub mod Content
 pub mod Ranges
 pub mod Rows
 pub mod Writing

@@ -4,8 +4,7 @@ use Rattle.std.proofs.Math.Option.{Option}
 use Rattle.buffer.specs.Field.{overwrite}
 use Rattle.refusal.specs.Refusal.{◌when◌, first_refusal}
 use Rattle.store.specs.Layout.{store_size, encode}
-use Rattle.tape.specs.Tape.{Content, tape_tests, room_of}
-use Rattle.resume.specs.Content.{told}
+use Rattle.tape.specs.Tape.{Content, tape_tests, room_of, told}
 
 -- 7 to 10, and then "19 lent output or store buffer too short."
 abbrev pub resume_refusal : Option Content → List ℕ → ℕ

@@ -5,6 +5,7 @@ use mathlib.Core.Path.{◌≡◌, refl}
 use mathlib.Core.Bool.{true, false, cond}
 use native.Mathlib.Omega.{arith}
 use borrow.Author.Tests.{eqb-true}
+use Rattle.std.specs.Prelude.{Option, Some, None}
 use Rattle.command.specs.declared.Kind.{Kind}
 use Rattle.command.specs.declared.Kind.TheVariants as kind_is
 use Rattle.command.specs.Code.{kind_of, kind_refusal, shape_of, length_of}
@@ -15,16 +16,16 @@ use Rattle.command.proofs.CodeKinds.{Says, kind_says}
 abbrev Bound : ℕ → Type 0
 Bound code = (1 ≤ length_of (shape_of code)) × (length_of (shape_of code) ≤ 5)
 
-kind_bound : (k : Kind) (code : ℕ) → Says code k → kind_refusal k ≡ 0 → Bound code
+kind_bound : (k : Option Kind) (code : ℕ) → Says code k → kind_refusal k ≡ 0 → Bound code
 unfolding length_of shape_of
-kind_bound kind_is.Fork code e z = rw e (omega arith)
-kind_bound kind_is.Entry code e z =
+kind_bound (Some kind_is.Fork) code e z = rw e (omega arith)
+kind_bound (Some kind_is.Entry) code e z =
     each_entry Bound (omega arith) (omega arith) (omega arith) (omega arith) (omega arith) (omega arith) (omega arith) code e
-kind_bound kind_is.Merge code e z = rw e (omega arith)
-kind_bound kind_is.FastForward code e z = rw e (omega arith)
-kind_bound kind_is.Leave code e z = rw e (omega arith)
-kind_bound kind_is.MakeHub code e z = rw e (omega arith)
-kind_bound kind_is.Unknown code e z = absurd (omega arith)
+kind_bound (Some kind_is.Merge) code e z = rw e (omega arith)
+kind_bound (Some kind_is.FastForward) code e z = rw e (omega arith)
+kind_bound (Some kind_is.Leave) code e z = rw e (omega arith)
+kind_bound (Some kind_is.MakeHub) code e z = rw e (omega arith)
+kind_bound None code e z = absurd (omega arith)
 
 -- the answers for a command's code and for any other
 abbrev pub Length : ℕ → ℕ → Type 0

@@ -8,7 +8,7 @@ ghost use Rattle.std.specs.Io.{ReadsAtMost};
 ghost use Rattle.command.specs.Code.{shape_of, length_of};
 ghost use Rattle.command.specs.Decode.{is_command_code};
 
-use buffer::{wide, word_at};
+use buffer::word_at;
 use command::decoder::{is_command_code, length_of, widths_of};
 use std::io;
 use std::io::Read;
@@ -44,25 +44,25 @@ fn print_head(rt: &impl Print, store: &[u8], console: u32) -> io::Result<()> {
     }
 }
 
-// Prints the line of a command. No operand was read, or none that is looked at, where the length is below 2.
+// Prints the line of a command, of which the first operand, where one was read, names a console.
 fn print_line(
     rt: &impl Print,
     store: &[u8],
     ordinal: u64,
     answer: u32,
-    console: u8,
-    length: usize,
+    console: Option<u8>,
 ) -> io::Result<()> {
     print!(rt; "{ordinal} {answer} ")?;
-    if length < 2 {
-        print!(rt; "-")?;
-    } else {
-        print_head(rt, store, console as u32)?;
+    match console {
+        Some(console) => print_head(rt, store, u32::from(console))?,
+        None => print!(rt; "-")?,
     }
     println!(rt)
 }
 
 // Reads until the buffer is full or the input ends, and answers how many bytes it put at the buffer's front. On an empty buffer it makes no call.
+// A read may give fewer bytes than were asked for, so the loop goes by what came, which is no index; `read_exact` would not say how many bytes
+// there were where the input ends.
 fn read_full(input: &mut impl Read, buffer: &mut [u8]) -> io::Result<usize>
     ensures ok { ReadsAtMost result buffer.new }
     ensures err { OnErr result (length buffer.new ≡ length buffer.old) }
@@ -84,7 +84,7 @@ fn read_operands(input: &mut impl Read, command: &mut [u8]) -> io::Result<usize>
     ensures ok { IfOk result (λ n. n ≤ 5) }
     ensures err { OnErr result (length command.new ≡ 5) }
 {
-    let end = command_length(wide(command[0]));
+    let end = command_length(usize::from(command[0]));
     let got = read_full(input, &mut command[1..end])?;
     Ok(1 + got)
 }
@@ -121,7 +121,8 @@ fn next_command(
         return Ok(false);
     }
     let reply = room_command(store, &command[..got]);
-    print_line(rt, store, ordinal, reply.answer, command[1], got)?;
+    let console = (2 <= got).then_some(command[1]);
+    print_line(rt, store, ordinal, reply.answer, console)?;
     Ok(goes_on(reply.answer))
 }
 

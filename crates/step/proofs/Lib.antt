@@ -1,2 +1,5 @@
+pub mod Groups
+pub mod Hub
 pub mod Search
 pub mod Thirds
+pub mod Verdicts

@@ -1,26 +1,15 @@
--- Consoles that do not split two others, one of the two and one that is absent; and when two versions are apart.
+-- When two versions are apart.
 -- Assumes nothing.
 use Prim.Native.Nat.{ℕ, ◌≤◌, ◌<◌}
 use mathlib.Core.Path.{◌≡◌, sym, subst}
 use mathlib.Core.Logic.{inl, inr}
-use mathlib.Core.Bool.{true, false, not, and-true}
+use mathlib.Core.Bool.{true, not, and-true}
 use native.Mathlib.Omega.{arith}
-use Rattle.laws.proofs.Logic.{clash, decide, refuted}
+use Rattle.laws.proofs.Logic.{decide, refuted}
 use Rattle.graph.specs.Graph.{ancestor}
 use Rattle.graph.proofs.Ancestor.{ancestor_le}
-use Rattle.room.specs.Room.{Room, present}
-use Rattle.room.specs.Step.{apart, splits}
-use Rattle.room.proofs.Steps.{split_parts}
-
-module _ (r : Room) (c d k : ℕ) where
-  pub receiver_splits_not : k ≡ c → splits r c d k ≡ false
-  receiver_splits_not e = refuted _ (λ t. (split_parts r c d k t).na e)
-
-  pub giver_splits_not : k ≡ d → splits r c d k ≡ false
-  giver_splits_not e = refuted _ (λ t. (split_parts r c d k t).nb e)
-
-  pub absent_splits_not : present r k ≡ false → splits r c d k ≡ false
-  absent_splits_not f = refuted _ (λ t. clash (split_parts r c d k t).pd f)
+use Rattle.room.specs.Room.{Room}
+use Rattle.room.specs.Step.{apart}
 
 -- of two versions only the lower can be an ancestor of the other, so that one test says whether they are apart
 module _ (r : Room) (u v : ℕ) where

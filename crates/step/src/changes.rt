@@ -10,7 +10,9 @@ use update::commons::{move_console, remove_console};
 use update::hub::make_hub;
 use update::new_version::{enter, merge};
 
-// Makes the change of a command that is not refused, and counts the clashes of a merge.
+/// Makes the change of a command that is not refused, and counts the clashes of a merge.
+// It takes the bytes and no `Store`: between its writes they hold none.
+#[tactic(auto, unfolding(room::specs::Step::step, room::specs::Step::clash_count, room::specs::Step::step_refusal, room::specs::Step::state_tests, refusal::specs::Refusal::first_refusal))]
 pub fn change(s: &mut [u8], c: Command) -> usize
     requires s_value { holds_store s.old ≡ true }
     requires in_range { InRange c }

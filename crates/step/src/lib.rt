@@ -7,3 +7,4 @@ mod descends;
 pub mod mergeable;
 pub mod refusals;
 mod third;
+pub mod verdict;

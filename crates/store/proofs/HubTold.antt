@@ -1,15 +1,14 @@
 -- The test of the hub says of any table of a room's common versions, and of the row of its console 0's head, whether console 0 can be the hub.
 -- Assumes nothing.
-use mathlib.Core.Path.{◌≡◌, refl, ap}
+use mathlib.Core.Path.{◌≡◌, refl}
 use mathlib.Core.Bool.{Bool, true, false, cond, not, ◌&&◌, ◌||◌}
 use mathlib.Core.List.{List}
-use Prim.Native.Nat.{ℕ, suc, pred, ◌+◌, ◌*◌, ◌≤◌, ◌<◌}
+use Prim.Native.Nat.{ℕ, suc, pred, ◌≤◌, ◌<◌}
 use native.Mathlib.Omega.{arith}
 use lib.Dec.{eqb, leb, ltb, eqb-suc-zero}
 use lib.ListN.{length}
 use borrow.Author.Tests.{eqb-true, leb-true, ltb-true}
 use Rattle.laws.proofs.Logic.{and_l, and_r}
-use Rattle.buffer.specs.Field.{part}
 use Rattle.buffer.specs.Row.{row, member}
 use Rattle.buffer.proofs.Rows.{member_row}
 use Rattle.graph.specs.Below.{every_below}
@@ -19,9 +18,8 @@ use Rattle.graph.proofs.Meet.{meet_number-below}
 use Rattle.command.specs.Code.{console_count}
 use Rattle.room.specs.Room.{Room, present, head, common}
 use Rattle.room.specs.Sound.{max_capacity, common_behind_hub, can_make_hub}
-use Rattle.store.specs.Layout.{header_size, node_size, row_size, block_size, store_size, block_at, field_where, common_field}
-use Rattle.store.specs.Check.{row_part, common_in, pair_right, console_right, common_in_row, commons_in_row, contents_right}
-use Rattle.store.proofs.Heads.{row_place}
+use Rattle.store.specs.Layout.{row_size, store_size, block_at, field_where, common_field}
+use Rattle.store.specs.Check.{common_in, pair_right, console_right, common_in_row, commons_in_row, contents_right}
 
 -- a table with the fields of a room, whose versions fit a row
 module _ (s : List ℕ) (r : Room) (small : version_count r.versions ≤ max_capacity) where
@@ -44,10 +42,6 @@ module _ (s : List ℕ) (r : Room) (small : version_count r.versions ≤ max_cap
   unfolding commons_in_row can_make_hub
   hub_told fields =
       every_ext console_count _ _ (λ c l. every_ext c _ _ (λ d m. pair_told c d (fields c d l (omega arith))))
-
--- in a store the rows stand a block apart
-pub hub_row : (s : List ℕ) → part s (header_size + node_size + block_size * pred (common_in s 0 0)) row_size ≡ row_part s (pred (common_in s 0 0))
-hub_row s = ap (λ (at : ℕ). part s at row_size) (row_place (pred (common_in s 0 0)))
 
 -- in bytes that pass the tests before it, the fields are those of versions, and the block of the head lies inside
 pub fields_small : (s : List ℕ) (capacity n : ℕ) → contents_right s capacity n ≡ true → (c d : ℕ) → c < console_count → d < c → common_in s c d ≤ n

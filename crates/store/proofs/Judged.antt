@@ -1,6 +1,7 @@
 -- The test of a store group by group, as the code makes it: a failed group fails it, and where all but the last pass, the last decides.
 -- Assumes nothing.
-use Prim.Native.Nat.{ℕ, pred, ◌≤◌, ◌<◌}
+use Prim.Native.Nat.{ℕ, ◌-◌, ◌≤◌, ◌<◌}
+use native.Mathlib.Numerals.{sub-one}
 use mathlib.Core.Path.{◌≡◌, sym, ◌∙◌}
 use mathlib.Core.Bool.{true, false, ◌&&◌}
 use mathlib.Core.List.{List}
@@ -25,9 +26,9 @@ module _ (s : List ℕ) (capacity n : ℕ) where
 
   -- the groups behind these two
   pub grouped : 1 ≤ n → n ≤ capacity
-      → contents_right s capacity n ≡ spare_zero s && (versions_right s (pred n) && (rest_zero s capacity n && (consoles_right s n && heads_cover s n)))
+      → contents_right s capacity n ≡ spare_zero s && (versions_right s (n - 1) && (rest_zero s capacity n && (consoles_right s n && heads_cover s n)))
   unfolding contents_right
-  grouped some fits = rw (le-leb 1 n some, le-leb n capacity fits)
+  grouped some fits = rw (le-leb 1 n some, le-leb n capacity fits, sub-one n)
 
 -- the whole test: a failed part fails it, and then the bytes hold no store; where all before pass, the contents decide
 module _ (s : List ℕ) where

@@ -5,6 +5,7 @@ pub mod RoundTrip
 pub mod Lineage
 pub mod Shown
 pub mod NodeBytes
+pub mod Numbers
 pub mod Told
 pub mod Versions
 pub mod Heads

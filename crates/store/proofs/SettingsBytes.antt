@@ -11,7 +11,13 @@ use Rattle.buffer.proofs.Stands.{Stands, stands_left, stands_right, stands_word}
 use Rattle.buffer.proofs.Parts.{Bytes, stands_join, word_stands}
 use Rattle.room.specs.declared.Settings.{Settings}
 use Rattle.room.proofs.Sound.{SettingsFit}
+use mir.Val.{bool_byte}
 use Rattle.store.specs.Layout.{settings_at, capacity_at, hub_at, hub_number, settings_bytes, settings_in}
+
+-- the number that the code makes of a flag
+pub flag_number : (hub : Bool) → bool_byte hub ≡ hub_number hub
+flag_number true = refl
+flag_number false = refl
 
 -- the number of what a field of 0 or 1 says, and what the field of a number says
 hub_number_lem : (x : ℕ) → x ≤ 1 → x ≡ hub_number (eqb x 1)

@@ -1,11 +1,12 @@
 -- The test that the code makes of lent bytes, in one pass over the versions: each version is held against the parts of its parents and its
 -- base, which were tested before it. That it says of any bytes what `holds_store` says is a theorem, so a reader need not believe this file.
-use Rattle.std.specs.Prelude.{ℕ, zero, suc, pred, ◌+◌, ◌-◌, ◌*◌, Bool, cond, not, ◌&&◌, ◌||◌, List, eqb, leb, ltb, length}
+use Rattle.std.specs.Prelude.{ℕ, zero, suc, pred, ◌+◌, ◌-◌, ◌*◌, Bool, cond, not, ◌&&◌, ◌||◌, List, eqb, leb, ltb, length, Option, Some, None}
 use Rattle.buffer.specs.Field.{word_at, zeros, part, same, all_zero}
 use Rattle.buffer.specs.Row.{row, member, with_member, union, intersection, none_from}
 use Rattle.board.specs.Board.{Merged, board_size, enter, merge_board}
 use Rattle.graph.specs.Below.{every_below}
 use Rattle.graph.specs.declared.Node.{Node}
+use Rattle.graph.specs.declared.Version.{Version}
 use Rattle.graph.specs.declared.Node.TheVariants.{Entry, Merge}
 use Rattle.command.specs.Code.{console_count}
 use Rattle.room.specs.Sound.{settings_in_range}
@@ -72,6 +73,11 @@ versions_right s (suc n) = versions_right s n && version_right s (suc n)
 -- A field of the table of commons: 0, or 1 more than a version.
 abbrev pub common_in : List ℕ → ℕ → ℕ → ℕ
 common_in s c d = word_at s (common_at c d)
+
+-- the field that stands for a version, or for none
+abbrev pub field_number : Option Version → ℕ
+field_number None = 0
+field_number (Some v) = suc v.0
 
 -- m as the field of two consoles whose own fields are u and v, of n versions: 0 where one is absent, else 1 more than the version whose row is
 -- the intersection of their heads'

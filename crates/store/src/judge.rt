@@ -4,11 +4,13 @@ ghost use Rattle.buffer.specs.Field.{word_at};
 ghost use Rattle.command.specs.Code.{console_count};
 ghost use Rattle.room.specs.Sound.{max_capacity};
 ghost use Rattle.store.specs.Layout.{header_size, store_size, count_at, block_at, settings_in, holds_store};
-ghost use Rattle.store.specs.Check.{common_in, spare_zero, rest_zero, heads_cover, contents_right, hub_right};
+ghost use Rattle.store.specs.Check.{common_in, spare_zero, rest_zero, consoles_right, heads_cover, contents_right, hub_right};
 
+use crate::block_parts::Blocks;
 use crate::consoles::{consoles_right, heads_reach_all};
 use crate::hub::hub_right;
-use crate::places::{BLOCK, COMMONS, COMMONS_END, COUNT, ENTRIES, HEADER, NODE, SPARE, store_size};
+use crate::places::{COMMONS, COMMONS_END, COUNT, ENTRIES, HEADER, SPARE, store_size};
+use crate::rows::Rows;
 use crate::settings::{read_settings, settings_right};
 use crate::version::versions_right;
 use buffer::{is_zero, none_from, word_at};
@@ -38,33 +40,31 @@ fn heads_right(s: &[u8], n: usize) -> bool
     requires by_index { (c : ℕ) → c < console_count → common_in s.now c c ≤ n }
     ensures { result ≡ heads_cover s.now n }
 {
-    (0 < word_at(s, COMMONS)) & heads_reach_all(s, s, HEADER + NODE, BLOCK, n)
+    (0 < word_at(s, COMMONS)) & heads_reach_all(s, &Rows::InBlocks(s), n)
+}
+
+// The table of commons is right, and its heads reach all of n versions.
+fn table_right(s: &[u8], n: usize) -> bool
+    requires { block_at n ≤ length s.now }
+    ensures { result ≡ (consoles_right s.now n && heads_cover s.now n) }
+{
+    consoles_right(s, n) && heads_right(s, n)
 }
 
 // A store of this capacity with n versions.
+#[tactic(auto, using(crate::proofs::Judged::grouped, crate::proofs::Judged::too_few, crate::proofs::Judged::too_many))]
 fn contents_right(s: &[u8], capacity: usize, n: usize) -> bool
     requires { (capacity ≤ max_capacity) × (store_size capacity ≤ length s.now) }
     ensures { result ≡ contents_right s.now capacity n }
 {
-    if n < 1 {
+    if n < 1 || capacity < n {
         return false;
     }
-    if capacity < n {
-        return false;
-    }
-    if !spare_right(s) {
-        return false;
-    }
-    if !versions_right(s, n - 1) {
-        return false;
-    }
-    if !rest_right(s, capacity, n) {
-        return false;
-    }
-    if !consoles_right(s, n) {
-        return false;
-    }
-    heads_right(s, n)
+    let blocks = Blocks { bytes: s, count: n };
+    spare_right(s)
+        && versions_right(&blocks, n - 1)
+        && rest_right(s, capacity, n)
+        && table_right(s, n)
 }
 
 // The versions, the consoles and the hub of a room that is set to what was read.
@@ -72,13 +72,12 @@ fn room_right(s: &[u8], settings: Settings) -> bool
     requires { (settings ≡ settings_in s.now) × (settings.capacity ≤ max_capacity) × (store_size settings.capacity ≤ length s.now) }
     ensures { result ≡ (contents_right s.now settings.capacity (word_at s.now count_at) && hub_right s.now) }
 {
-    if !contents_right(s, settings.capacity, word_at(s, COUNT)) {
-        return false;
-    }
-    hub_right(s, s, HEADER + NODE, BLOCK, settings.hub)
+    contents_right(s, settings.capacity, word_at(s, COUNT))
+        && hub_right(s, &Rows::InBlocks(s), settings.hub)
 }
 
-// Whether lent bytes hold a sound store at their front.
+/// Whether lent bytes hold a sound store at their front.
+#[tactic(auto, using(crate::proofs::Judged::too_short_lem, crate::proofs::Judged::out_of_range, crate::proofs::Judged::no_room, crate::proofs::Judged::contents_decide))]
 pub fn holds(s: &[u8]) -> bool
     ensures { result ≡ holds_store s.now }
 {
@@ -86,11 +85,7 @@ pub fn holds(s: &[u8]) -> bool
         return false;
     }
     let settings = read_settings(s);
-    if !settings_right(s, settings) {
-        return false;
-    }
-    if s.len() < store_size(settings.capacity) {
-        return false;
-    }
-    room_right(s, settings)
+    settings_right(s, settings)
+        && store_size(settings.capacity) <= s.len()
+        && room_right(s, settings)
 }

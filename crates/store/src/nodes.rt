@@ -5,7 +5,7 @@ ghost use Rattle.room.specs.Sound.{max_capacity};
 ghost use Rattle.store.specs.Layout.{block_at, node_base_at, node_in};
 
 use crate::places::block_at;
-use buffer::{wide, word_at};
+use buffer::word_at;
 use graph::{Node, Strip, Version};
 
 // Places in a node, which has its code at its front, and its spare bytes at the end. The parent of a merge is the receiver's version.
@@ -25,12 +25,13 @@ pub const NODE_SPARE: usize = 10;
 pub const MERGE_NODE: usize = 0x09;
 
 // What made a version other than 0.
+#[tactic(auto, unfolding(crate::specs::Layout::node_in))]
 pub fn read_node(s: &[u8], v: Version) -> Node
     requires { (v.0 < max_capacity) × (block_at (suc v.0) ≤ length s.now) }
     ensures { result ≡ node_in s.now v.0 }
 {
     let at = block_at(v);
-    let code = wide(s[at]);
+    let code = usize::from(s[at]);
     let parent = Version(word_at(s, at + NODE_PARENT));
     if code == MERGE_NODE {
         return Node::Merge {
@@ -41,7 +42,7 @@ pub fn read_node(s: &[u8], v: Version) -> Node
     Node::Entry {
         parent,
         code,
-        strip: Strip(wide(s[at + NODE_STRIP])),
+        strip: Strip(usize::from(s[at + NODE_STRIP])),
         operand: word_at(s, at + NODE_OPERAND),
     }
 }

@@ -1,13 +1,13 @@
 // Where the parts of a store stand in its bytes.
-ghost use Rattle.std.specs.Prelude.{◌≡◌, suc, pred, ◌+◌, ◌*◌, ◌^◌, ◌<◌, ◌≤◌, length};
-ghost use Rattle.buffer.specs.Field.{part};
+ghost use Rattle.std.specs.Prelude.{◌≡◌, ◌+◌, suc, ◌%◌, ◌^◌, ◌<◌, ◌≤◌, length};
+ghost use Rattle.buffer.specs.Field.{put_word};
 ghost use Rattle.board.specs.Board.{board_size};
 ghost use Rattle.command.specs.Code.{console_count};
 ghost use Rattle.store.specs.Layout.{header_size, row_size, store_size, block_at, row_at, board_at, common_at};
-ghost use Rattle.store.specs.Check.{row_part, board_part, entries_part, common_in};
+ghost use Rattle.store.specs.Check.{row_part, board_part, entries_part, field_number, common_in};
 
 use board::BOARD_SIZE;
-use buffer::{part_of, word_at};
+use buffer::{part_of, put_word, word_at};
 use command::numbers::CONSOLES;
 use graph::{Console, Version};
 
@@ -42,29 +42,6 @@ pub const ENTRIES: usize = 128;
 pub const COMMONS: usize = ENTRIES + ROW;
 
 pub const COMMONS_END: usize = COMMONS + 2 * CONSOLES * CONSOLES;
-
-// A field of the table of commons: 0 where a console is absent, else 1 more than the version. Only `field_of` and `version_of` turn one into
-// the other.
-#[derive(Clone, Copy)]
-pub struct Field(pub usize);
-
-// The field that stands for a version.
-pub fn field_of(v: Version) -> Field
-    requires { v.0 < 2 ^ 32 }
-    ensures { result.0 ≡ suc v.0 }
-{
-    Field(v.0 + 1)
-}
-
-// The version that a field stands for; version 0 for none.
-pub fn version_of(field: Field) -> Version
-    ensures { result.0 ≡ pred field.0 }
-{
-    if field.0 == 0 {
-        return Version(0);
-    }
-    Version(field.0 - 1)
-}
 
 // How many bytes a store of a capacity takes.
 pub fn store_size(capacity: usize) -> usize
@@ -106,13 +83,44 @@ pub fn common_at(c: Console, d: Console) -> usize
     COMMONS + 2 * (CONSOLES * c.0 + d.0)
 }
 
-// The field of two consoles in the table of commons; of a console with itself, that of its head.
-pub fn common_in(s: &[u8], c: Console, d: Console) -> Field
+// The version that a field of the table of commons stands for.
+fn version_of(field: usize) -> Option<Version>
+    ensures { field_number result ≡ field }
+{
+    field.checked_sub(1).map(Version)
+}
+
+// The field that stands for a version: 1 more, or 0 for none. A field keeps 16 bits of it, so the highest number of all may wrap.
+fn field_of(version: Option<Version>) -> usize
+    ensures { result ≡ field_number version % 2 ^ 64 }
+{
+    version.map_or(0, |v| v.0.wrapping_add(1))
+}
+
+/// The common version of two consoles, where both are present; of a console with itself, its head.
+pub fn common_in(s: &[u8], c: Console, d: Console) -> Option<Version>
     requires header_size_in_bounds { header_size ≤ length s.now }
     requires c_lt_console_count { (c.0 < console_count) × (d.0 < console_count) }
-    ensures { (result.0 ≡ common_in s.now c.0 d.0) × (result.0 < 65536) }
+    ensures { (field_number result ≡ common_in s.now c.0 d.0) × (field_number result < 65536) }
 {
-    Field(word_at(s, common_at(c, d)))
+    version_of(word_at(s, common_at(c, d)))
+}
+
+/// Writes the common version of two consoles, or that they have none, at the first of its two places; of a console with itself, its head.
+pub fn put_field(s: &mut [u8], c: Console, d: Console, version: Option<Version>)
+    requires header_size_in_bounds { header_size ≤ length s.old }
+    requires c_lt_console_count { (c.0 < console_count) × (d.0 < console_count) }
+    ensures { s.new ≡ put_word s.old (common_at c.0 d.0) (field_number version) }
+{
+    put_word(s, common_at(c, d), field_of(version));
+}
+
+// The row of a version in the blocks of a store, where the row lies in the bytes.
+pub(crate) fn row_in_blocks(store: &[u8], v: Version) -> &[u8]
+    requires { row_at v.0 + row_size ≤ length store.now }
+    ensures { (result.now ≡ row_part store.now v.0) × (length result.now ≡ row_size) }
+{
+    part_of(store, row_at(v), ROW)
 }
 
 // The row of a version whose block lies in the bytes.
@@ -120,17 +128,7 @@ pub fn row_part(s: &[u8], v: Version) -> &[u8]
     requires { block_at (suc v.0) ≤ length s.now }
     ensures { (result.now ≡ row_part s.now v.0) × (length result.now ≡ row_size) }
 {
-    part_of(s, row_at(v), ROW)
-}
-
-// The row of the version that a field of the table of commons stands for. The row of version v stands at first + stride * v, so that rows in
-// blocks and rows one behind the other are one case.
-pub fn row_of_field(rows: &[u8], first: usize, stride: usize, field: Field) -> &[u8]
-    requires { first + stride * pred field.0 + row_size ≤ length rows.now }
-    ensures { (result.now ≡ part rows.now (first + stride * pred field.0) row_size) × (length result.now ≡ row_size) }
-{
-    let v = version_of(field);
-    part_of(rows, first + stride * v.0, ROW)
+    row_in_blocks(s, v)
 }
 
 // The board of a version whose block lies in the bytes.

@@ -11,14 +11,14 @@ use graph::{Node, Strip, Version};
 fn entry_in_range(v: Version, p: Version, code: usize, strip: Strip, operand: usize) -> bool
     ensures { result ≡ entry_ranges v.0 p.0 code strip.0 operand }
 {
-    is_entry_code(code) & is_strip(strip.0) & is_operand(code, operand) & (p.0 < v.0)
+    is_entry_code(code) & is_strip(strip.0) & is_operand(code, operand) & (p < v)
 }
 
 // Whether both parents of version v, a merge of q into p, are below it.
 fn both_below(v: Version, p: Version, q: Version) -> bool
     ensures { result ≡ both_below v.0 p.0 q.0 }
 {
-    (p.0 < v.0) & (q.0 < v.0)
+    (p < v) & (q < v)
 }
 
 // Whether the numbers of version v are in their ranges, whatever made it.
@@ -43,5 +43,5 @@ pub fn is_base(l: Version, p: Version, q: Version, base: &[u8], mine: &[u8], giv
     requires given_len { length given.now ≡ row_size }
     ensures { result ≡ is_base l.0 p.0 q.0 base.now mine.now given.now }
 {
-    (l.0 != p.0) & (l.0 != q.0) & is_intersection(base, mine, given)
+    (l != p) & (l != q) & is_intersection(base, mine, given)
 }

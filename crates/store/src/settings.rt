@@ -34,21 +34,11 @@ pub fn settings_right(s: &[u8], settings: Settings) -> bool
     settings_in_range(settings) & (word_at(s, HUB) <= 1)
 }
 
-// The field of a room with a hub, and of one without.
-fn hub_number(hub: bool) -> usize
-    ensures { result ≡ hub_number hub }
-{
-    if hub {
-        return 1;
-    }
-    0
-}
-
 // Writes what a room is set to into its header.
 pub fn put_settings(s: &mut [u8], settings: Settings)
     requires { header_size ≤ length s.old }
     ensures { s.new ≡ with_part s.old settings_at (settings_bytes settings) }
 {
     put_word(s, CAPACITY, settings.capacity);
-    put_word(s, HUB, hub_number(settings.hub));
+    put_word(s, HUB, usize::from(settings.hub));
 }

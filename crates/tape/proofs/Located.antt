@@ -15,6 +15,7 @@ use Rattle.graph.specs.declared.Node.{Node}
 use Rattle.graph.specs.Graph.{Graph, merge}
 use Rattle.command.specs.Code.{shape_of, length_of}
 use Rattle.buffer.proofs.Parts.{Bytes}
+use Rattle.std.specs.Prelude.{Some}
 use Rattle.tape.specs.declared.Record.{Record}
 use Rattle.tape.specs.declared.Record.TheVariants.{Start, Version, End}
 use Rattle.tape.specs.Record.{record_in, record_bytes}
@@ -26,7 +27,7 @@ use Rattle.tape.proofs.Written.{record_of_head, AllFit, tape_written, tape_fits}
 
 -- a record stands whole at a place, and the next one begins at a further place
 record RecordAt (tape : List ℕ) (at : ℕ) (x : Record) (next : ℕ) : Type 0 where
-  read : record_in (drop at tape) ≡ x
+  read : record_in (drop at tape) ≡ Some x
   past : place_after tape at ≡ next
   inside : at ≤ length tape
 

@@ -20,6 +20,7 @@ use Rattle.command.proofs.Limits.{entry_below}
 use Rattle.room.specs.declared.Settings.{Settings}
 use Rattle.room.specs.Room.{open_settings}
 use Rattle.room.specs.Sound.{entry_in_range}
+use Rattle.std.specs.Prelude.{Some}
 use Rattle.tape.specs.declared.Record.{Record}
 use Rattle.tape.specs.declared.Record.TheVariants.{Version, Head, Hub, End}
 use Rattle.tape.specs.Record.{record_in, record_length, record_from, version_bytes, record_bytes}
@@ -42,7 +43,7 @@ read_step k stage t rest refuse e = cc
 
 -- a record that may stand there is read, and reading goes on after it
 read_one : (k : ℕ) (stage next : Stage) (t more : Content) (x : Record) (rest : List ℕ) → Fits x
-    → after_record stage t x ≡ go_on next more → read_on (suc k) stage t (record_bytes x ++ rest) ≡ read_on k next more rest
+    → after_record stage t (Some x) ≡ go_on next more → read_on (suc k) stage t (record_bytes x ++ rest) ≡ read_on k next more rest
 read_one k stage next t more x rest fits e =
     read_step k stage t (record_bytes x ++ rest) (go_on next more) (rw (record_read x rest fits) e) ∙ rw (record_rest x rest fits)
 
@@ -75,7 +76,7 @@ read_versions (n ∷ g) k settings rest lower range l =
     ∙ read_one k in_versions in_versions _ _ (Version n) rest fits refl)
 
 -- the end is read behind a head and behind the hub
-read_end : (k : ℕ) (stage : Stage) (t : Content) → after_record stage t End ≡ finish → read_on (suc k) stage t (record_bytes End) ≡ some t
+read_end : (k : ℕ) (stage : Stage) (t : Content) → after_record stage t (Some End) ≡ finish → read_on (suc k) stage t (record_bytes End) ≡ some t
 unfolding record_in record_from shape_of length_of
 read_end k stage t e = read_step k stage t (record_bytes End) finish e
 

@@ -5,7 +5,7 @@ use mathlib.Core.Path.{◌≡◌, refl, sym, ◌∙◌, ap}
 use mathlib.Core.Logic.{inl, inr, ◌≢◌}
 use mathlib.Core.Bool.{Bool, true, false, cond}
 use mathlib.Core.List.{List, []}
-use mathlib.Core.Option.{none, some}
+use mathlib.Core.Option.{Option, none, some}
 use native.Mathlib.Omega.{arith}
 use lib.Dec.{eqb, ltb}
 use lib.ListN.{length, get_or, drop, length-drop, drop_of_length-le}
@@ -18,21 +18,20 @@ use Rattle.command.specs.Code.{start_record, entry_record, merge_record, head_re
 use Rattle.graph.specs.declared.Node.{Node}
 use Rattle.room.specs.declared.Settings.{Settings}
 use Rattle.room.specs.Room.{with_hub}
+use Rattle.std.specs.Prelude.{Option as Found, Some, None}
 use Rattle.tape.specs.declared.Record.{Record}
 use Rattle.tape.specs.declared.Record.TheVariants as record_is
 use Rattle.tape.specs.declared.scan.Role.{Role}
-use Rattle.tape.specs.declared.scan.Role.TheVariants.{Misplaced, Version, Head, Hub, End}
-use Rattle.tape.specs.declared.scan.Scanned.{Scanned}
-use Rattle.tape.specs.declared.scan.Scanned.TheVariants.{Whole, Broken}
+use Rattle.tape.specs.declared.scan.Role.TheVariants.{Version, Head, Hub, End}
+use Rattle.tape.specs.declared.scan.Counts.{Counts}
 use Rattle.tape.specs.Record.{record_in, record_length, record_from, record_refusal}
-use Rattle.tape.specs.Tape.{Content, Stage, in_versions, in_heads, past_hub, Follow, go_on, finish, refuse, after_record, read_on, content_of, with_version, with_head, with_hub_read}
-use Rattle.tape.specs.Reader.{place_after, scanned_of, role_of}
+use Rattle.tape.specs.Tape.{Content, Stage, in_versions, in_heads, past_hub, Follow, go_on, finish, refuse, after_record, read_on, content_of, told, with_version, with_head, with_hub_read, read_from}
+use Rattle.tape.specs.Reader.{place_after, counted_of, role_of}
 use Rattle.tape.proofs.Records.{unknown, record_whole}
 use Rattle.tape.proofs.Reading.{go, read_step}
-use Rattle.tape.proofs.Sorts.{NoStart, not_read}
 
 -- a code of no length is no record's
-lengthless : (c : ℕ) (o : Operands) → length_of (shape_of c) ≡ 0 → record_from c o ≡ record_is.Broken
+lengthless : (c : ℕ) (o : Operands) → length_of (shape_of c) ≡ 0 → record_from c o ≡ None
 unfolding shape_of length_of
 lengthless c o h =
     let other : (d : ℕ) → 0 < length_of (shape_of d) → c ≢ d = λ d long e. let none = rw e at h in omega arith in
@@ -55,7 +54,7 @@ here t there =
       }
     ]
   where
-    refused : record_in t ≡ record_is.Broken → ⊥
+    refused : record_in t ≡ None → ⊥
     refused e = omega (arith, there, ap record_refusal e)
 
     nonzero : (n : ℕ) → (n ≡ 0 → ⊥) → 0 < n
@@ -68,16 +67,16 @@ Staged in_heads t = (0 < length t.heads) × (t.settings.hub ≡ false)
 Staged past_hub t = (0 < length t.heads) × (t.settings.hub ≡ true)
 
 -- reading goes on at this stage with this content
-abbrev GoesOn : Record → Follow → Stage → Content → Type 0
+abbrev GoesOn : Found Record → Follow → Stage → Content → Type 0
 GoesOn x f stage t = (record_refusal x ≡ 0) × (f ≡ go_on stage t) × Staged stage t
 
 -- what a record is to the scan, and what reading does after it
-abbrev Agrees : Content → Record → Role → Follow → Type 0
-Agrees t x Misplaced f = f ≡ refuse
-Agrees t x Version f = (n : Node) × GoesOn x f in_versions (with_version t n)
-Agrees t x Head f = (c : ℕ) × (v : ℕ) × GoesOn x f in_heads (with_head t c v)
-Agrees t x Hub f = GoesOn x f past_hub (with_hub_read t)
-Agrees t x End f = (record_refusal x ≡ 0) × (f ≡ finish)
+abbrev Agrees : Content → Found Record → Found Role → Follow → Type 0
+Agrees t x None f = f ≡ refuse
+Agrees t x (Some Version) f = (n : Node) × GoesOn x f in_versions (with_version t n)
+Agrees t x (Some Head) f = (c : ℕ) × (v : ℕ) × GoesOn x f in_heads (with_head t c v)
+Agrees t x (Some Hub) f = GoesOn x f past_hub (with_hub_read t)
+Agrees t x (Some End) f = (record_refusal x ≡ 0) × (f ≡ finish)
 
 module _ (t : Content) where
   -- the test whether no head was read
@@ -87,26 +86,24 @@ module _ (t : Content) where
   some_read : 0 < length t.heads → eqb (length t.heads) 0 ≡ false
   some_read h = ne_eqb (length t.heads) 0 (omega arith)
 
-  agrees : (stage : Stage) (x : Record) → Staged stage t → Agrees t x (role_of x (length t.heads) t.settings.hub) (after_record stage t x)
+  agrees : (stage : Stage) (x : Found Record) → Staged stage t → Agrees t x (role_of x (length t.heads) t.settings.hub) (after_record stage t x)
   unfolding after_record role_of
-  agrees in_versions (record_is.Start settings) st = refl
-  agrees in_versions (record_is.Version node) st = rw (none_read st.0) (node, (refl, refl, st))
-  agrees in_versions (record_is.Head console version) st = rw st.1 (console.0, version.0, (refl, refl, (omega arith, refl)))
-  agrees in_versions record_is.Hub st = rw (none_read st.0)
-  agrees in_versions record_is.End st = rw (none_read st.0)
-  agrees in_versions record_is.Broken st = refl
-  agrees in_heads (record_is.Start settings) st = refl
-  agrees in_heads (record_is.Version node) st = rw (some_read st.0)
-  agrees in_heads (record_is.Head console version) st = rw st.1 (console.0, version.0, (refl, refl, (omega arith, refl)))
-  agrees in_heads record_is.Hub st = rw (some_read st.0, st.1) (refl, refl, (st.0, refl))
-  agrees in_heads record_is.End st = rw (some_read st.0) (refl, refl)
-  agrees in_heads record_is.Broken st = refl
-  agrees past_hub (record_is.Start settings) st = refl
-  agrees past_hub (record_is.Version node) st = rw (some_read st.0)
-  agrees past_hub (record_is.Head console version) st = rw st.1
-  agrees past_hub record_is.Hub st = rw (some_read st.0, st.1)
-  agrees past_hub record_is.End st = rw (some_read st.0) (refl, refl)
-  agrees past_hub record_is.Broken st = refl
+  agrees stage None st = refl
+  agrees in_versions (Some (record_is.Start settings)) st = refl
+  agrees in_versions (Some (record_is.Version node)) st = rw (none_read st.0) (node, (refl, refl, st))
+  agrees in_versions (Some (record_is.Head console version)) st = rw st.1 (console.0, version.0, (refl, refl, (omega arith, refl)))
+  agrees in_versions (Some record_is.Hub) st = rw (none_read st.0)
+  agrees in_versions (Some record_is.End) st = rw (none_read st.0)
+  agrees in_heads (Some (record_is.Start settings)) st = refl
+  agrees in_heads (Some (record_is.Version node)) st = rw (some_read st.0)
+  agrees in_heads (Some (record_is.Head console version)) st = rw st.1 (console.0, version.0, (refl, refl, (omega arith, refl)))
+  agrees in_heads (Some record_is.Hub) st = rw (some_read st.0, st.1) (refl, refl, (st.0, refl))
+  agrees in_heads (Some record_is.End) st = rw (some_read st.0) (refl, refl)
+  agrees past_hub (Some (record_is.Start settings)) st = refl
+  agrees past_hub (Some (record_is.Version node)) st = rw (some_read st.0)
+  agrees past_hub (Some (record_is.Head console version)) st = rw st.1
+  agrees past_hub (Some record_is.Hub) st = rw (some_read st.0, st.1)
+  agrees past_hub (Some record_is.End) st = rw (some_read st.0) (refl, refl)
 
 -- nothing is read where no byte is left
 read_nothing : (k : ℕ) (stage : Stage) (t : Content) → read_on k stage t [] ≡ none
@@ -117,8 +114,8 @@ read_nothing (suc k) in_heads t = refl
 read_nothing (suc k) past_hub t = refl
 
 -- what is read from a place on, where nothing was read before
-abbrev pub scan_from : List ℕ → ℕ → Settings → Scanned
-scan_from tape start settings = scanned_of (read_on (length tape) in_versions (record { settings = settings; versions = []; heads = [] }) (drop start tape))
+abbrev pub scan_from : List ℕ → ℕ → Settings → Found Counts
+scan_from tape start settings = counted_of (read_on (length tape) in_versions (record { settings = settings; versions = []; heads = [] }) (drop start tape))
 
 -- the loop: what was counted, and what the room is set to so far, is what some content has, and what is left to read behind that content is
 -- what was to read at the start, with a step left for each byte that is left
@@ -133,7 +130,7 @@ pub record Scanning (tape : List ℕ) (start : ℕ) (settings : Settings) (at ve
   set : told.settings ≡ so_far
   versioned : length told.versions ≡ versions
   headed : length told.heads ≡ heads
-  same : scan_from tape start settings ≡ scanned_of (read_on steps stage told (drop at tape))
+  same : scan_from tape start settings ≡ counted_of (read_on steps stage told (drop at tape))
 
 pub scanning_starts : (tape : List ℕ) (start : ℕ) (settings : Settings) → start ≤ length tape → settings.hub ≡ false → Scanning tape start settings start 0 0 settings
 scanning_starts tape start settings h no-hub =
@@ -153,28 +150,28 @@ scanning_starts tape start settings h no-hub =
 
 module _ {tape : List ℕ} {start : ℕ} {settings : Settings} {at versions heads : ℕ} {so_far : Settings} (i : Scanning tape start settings at versions heads so_far) where
   -- no byte is left
-  pub scanning_out : length tape ≤ at → Broken ≡ scan_from tape start settings
+  pub scanning_out : length tape ≤ at → None ≡ scan_from tape start settings
   scanning_out h = sym (i.same ∙ rw (drop_of_length-le tape h, read_nothing))
 
-  module _ (more : at < length tape) {x : Record} (e : x ≡ record_in (drop at tape)) {kind : Role} (is : kind ≡ role_of x heads so_far.hub) where
+  module _ (more : at < length tape) {x : Found Record} (e : x ≡ record_in (drop at tape)) {kind : Found Role} (is : kind ≡ role_of x heads so_far.hub) where
     abbrev rest : List ℕ
     rest = drop at tape
 
     abbrev after : Follow
     after = after_record i.stage i.told (record_in rest)
 
-    agreed : (found : Role) → kind ≡ found → Agrees i.told (record_in rest) found after
+    agreed : (found : Found Role) → kind ≡ found → Agrees i.told (record_in rest) found after
     agreed found k =
         let sort : role_of (record_in rest) (length i.told.heads) i.told.settings.hub ≡ found = rw (i.headed, i.set, ← e) (sym is ∙ k) in
         rw sort at (agrees i.told i.stage (record_in rest) i.staged)
 
-    step : (f : Follow) → after ≡ f → scan_from tape start settings ≡ scanned_of (go (i.steps - 1) i.told rest f)
+    step : (f : Follow) → after ≡ f → scan_from tape start settings ≡ counted_of (go (i.steps - 1) i.told rest f)
     step f a =
         let fuel : i.steps ≡ suc (i.steps - 1) = omega (arith, i.enough) in
-        i.same ∙ ap (λ (k : ℕ). scanned_of (read_on k i.stage i.told rest)) fuel ∙ ap scanned_of (read_step _ i.stage i.told rest f a)
+        i.same ∙ ap (λ (k : ℕ). counted_of (read_on k i.stage i.told rest)) fuel ∙ ap counted_of (read_step _ i.stage i.told rest f a)
 
-    pub scanning_refused : kind ≡ Misplaced → Broken ≡ scan_from tape start settings
-    scanning_refused k = sym (step refuse (agreed Misplaced k))
+    pub scanning_refused : kind ≡ None → None ≡ scan_from tape start settings
+    scanning_refused k = sym (step refuse (agreed None k))
 
     module _ {next : ℕ} (n : next ≡ place_after tape at) where
       -- what the place past a record is, where a record is there
@@ -205,22 +202,22 @@ module _ {tape : List ℕ} {start : ℕ} {settings : Settings} {at versions head
             },
           )
 
-      pub scanning_version : next ≤ length tape → kind ≡ Version → (at < next) × Scanning tape start settings next (versions + 1) heads so_far
+      pub scanning_version : next ≤ length tape → kind ≡ Some Version → (at < next) × Scanning tape start settings next (versions + 1) heads so_far
       scanning_version w k =
-          let a = agreed Version k in
+          let a = agreed (Some Version) k in
           goes_on w in_versions (with_version i.told a.0) (versions + 1) heads so_far a.1 i.set (omega (arith, i.versioned)) i.headed (omega arith)
 
-      pub scanning_head : next ≤ length tape → kind ≡ Head → (at < next) × Scanning tape start settings next versions (heads + 1) so_far
+      pub scanning_head : next ≤ length tape → kind ≡ Some Head → (at < next) × Scanning tape start settings next versions (heads + 1) so_far
       scanning_head w k =
-          let a = agreed Head k in
+          let a = agreed (Some Head) k in
           goes_on w in_heads (with_head i.told a.0 a.1) versions (heads + 1) so_far a.2 i.set i.versioned (omega (arith, i.headed)) (omega arith)
 
-      pub scanning_hub : next ≤ length tape → kind ≡ Hub → (at < next) × Scanning tape start settings next versions heads (with_hub so_far)
-      scanning_hub w k = goes_on w past_hub (with_hub_read i.told) versions heads (with_hub so_far) (agreed Hub k) (ap with_hub i.set) i.versioned i.headed (omega arith)
+      pub scanning_hub : next ≤ length tape → kind ≡ Some Hub → (at < next) × Scanning tape start settings next versions heads (with_hub so_far)
+      scanning_hub w k = goes_on w past_hub (with_hub_read i.told) versions heads (with_hub so_far) (agreed (Some Hub) k) (ap with_hub i.set) i.versioned i.headed (omega arith)
 
-      pub scanning_ended : kind ≡ End → (y : Scanned) → y ≡ cond (eqb next (length tape)) (Whole so_far versions heads) Broken → y ≡ scan_from tape start settings
+      pub scanning_ended : kind ≡ Some End → (y : Found Counts) → y ≡ cond (eqb next (length tape)) (Some (record { settings = so_far; versions = versions; heads = heads })) None → y ≡ scan_from tape start settings
       scanning_ended k y h =
-          let a = agreed End k in
+          let a = agreed (Some End) k in
           let place = ahead (here rest a.0) in
           let last : eqb next (length tape) ≡ eqb (length rest) (record_length rest) =
           bool_ext _ _ (λ p. eq-eqb (length rest) (record_length rest) (omega (arith, eqb-true next (length tape) p, length-drop at tape)))
@@ -228,24 +225,42 @@ module _ {tape : List ℕ} {start : ℕ} {settings : Settings} {at versions head
           in
           h ∙ rw (last, ← i.set, ← i.versioned, ← i.headed) (answer (eqb (length rest) (record_length rest))) ∙ sym (step finish a.1)
         where
-          answer : (b : Bool) → cond b (scanned_of (some i.told)) Broken ≡ scanned_of (cond b (some i.told) none)
+          answer : (b : Bool) → cond b (counted_of (some i.told)) None ≡ counted_of (cond b (some i.told) none)
           answer true = refl
           answer false = refl
 
 -- the start of a tape says nothing of a hub
-pub start_without_hub : (tape : List ℕ) {settings : Settings} {x : Record} → Bytes tape → x ≡ record_in tape → x ≡ record_is.Start settings → settings.hub ≡ false
-start_without_hub tape {settings} bytes e start = (record_whole (record_is.Start settings) tape bytes (sym e ∙ start) refl).1.1
+pub start_without_hub : (tape : List ℕ) {settings : Settings} → Bytes tape → record_in tape ≡ Some (record_is.Start settings) → settings.hub ≡ false
+start_without_hub tape {settings} bytes start = (record_whole (record_is.Start settings) tape bytes start).1.1
 
--- the scan of a whole tape
-pub scan_started : (tape : List ℕ) {settings : Settings} {next : ℕ} {x : Record} → x ≡ record_in tape → x ≡ record_is.Start settings → next ≡ place_after tape 0 → (r : Scanned)
-    → r ≡ scan_from tape next settings → r ≡ scanned_of (content_of tape)
+-- a whole tape is scanned from behind its start on
+pub scan_started : (tape : List ℕ) {settings : Settings} {next : ℕ} → record_in tape ≡ Some (record_is.Start settings) → next ≡ place_after tape 0
+    → scan_from tape next settings ≡ counted_of (content_of tape)
 unfolding content_of
-scan_started tape {settings} {next} e start n r h =
-    let is : record_in tape ≡ record_is.Start settings = sym e ∙ start in
+scan_started tape {settings} {next} is n =
     let there = here tape (ap record_refusal is) in
     let place : next ≡ record_length tape = n ∙ rw (le-ltb (length tape) (record_length tape) there.whole) (omega arith) in
-    h ∙ rw (place, is)
+    rw (place, is)
 
-pub scan_unstarted : (tape : List ℕ) {x : Record} → x ≡ record_in tape → NoStart x → Broken ≡ scanned_of (content_of tape)
+-- what begins otherwise says nothing
+pub scan_unstarted : (tape : List ℕ) → ((settings : Settings) → record_in tape ≡ Some (record_is.Start settings) → ⊥) → content_of tape ≡ none
 unfolding content_of
-scan_unstarted tape {x} e no_start = ap scanned_of (not_read x no_start (length tape) (drop (record_length tape) tape)) ∙ rw (← e)
+scan_unstarted tape no_start = go (record_in tape) no_start
+  where
+    go : (found : Found Record) → ((settings : Settings) → found ≡ Some (record_is.Start settings) → ⊥) → read_from (length tape) (drop (record_length tape) tape) found ≡ none
+    go None h = refl
+    go (Some (record_is.Start settings)) h = absurd (h settings refl)
+    go (Some (record_is.Version node)) h = refl
+    go (Some (record_is.Head console version)) h = refl
+    go (Some record_is.Hub) h = refl
+    go (Some record_is.End) h = refl
+
+-- what was counted says what the tape says
+pub counted_none : (o : Option Content) → counted_of o ≡ None → o ≡ none
+counted_none none e = refl
+counted_none (some t) e = absurd (let z : ◌≡◌ {A = ℕ} 0 1 = cc in omega arith)
+
+pub counted_some : (o : Option Content) {c : Counts} → counted_of o ≡ Some c
+    → (o ≡ some (told o)) × (c.settings ≡ (told o).settings) × (c.versions ≡ length (told o).versions) × (c.heads ≡ length (told o).heads)
+counted_some none e = absurd (let z : ◌≡◌ {A = ℕ} 0 1 = cc in omega arith)
+counted_some (some t) e = (refl, cc, cc, cc)

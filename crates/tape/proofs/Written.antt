@@ -12,9 +12,10 @@ use lib.ListN.{length, drop, drop_of_length-le}
 use lib.Seq.{get_or-drop}
 use borrow.Author.Tests.{eqb-true}
 use Rattle.buffer.proofs.Parts.{Bytes}
+use Rattle.std.specs.Prelude.{Option as Found, Some, None}
 use Rattle.tape.specs.declared.Record.{Record}
-use Rattle.tape.specs.declared.Record.TheVariants.{Start, Version, Head, Hub, End, Broken}
-use Rattle.tape.specs.Record.{record_in, record_length, record_bytes, record_refusal}
+use Rattle.tape.specs.declared.Record.TheVariants.{Start, Version, Head, Hub, End}
+use Rattle.tape.specs.Record.{record_in, record_length, record_bytes}
 use Rattle.tape.specs.Tape.{Content, Stage, in_versions, in_heads, past_hub, Follow, go_on, finish, refuse, after_record, read_on, read_from, content_of, with_head, version_records, hub_records}
 use Rattle.tape.proofs.Records.{Fits, record_whole}
 use Rattle.tape.proofs.Heads.{head_bytes}
@@ -43,36 +44,34 @@ NotYet in_versions t = (t.heads ≡ []) × (t.settings.hub ≡ false)
 NotYet in_heads t = t.settings.hub ≡ false
 NotYet past_hub t = Unit {0}
 
--- what a record makes of what was read: it is written after it, or it is the end
-abbrev Adds : Content → Record → Follow → Type 0
-Adds t x (go_on next more) =
-    (record_refusal x ≡ 0) × (written more ≡ written t ++ record_bytes x) × NotYet next more × (Fits x → ContentFits t → ContentFits more)
-Adds t x finish = x ≡ End
-Adds t x refuse = Unit {0}
+-- what is found makes of what was read: a record is written after it, or it is the end
+abbrev Adds : Content → Found Record → Follow → Type 0
+Adds t found (go_on next more) =
+    (x : Record) × (found ≡ Some x) × (written more ≡ written t ++ record_bytes x) × NotYet next more × (Fits x → ContentFits t → ContentFits more)
+Adds t found finish = found ≡ Some End
+Adds t found refuse = Unit {0}
 
-head_adds : (t : Content) (h : ℕ × ℕ) → t.settings.hub ≡ false → Adds t (record_of_head h) (go_on in_heads (with_head t h.0 h.1))
-head_adds t h p = (refl, simp (p, append_assoc, append-nil), p, λ f c. record { versions = c.versions; heads = (f, c.heads) })
+head_adds : (t : Content) (h : ℕ × ℕ) → t.settings.hub ≡ false → Adds t (Some (record_of_head h)) (go_on in_heads (with_head t h.0 h.1))
+head_adds t h p = (record_of_head h, refl, simp (p, append_assoc, append-nil), p, λ f c. record { versions = c.versions; heads = (f, c.heads) })
 
-adds : (stage : Stage) (t : Content) (x : Record) → NotYet stage t → Adds t x (after_record stage t x)
+adds : (stage : Stage) (t : Content) (found : Found Record) → NotYet stage t → Adds t found (after_record stage t found)
 unfolding after_record version_records
-adds in_versions t (Start settings) p = tt
-adds in_versions t (Version node) p = (refl, simp (p.0, p.1, append_assoc, append-nil), p, λ f c. record { versions = (f, c.versions); heads = c.heads })
-adds in_versions t (Head console version) p = head_adds t (console.0, version.0) p.1
-adds in_versions t Hub p = tt
-adds in_versions t End p = tt
-adds in_versions t Broken p = tt
-adds in_heads t (Start settings) p = tt
-adds in_heads t (Version node) p = tt
-adds in_heads t (Head console version) p = head_adds t (console.0, version.0) p
-adds in_heads t Hub p = (refl, simp (p, append_assoc, append-nil), tt, λ f c. record { versions = c.versions; heads = c.heads })
-adds in_heads t End p = refl
-adds in_heads t Broken p = tt
-adds past_hub t (Start settings) p = tt
-adds past_hub t (Version node) p = tt
-adds past_hub t (Head console version) p = tt
-adds past_hub t Hub p = tt
-adds past_hub t End p = refl
-adds past_hub t Broken p = tt
+adds stage t None p = tt
+adds in_versions t (Some (Start settings)) p = tt
+adds in_versions t (Some (Version node)) p = (Version node, refl, simp (p.0, p.1, append_assoc, append-nil), p, λ f c. record { versions = (f, c.versions); heads = c.heads })
+adds in_versions t (Some (Head console version)) p = head_adds t (console.0, version.0) p.1
+adds in_versions t (Some Hub) p = tt
+adds in_versions t (Some End) p = tt
+adds in_heads t (Some (Start settings)) p = tt
+adds in_heads t (Some (Version node)) p = tt
+adds in_heads t (Some (Head console version)) p = head_adds t (console.0, version.0) p
+adds in_heads t (Some Hub) p = (Hub, refl, simp (p, append_assoc, append-nil), tt, λ f c. record { versions = c.versions; heads = c.heads })
+adds in_heads t (Some End) p = refl
+adds past_hub t (Some (Start settings)) p = tt
+adds past_hub t (Some (Version node)) p = tt
+adds past_hub t (Some (Head console version)) p = tt
+adds past_hub t (Some Hub) p = tt
+adds past_hub t (Some End) p = refl
 
 bytes_drop : (n : ℕ) (t : List ℕ) → Bytes t → Bytes (drop n t)
 bytes_drop n t bytes k = rw get_or-drop (bytes (n + k))
@@ -96,17 +95,17 @@ kept (suc k) stage t d rest p bytes e = at (after_record stage t (record_in rest
         → (written t ++ rest ≡ written d ++ record_bytes End) × (ContentFits t → ContentFits d))
         → (written t ++ rest ≡ written d ++ record_bytes End) × (ContentFits t → ContentFits d)
     at (go_on next more) q add on =
-        let whole = record_whole (record_in rest) rest bytes refl add.0 in
+        let whole = record_whole add.0 rest bytes add.1 in
         let left : List ℕ = drop (record_length rest) rest in
         let read-on : read_on k next more left ≡ some d = sym (read_step k stage t rest (go_on next more) q) ∙ e in
-        let later = on next more d left add.2 (bytes_drop (record_length rest) rest bytes) read-on in
+        let later = on next more d left add.3 (bytes_drop (record_length rest) rest bytes) read-on in
         let same : written t ++ rest ≡ written d ++ record_bytes End =
-        cc (whole.0, later.0, add.1, append_assoc (written t) (record_bytes (record_in rest)) left)
+        cc (whole.0, later.0, add.2, append_assoc (written t) (record_bytes add.0) left)
         in
-        (same, λ f. later.1 (add.3 whole.1 f))
+        (same, λ f. later.1 (add.4 whole.1 f))
     at finish q add on =
         let last = closed (eqb (length rest) (record_length rest)) t d (sym (read_step k stage t rest finish q) ∙ e) in
-        let whole = (record_whole End rest bytes add refl).0 in
+        let whole = (record_whole End rest bytes add).0 in
         let ends = eqb-true (length rest) (record_length rest) last.0 in
         let none_left = drop_of_length-le rest {i = record_length rest} (omega arith) in
         (cc (last.1, append-nil (record_bytes End)), λ f. subst ContentFits last.1 f)
@@ -117,21 +116,21 @@ whole_tape : (t : List ℕ) (c : Content) → Bytes t → content_of t ≡ some 
 unfolding content_of version_records
 whole_tape t c bytes e = at (record_in t) refl e
   where
-    at : (x : Record) → record_in t ≡ x → read_from (length t) (drop (record_length t) t) x ≡ some c
+    at : (found : Found Record) → record_in t ≡ found → read_from (length t) (drop (record_length t) t) found ≡ some c
         → (t ≡ written c ++ record_bytes End) × ContentFits c
-    at (Start settings) q e =
-        let whole = record_whole (Start settings) t bytes q refl in
+    at None q e = nothing_read e
+    at (Some (Start settings)) q e =
+        let whole = record_whole (Start settings) t bytes q in
         let start : Content = record { settings = settings; versions = []; heads = [] } in
         let nothing-more : hub_records settings ≡ [] = ap (λ (hub : Bool). cond hub (record_bytes Hub) []) whole.1.1 in
         let rest = kept (length t) in_versions start c (drop (record_length t) t) (refl, whole.1.1) (bytes_drop (record_length t) t bytes) e in (
           cc (whole.0, rest.0, nothing-more),
           rest.1 (record { versions = tt; heads = tt }),
         )
-    at (Version node) q e = nothing_read e
-    at (Head console version) q e = nothing_read e
-    at Hub q e = nothing_read e
-    at End q e = nothing_read e
-    at Broken q e = nothing_read e
+    at (Some (Version node)) q e = nothing_read e
+    at (Some (Head console version)) q e = nothing_read e
+    at (Some Hub) q e = nothing_read e
+    at (Some End) q e = nothing_read e
 
 pub tape_written : (t : List ℕ) (c : Content) → Bytes t → content_of t ≡ some c → t ≡ written c ++ record_bytes End
 tape_written t c bytes e = (whole_tape t c bytes e).0

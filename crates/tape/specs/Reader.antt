@@ -1,5 +1,6 @@
 -- "The reading place moves past one whole record at a time."
 use Rattle.std.specs.Prelude.{ℕ, suc, ◌+◌, ◌-◌, ◌*◌, Bool, cond, ◌||◌, List, eqb, ltb, length, get_or, drop}
+use Rattle.std.specs.Prelude.{Option as Found, Some, None}
 use Rattle.std.proofs.Math.Option.{Option, none, some}
 use Rattle.graph.specs.declared.Node.{Node}
 use Rattle.graph.specs.Graph.{Graph, merge}
@@ -8,8 +9,7 @@ use Rattle.tape.specs.declared.Record.{Record}
 use Rattle.tape.specs.declared.Record.TheVariants as record_is
 use Rattle.tape.specs.declared.scan.Role.{Role}
 use Rattle.tape.specs.declared.scan.Role.TheVariants as role_is
-use Rattle.tape.specs.declared.scan.Scanned.{Scanned}
-use Rattle.tape.specs.declared.scan.Scanned.TheVariants.{Whole, Broken}
+use Rattle.tape.specs.declared.scan.Counts.{Counts}
 use Rattle.tape.specs.Record.{record_length, no_tape}
 use Rattle.tape.specs.Tape.{Content, version_records}
 
@@ -17,23 +17,23 @@ use Rattle.tape.specs.Tape.{Content, version_records}
 abbrev pub place_after : List ℕ → ℕ → ℕ
 place_after t at = cond (ltb (length (drop at t)) (record_length (drop at t))) at (at + record_length (drop at t))
 
--- the node of a version's record; of another, which no caller asks for, a merge of version 0 with itself
-abbrev pub node_on : Record → Node
-node_on (record_is.Start settings) = merge 0 0
-node_on (record_is.Version node) = node
-node_on (record_is.Head console version) = merge 0 0
-node_on record_is.Hub = merge 0 0
-node_on record_is.End = merge 0 0
-node_on record_is.Broken = merge 0 0
+-- the node of a version's record; of another or none, which no caller asks for, a merge of version 0 with itself
+abbrev pub node_on : Found Record → Node
+node_on None = merge 0 0
+node_on (Some (record_is.Start settings)) = merge 0 0
+node_on (Some (record_is.Version node)) = node
+node_on (Some (record_is.Head console version)) = merge 0 0
+node_on (Some record_is.Hub) = merge 0 0
+node_on (Some record_is.End) = merge 0 0
 
--- console and version of a head's record; of another, which no caller asks for, 0 and 0
-abbrev pub head_on : Record → ℕ × ℕ
-head_on (record_is.Start settings) = (0, 0)
-head_on (record_is.Version node) = (0, 0)
-head_on (record_is.Head console version) = (console.0, version.0)
-head_on record_is.Hub = (0, 0)
-head_on record_is.End = (0, 0)
-head_on record_is.Broken = (0, 0)
+-- console and version of a head's record; of another or none, which no caller asks for, 0 and 0
+abbrev pub head_on : Found Record → ℕ × ℕ
+head_on None = (0, 0)
+head_on (Some (record_is.Start settings)) = (0, 0)
+head_on (Some (record_is.Version node)) = (0, 0)
+head_on (Some (record_is.Head console version)) = (console.0, version.0)
+head_on (Some record_is.Hub) = (0, 0)
+head_on (Some record_is.End) = (0, 0)
 
 -- the first k versions after version 0 of a graph, the newest first
 abbrev pub first_versions : ℕ → Graph → Graph
@@ -72,21 +72,26 @@ version_place g k = start_length + length (version_records (first_versions k g))
 abbrev pub head_place : Content → ℕ → ℕ
 head_place t j = version_place t.versions (length t.versions) + head_length * j
 
--- the scan's answer: what the room is set to, and how many versions and heads it has, where it "is such a sequence of whole records"
-abbrev pub scanned_of : Option Content → Scanned
-scanned_of none = Broken
-scanned_of (some t) = Whole t.settings (length t.versions) (length t.heads)
+-- the scan's answer: what the tape says, where it "is such a sequence of whole records"
+abbrev pub scanned_of : Option Content → Found Content
+scanned_of none = None
+scanned_of (some t) = Some t
+
+-- and what it counts on the way: what the room is set to, and how many versions and heads it has
+abbrev pub counted_of : Option Content → Found Counts
+counted_of none = None
+counted_of (some t) = Some (record { settings = t.settings; versions = length t.versions; heads = length t.heads })
 
 -- the paper's number for the scan's answer: 0, or that of a tape which is none
-abbrev pub scan_refusal : Scanned → ℕ
-scan_refusal (Whole settings versions heads) = 0
-scan_refusal Broken = no_tape
+abbrev pub scan_refusal : Found Content → ℕ
+scan_refusal None = no_tape
+scan_refusal (Some t) = 0
 
--- what a record is to the scan after so many heads, and after the hub's or not
-unfoldable pub role_of : Record → ℕ → Bool → Role
-role_of (record_is.Start settings) heads hub = role_is.Misplaced
-role_of (record_is.Version node) heads hub = cond (eqb heads 0) role_is.Version role_is.Misplaced
-role_of (record_is.Head console version) heads hub = cond hub role_is.Misplaced role_is.Head
-role_of record_is.Hub heads hub = cond (eqb heads 0 || hub) role_is.Misplaced role_is.Hub
-role_of record_is.End heads hub = cond (eqb heads 0) role_is.Misplaced role_is.End
-role_of record_is.Broken heads hub = role_is.Misplaced
+-- what a record is to the scan after so many heads, and after the hub's or not; one that may not stand there is nothing to it
+unfoldable pub role_of : Found Record → ℕ → Bool → Found Role
+role_of None heads hub = None
+role_of (Some (record_is.Start settings)) heads hub = None
+role_of (Some (record_is.Version node)) heads hub = cond (eqb heads 0) (Some role_is.Version) None
+role_of (Some (record_is.Head console version)) heads hub = cond hub None (Some role_is.Head)
+role_of (Some record_is.Hub) heads hub = cond (eqb heads 0 || hub) None (Some role_is.Hub)
+role_of (Some record_is.End) heads hub = cond (eqb heads 0) None (Some role_is.End)

@@ -1,5 +1,5 @@
 -- The records of a tape: the one that stands at the front of some bytes, and the bytes of each.
-use Rattle.std.specs.Prelude.{ℕ, cond, List, [], ◌∷◌, ◌++◌, eqb, ltb, length, get_or}
+use Rattle.std.specs.Prelude.{ℕ, cond, List, [], ◌∷◌, ◌++◌, eqb, ltb, length, get_or, Option, Some, None}
 use Rattle.buffer.specs.Field.{byte, word}
 use Rattle.graph.specs.declared.Node.{Node}
 use Rattle.graph.specs.declared.Node.TheVariants.{Entry, Merge}
@@ -8,26 +8,26 @@ use Rattle.command.specs.declared.Operands.{Operands}
 use Rattle.command.specs.Code.{start_record, entry_record, merge_record, head_record, end_record, hub_record, shape_of, length_of, operands_of}
 use Rattle.room.specs.Room.{open_settings}
 use Rattle.tape.specs.declared.Record.{Record}
-use Rattle.tape.specs.declared.Record.TheVariants.{Start, Version, Head, Hub, End, Broken}
+use Rattle.tape.specs.declared.Record.TheVariants.{Start, Version, Head, Hub, End}
 
 -- how many bytes the record at the front takes
 abbrev pub record_length : List ℕ → ℕ
 record_length t = length_of (shape_of (get_or t 0 0))
 
 -- the record of a code and what follows it; no other code is a record's. That console 0 is the hub is said by a record of its own.
-unfoldable pub record_from : ℕ → Operands → Record
+unfoldable pub record_from : ℕ → Operands → Option Record
 record_from code o =
-    cond (eqb code start_record) (Start (open_settings o.first))
-    (cond (eqb code entry_record) (Version (entry o.first o.second o.third o.fourth))
-    (cond (eqb code merge_record) (Version (merge o.first o.second))
-    (cond (eqb code head_record) (Head (record { 0 = o.first }) (record { 0 = o.second }))
-    (cond (eqb code hub_record) Hub
-    (cond (eqb code end_record) End Broken)))))
+    cond (eqb code start_record) (Some (Start (open_settings o.first)))
+    (cond (eqb code entry_record) (Some (Version (entry o.first o.second o.third o.fourth)))
+    (cond (eqb code merge_record) (Some (Version (merge o.first o.second)))
+    (cond (eqb code head_record) (Some (Head (record { 0 = o.first }) (record { 0 = o.second })))
+    (cond (eqb code hub_record) (Some Hub)
+    (cond (eqb code end_record) (Some End) None)))))
 
 -- the record at the front of a tape, where it is there whole
-unfoldable pub record_in : List ℕ → Record
+unfoldable pub record_in : List ℕ → Option Record
 record_in t =
-    cond (ltb (length t) (record_length t)) Broken
+    cond (ltb (length t) (record_length t)) None
     (record_from (get_or t 0 0) (operands_of (shape_of (get_or t 0 0)) t))
 
 -- The paper's code and values for each record. "21: parent (16 bits), entry code 02 to 08 (8), strip (8), operand (16; ..). 22:
@@ -43,7 +43,11 @@ record_bytes (Version node) = version_bytes node
 record_bytes (Head console version) = head_record ∷ byte console.0 ∷ word version.0
 record_bytes Hub = hub_record ∷ []
 record_bytes End = end_record ∷ []
-record_bytes Broken = []
+
+-- the bytes of a record where one is found, else none
+abbrev pub found_bytes : Option Record → List ℕ
+found_bytes None = []
+found_bytes (Some x) = record_bytes x
 
 -- no record takes more bytes than an entry's
 abbrev pub longest_record : ℕ
@@ -53,11 +57,7 @@ longest_record = length (version_bytes (entry 0 0 0 0))
 abbrev pub no_tape : ℕ
 no_tape = 7
 
--- the paper's number for each record: 0, or that of a tape which is none
-abbrev pub record_refusal : Record → ℕ
-record_refusal (Start settings) = 0
-record_refusal (Version node) = 0
-record_refusal (Head console version) = 0
-record_refusal Hub = 0
-record_refusal End = 0
-record_refusal Broken = no_tape
+-- the paper's number for what is found: 0 for a record, else that of a tape which is none
+abbrev pub record_refusal : Option Record → ℕ
+record_refusal None = no_tape
+record_refusal (Some x) = 0

@@ -2,16 +2,17 @@
 -- byte." "The tape carries 25 just before 24", where console 0 is the hub. The tape of a room, the grammar of tapes, the room of a tape, and the
 -- refusals 7 to 10.
 use Rattle.std.specs.Prelude.{ℕ, zero, suc, Bool, true, false, cond, not, ◌&&◌, List, [], ◌∷◌, ◌++◌, eqb, leb, ltb, length, drop, set, replicate}
+use Rattle.std.specs.Prelude.{Option as Found, Some, None}
 use Rattle.std.proofs.Math.Option.{Option, none, some}
 use Rattle.graph.specs.declared.Node.{Node}
 use Rattle.graph.specs.Graph.{Graph, version_count, every_version, parents_lower}
 use Rattle.refusal.specs.Refusal.{◌when◌, first_refusal}
 use Rattle.command.specs.Code.{console_count, is_console}
-use Rattle.room.specs.Room.{Room, with_hub}
+use Rattle.room.specs.Room.{Room, open_settings, with_hub}
 use Rattle.room.specs.declared.Settings.{Settings}
 use Rattle.room.specs.Sound.{settings_in_range, entry_in_range, sound_room}
 use Rattle.tape.specs.declared.Record.{Record}
-use Rattle.tape.specs.declared.Record.TheVariants.{Start, Version, Head, Hub, End, Broken}
+use Rattle.tape.specs.declared.Record.TheVariants.{Start, Version, Head, Hub, End}
 use Rattle.tape.specs.Record.{record_in, record_length, version_bytes, record_bytes, no_tape}
 
 -- The tape of a room: "one record per version from 1 upward"
@@ -62,25 +63,23 @@ pub data Follow : Type 0 where
   finish : Follow
   refuse : Follow
 
-unfoldable pub after_record : Stage → Content → Record → Follow
-after_record in_versions t (Start settings) = refuse
-after_record in_versions t (Version node) = go_on in_versions (with_version t node)
-after_record in_versions t (Head console version) = go_on in_heads (with_head t console.0 version.0)
-after_record in_versions t Hub = refuse
-after_record in_versions t End = refuse
-after_record in_versions t Broken = refuse
-after_record in_heads t (Start settings) = refuse
-after_record in_heads t (Version node) = refuse
-after_record in_heads t (Head console version) = go_on in_heads (with_head t console.0 version.0)
-after_record in_heads t Hub = go_on past_hub (with_hub_read t)
-after_record in_heads t End = finish
-after_record in_heads t Broken = refuse
-after_record past_hub t (Start settings) = refuse
-after_record past_hub t (Version node) = refuse
-after_record past_hub t (Head console version) = refuse
-after_record past_hub t Hub = refuse
-after_record past_hub t End = finish
-after_record past_hub t Broken = refuse
+unfoldable pub after_record : Stage → Content → Found Record → Follow
+after_record stage t None = refuse
+after_record in_versions t (Some (Start settings)) = refuse
+after_record in_versions t (Some (Version node)) = go_on in_versions (with_version t node)
+after_record in_versions t (Some (Head console version)) = go_on in_heads (with_head t console.0 version.0)
+after_record in_versions t (Some Hub) = refuse
+after_record in_versions t (Some End) = refuse
+after_record in_heads t (Some (Start settings)) = refuse
+after_record in_heads t (Some (Version node)) = refuse
+after_record in_heads t (Some (Head console version)) = go_on in_heads (with_head t console.0 version.0)
+after_record in_heads t (Some Hub) = go_on past_hub (with_hub_read t)
+after_record in_heads t (Some End) = finish
+after_record past_hub t (Some (Start settings)) = refuse
+after_record past_hub t (Some (Version node)) = refuse
+after_record past_hub t (Some (Head console version)) = refuse
+after_record past_hub t (Some Hub) = refuse
+after_record past_hub t (Some End) = finish
 
 -- "The reading place moves past one whole record at a time." The rest of a tape from a place on; no tape has more records than bytes,
 -- which is what the first number is for.
@@ -93,17 +92,25 @@ read_on (suc k) stage t rest =
       | refuse ↦ none
     ]
 
-abbrev pub read_from : ℕ → List ℕ → Record → Option Content
-read_from k rest (Start settings) = read_on k in_versions (record { settings = settings; versions = []; heads = [] }) rest
-read_from k rest (Version node) = none
-read_from k rest (Head console version) = none
-read_from k rest Hub = none
-read_from k rest End = none
-read_from k rest Broken = none
+abbrev pub read_from : ℕ → List ℕ → Found Record → Option Content
+read_from k rest None = none
+read_from k rest (Some (Start settings)) = read_on k in_versions (record { settings = settings; versions = []; heads = [] }) rest
+read_from k rest (Some (Version node)) = none
+read_from k rest (Some (Head console version)) = none
+read_from k rest (Some Hub) = none
+read_from k rest (Some End) = none
 
 -- what a tape says, where it is "such a sequence of whole records, with at least one head"
 unfoldable pub content_of : List ℕ → Option Content
 content_of t = read_from (length t) (drop (record_length t) t) (record_in t)
+
+-- what a whole tape says; of a broken one, nothing
+abbrev pub told : Option Content → Content
+told none = record { settings = open_settings 0; versions = []; heads = [] }
+told (some t) = t
+
+abbrev pub content_in : List ℕ → Content
+content_in tape = told (content_of tape)
 
 -- The room of a tape: "Boards, bases and commons aren't on the tape; resume works them out."
 unfoldable pub head_slots : List (ℕ × ℕ) → List (Option ℕ)

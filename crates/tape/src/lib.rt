@@ -9,16 +9,23 @@ pub mod lengths;
 mod place;
 pub mod reader;
 pub mod scan;
+pub mod whole;
 pub mod writer;
 
-// A record of the tape; Hub says that console 0 is the room's hub; Broken stands for what is none (a code that is no record's, or too few
-// bytes) and is refused with 7.
-#[derive(Clone, Copy)]
+/// A record of the tape; Hub says that console 0 is the room's hub. A code that is no record's, or too few bytes, is none, and is refused
+/// with 7.
+#[derive(Clone, Copy, Debug, PartialEq, Eq)]
 pub enum Record {
     Start { settings: Settings },
     Version { node: Node },
     Head { console: Console, version: Version },
     Hub,
     End,
-    Broken,
+}
+
+/// What was read of a tape, and the place past it.
+#[derive(Clone, Copy, Debug, PartialEq, Eq)]
+pub struct Read<T> {
+    pub value: T,
+    pub next: usize,
 }

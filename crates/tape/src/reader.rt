@@ -3,63 +3,53 @@ ghost use Rattle.std.specs.Prelude.{◌≡◌, ◌≤◌, length, drop};
 ghost use Rattle.tape.specs.Record.{record_in};
 ghost use Rattle.tape.specs.Reader.{place_after, node_on, head_on};
 
-use crate::Record;
 use crate::place::read_at;
+use crate::{Read, Record};
 use graph::{Console, Node, Version};
 
-// A version that was read, and the place past its record.
-#[derive(Clone, Copy)]
-pub struct VersionRead {
-    pub node: Node,
-    pub next: usize,
-}
-
-// A head that was read, and the place past its record.
-#[derive(Clone, Copy)]
-pub struct HeadRead {
+/// A head that a tape says: a console, and the version that it is on.
+#[derive(Clone, Copy, Debug, PartialEq, Eq)]
+pub struct Head {
     pub console: Console,
     pub version: Version,
-    pub next: usize,
 }
 
-// Reads the version whose record stands at a place. A caller knows that a version's does.
-pub fn read_version(tape: &[u8], at: usize) -> VersionRead
+/// Reads the version whose record stands at a place. A caller knows that a version's does.
+pub fn read_version(tape: &[u8], at: usize) -> Read<Node>
     requires { at ≤ length tape.now }
-    ensures { (result.node ≡ node_on (record_in (drop at tape.now))) × (result.next ≡ place_after tape.now at) × (result.next ≤ length tape.now) }
+    ensures { (result.value ≡ node_on (record_in (drop at tape.now))) × (result.next ≡ place_after tape.now at) × (result.next ≤ length tape.now) }
 {
-    let taken = read_at(tape, at);
-    let found = taken.found;
-    let next = taken.next;
-    let Record::Version { node } = found else {
-        return VersionRead {
-            node: Node::Merge {
-                receiver: Version(0),
-                giver: Version(0),
-            },
-            next,
-        };
+    let read = read_at(tape, at);
+    let found = read.value;
+    let value = match found {
+        Some(Record::Version { node }) => node,
+        _ => Node::Merge {
+            receiver: Version(0),
+            giver: Version(0),
+        },
     };
-    VersionRead { node, next }
+    Read {
+        value,
+        next: read.next,
+    }
 }
 
-// Reads the head whose record stands at a place. A caller knows that a head's does.
-pub fn read_head(tape: &[u8], at: usize) -> HeadRead
+/// Reads the head whose record stands at a place. A caller knows that a head's does.
+pub fn read_head(tape: &[u8], at: usize) -> Read<Head>
     requires { at ≤ length tape.now }
-    ensures { (result.console.0 ≡ (head_on (record_in (drop at tape.now))).0) × (result.version.0 ≡ (head_on (record_in (drop at tape.now))).1) × (result.next ≡ place_after tape.now at) × (result.next ≤ length tape.now) }
+    ensures { (result.value.console.0 ≡ (head_on (record_in (drop at tape.now))).0) × (result.value.version.0 ≡ (head_on (record_in (drop at tape.now))).1) × (result.next ≡ place_after tape.now at) × (result.next ≤ length tape.now) }
 {
-    let taken = read_at(tape, at);
-    let found = taken.found;
-    let next = taken.next;
-    let Record::Head { console, version } = found else {
-        return HeadRead {
+    let read = read_at(tape, at);
+    let found = read.value;
+    let value = match found {
+        Some(Record::Head { console, version }) => Head { console, version },
+        _ => Head {
             console: Console(0),
             version: Version(0),
-            next,
-        };
+        },
     };
-    HeadRead {
-        console,
-        version,
-        next,
+    Read {
+        value,
+        next: read.next,
     }
 }

@@ -6,11 +6,21 @@ use mathlib.Core.List.{List}
 use Rattle.laws.proofs.Logic.{cond_same}
 use mathlib.Core.Option.{Option, none, some}
 use Prim.Native.Nat.{ℕ}
+use Rattle.refusal.specs.Answer.{answer_of}
 use Rattle.refusal.specs.Refusal.{first_refusal}
+use Rattle.refusal.specs.declared.Refusal.{Refusal}
+use Rattle.std.specs.Prelude.{Result, Ok, Err}
+use Rattle.std.specs.Result.{result_and}
+use Rattle.unit.specs.Answers.{reply_of}
 use Rattle.tape.specs.Tape.{Content, content_of}
 use Rattle.resume.specs.Resumed.{resume_refusal, resumed_store}
 use Rattle.unit.specs.Calls.{replied, resume_tests, resumed, resume_outcome}
 use Rattle.unit.proofs.Answered.{Went}
+
+-- a call that counts nothing: its reply has its answer and 0
+pub uncounted : {A : Type 0} (outcome : Result A Refusal) → reply_of (result_and outcome (Ok 0)) ≡ replied (answer_of outcome) 0
+uncounted (Ok _) = refl
+uncounted (Err refusal) = refl
 
 -- what resume refuses, there and here
 resume_refused : (o : Option Content) (store : List ℕ) → resume_refusal o store ≡ first_refusal (resume_tests o store)

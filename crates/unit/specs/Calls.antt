@@ -10,8 +10,7 @@ use Rattle.board.specs.declared.Viewer.{Viewer}
 use Rattle.board.specs.declared.Viewer.TheVariants.{Instructor}
 use Rattle.board.specs.Pane.{pane_of}
 use Rattle.command.specs.declared.Command.{Command}
-use Rattle.command.specs.declared.Decoded.{Decoded}
-use Rattle.command.specs.declared.Decoded.TheVariants.{Whole, Refused}
+use Rattle.std.specs.Prelude.{Result, Ok, Err}
 use Rattle.refusal.specs.Refusal.{◌when◌, first_refusal}
 use Rattle.command.specs.Code.{is_console, is_strip, is_cell}
 use Rattle.command.specs.Decode.{decode}
@@ -62,9 +61,9 @@ abbrev pub command_tests : List ℕ → Command → List (ℕ × Bool)
 command_tests store c = 11 when holds_no_store store ∷ state_tests (room_in store) (version_free (room_in store)) c
 
 -- what was decoded, on a store
-unfoldable pub step_outcome : List ℕ → Decoded → Outcome
-step_outcome store (Refused n) = written n 0 [] store
-step_outcome store (Whole c) =
+unfoldable pub step_outcome : List ℕ → Result Command ℕ → Outcome
+step_outcome store (Err n) = written n 0 [] store
+step_outcome store (Ok c) =
     let room : Room = room_in store in
     let next : List ℕ = encode (step room c) in
     written (first_refusal (command_tests store c)) (clash_count room c) next store

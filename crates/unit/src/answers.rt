@@ -1,33 +1,20 @@
-// Replies, and the numbers of calls in the machine's width.
-ghost use Rattle.std.specs.Prelude.{◌≡◌, ◌<◌, ◌^◌};
-ghost use Rattle.unit.specs.Calls.{replied};
+// Replies: what a call came to, a count or a refusal, in the two numbers that C is told.
+ghost use Rattle.std.specs.Prelude.{◌≡◌};
+ghost use Rattle.unit.specs.Answers.{reply_of};
 
 use crate::Reply;
+use refusal::Refusal;
 
-// The reply of a call that counts nothing: refused with this number, or accepted.
-pub fn reply_of(n: u32) -> Reply
-    ensures { result ≡ replied n 0 }
-{
-    Reply {
-        answer: n,
-        count: 0,
+impl From<Result<u32, Refusal>> for Reply {
+    ghost from_gives = { λ outcome reply. reply ≡ reply_of outcome };
+
+    fn from(outcome: Result<u32, Refusal>) -> Reply {
+        match outcome {
+            Ok(count) => Reply { answer: 0, count },
+            Err(refusal) => Reply {
+                answer: u32::from(refusal),
+                count: 0,
+            },
+        }
     }
-}
-
-// The reply of an accepted call with this count.
-pub fn counted(n: usize) -> Reply
-    requires { n < 2 ^ 32 }
-    ensures { result ≡ replied 0 n }
-{
-    Reply {
-        answer: 0,
-        count: n as u32,
-    }
-}
-
-// A number of a call as a number of the machine's width.
-pub fn size(n: u32) -> usize
-    ensures { result ≡ n }
-{
-    n as usize
 }

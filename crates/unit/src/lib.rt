@@ -3,17 +3,17 @@
 
 mod answers;
 pub mod commands;
+mod named;
 pub mod opening;
 pub mod panes;
 pub mod pausing;
 pub mod questions;
-mod refusals;
 pub mod resuming;
 pub mod views;
 
-// The answer of a call, 0 or the number of its refusal, and the count that goes with it.
+/// The answer of a call, 0 or the number of its refusal, and the count that goes with it: two numbers, as C takes them.
 #[repr(C)]
-#[derive(Clone, Copy)]
+#[derive(Clone, Copy, Debug, PartialEq, Eq)]
 pub struct Reply {
     pub answer: u32,
     pub count: u32,

@@ -1,22 +1,17 @@
 // The wall's view: a console's board as a part of the live store or of a frozen one beside it, where it lies and with no copy.
-ghost use Rattle.std.specs.Prelude.{◌≡◌, true, ◌<◌};
-ghost use Rattle.refusal.specs.Refusal.{first_refusal};
-ghost use Rattle.command.specs.Code.{console_count};
-ghost use Rattle.room.specs.Room.{head};
-ghost use Rattle.store.specs.Layout.{board_at, room_in, holds_store};
-ghost use Rattle.unit.specs.Calls.{chosen, view_input_tests, view_tests, view_part, view_at_reply, view_address, view_refusal_reply};
+ghost use Rattle.std.specs.Prelude.{◌≡◌};
+ghost use Rattle.unit.specs.Answers.{reply_of};
+ghost use Rattle.unit.specs.Calls.{chosen, view_part, view_at_reply, view_address, view_refusal_reply};
 
 use crate::Reply;
-use crate::answers::{counted, reply_of, size};
+use crate::named::named_console;
 use buffer::part_of;
-use command::numbers::is_console;
-use graph::Console;
-use query::{head_of, is_present};
-use refusal::{first_of, when};
-use store::judge::holds;
+use query::Store;
+use refusal::{Refusal, refuse_if};
 use store::places::{BOARD, board_at};
 
-// The number of stores that a choice can name.
+// The number of stores that a choice can name. It stays a number: one that names none still chooses where the part of length 0 lies
+// (`view_address`).
 const CHOICES: u32 = 2;
 
 // The store that the choice names.
@@ -29,86 +24,41 @@ fn chosen_store<'a>(live: &'a [u8], frozen: &'a [u8], choice: u32) -> &'a [u8]
     frozen
 }
 
-// Why no view can be asked for by these numbers, or 0.
-fn view_input_refusal(console: u32, choice: u32) -> u32
-    ensures { result ≡ first_refusal (view_input_tests console choice) }
+// Where in the store chosen the view begins, or why there is none.
+#[tactic(auto, unfolding(crate::specs::Calls::view_at_reply, refusal::specs::Refusal::first_refusal), using(store::proofs::Whole::whole_small))]
+fn view_at<'a>(live: &'a [u8], frozen: &'a [u8], console: u32, choice: u32) -> Result<u32, Refusal>
+    ensures { reply_of result ≡ view_at_reply live.now frozen.now console choice }
 {
-    let console_out_of_range = when(3, !is_console(size(console)));
-    let choice_out_of_range = when(5, !(choice < CHOICES));
-    first_of(console_out_of_range, choice_out_of_range)
+    let c = named_console(console)?;
+    refuse_if(Refusal::OperandTooHigh, CHOICES <= choice)?;
+    let held = Store::read(chosen_store(live, frozen, choice))?;
+    let head = held.head(c).ok_or(Refusal::ConsoleAbsent)?;
+    Ok(board_at(head) as u32)
 }
 
-// Whether the store that the choice names holds a sound room.
-fn chosen_holds<'a>(live: &'a [u8], frozen: &'a [u8], choice: u32) -> bool
-    ensures { result ≡ holds_store (chosen choice live.now frozen.now) }
-{
-    holds(chosen_store(live, frozen, choice))
-}
-
-// Why there is no view, or 0.
-fn view_refusal<'a>(live: &'a [u8], frozen: &'a [u8], console: u32, choice: u32) -> u32
-    ensures { result ≡ first_refusal (view_tests live.now frozen.now console choice) }
-{
-    let refusal = view_input_refusal(console, choice);
-    if refusal != 0 {
-        return refusal;
-    }
-    if !chosen_holds(live, frozen, choice) {
-        return 11;
-    }
-    let present = is_present(chosen_store(live, frozen, choice), Console(size(console)));
-    when(12, !present)
-}
-
-// Where in a store the board that a console shows begins.
-fn shown_at(store: &[u8], c: Console) -> usize
-    requires store_value { holds_store store.now ≡ true }
-    requires c_lt_console_count { c.0 < console_count }
-    ensures { result ≡ board_at (head (room_in store.now) c.0) }
-{
-    let v = head_of(store, c);
-    board_at(v)
-}
-
-// Where in the store chosen the view begins.
-#[unsafe(no_mangle)]
-pub extern "C" fn room_view_at<'a>(
-    live: &'a [u8],
-    frozen: &'a [u8],
-    console: u32,
-    choice: u32,
-) -> Reply
+/// Where in the store chosen the view begins.
+pub fn room_view_at<'a>(live: &'a [u8], frozen: &'a [u8], console: u32, choice: u32) -> Reply
     ensures { result ≡ view_at_reply live.now frozen.now console choice }
 {
-    let refusal = view_refusal(live, frozen, console, choice);
-    if refusal != 0 {
-        return reply_of(refusal);
-    }
-    let at = shown_at(chosen_store(live, frozen, choice), Console(size(console)));
-    counted(at)
+    Reply::from(view_at(live, frozen, console, choice))
 }
 
-// The number with which the view is refused, or 0.
-#[unsafe(no_mangle)]
-pub extern "C" fn room_view_refusal<'a>(
-    live: &'a [u8],
-    frozen: &'a [u8],
-    console: u32,
-    choice: u32,
-) -> Reply
+/// The number with which the view is refused, or 0.
+#[tactic(auto, unfolding(crate::specs::Calls::view_at_reply, crate::specs::Calls::view_refusal_reply, refusal::specs::Refusal::first_refusal))]
+pub fn room_view_refusal<'a>(live: &'a [u8], frozen: &'a [u8], console: u32, choice: u32) -> Reply
     ensures { result ≡ view_refusal_reply live.now frozen.now console choice }
 {
-    reply_of(view_refusal(live, frozen, console, choice))
+    Reply::from(view_at(live, frozen, console, choice).and(Ok(0)))
 }
 
-// The view: a console's board, as a part of the store chosen; none of it where it is refused.
+/// The view: a console's board, as a part of the store chosen; none of it where it is refused.
+#[tactic(auto, unfolding(crate::specs::Calls::view_at_reply, crate::specs::Calls::view_part, refusal::specs::Refusal::first_refusal))]
 pub fn room_view<'a>(live: &'a [u8], frozen: &'a [u8], console: u32, choice: u32) -> &'a [u8]
     ensures { (result.now ≡ view_part live.now frozen.now console choice) × (result.ref_ptr ≡ view_address live.entry.ref_ptr frozen.entry.ref_ptr live.now frozen.now console choice) }
 {
     let store = chosen_store(live, frozen, choice);
-    let at = room_view_at(live, frozen, console, choice);
-    if at.answer != 0 {
+    let Ok(at) = view_at(live, frozen, console, choice) else {
         return &store[..0];
-    }
-    part_of(store, size(at.count), BOARD)
+    };
+    part_of(store, at as usize, BOARD)
 }

@@ -1,32 +1,23 @@
 -- The parts of a block that are written one behind the other make the block.
 -- Assumes nothing.
-use Prim.Native.Nat.{ℕ, suc, ◌+◌, ◌-◌, ◌<◌, ◌≤◌}
+use Prim.Native.Nat.{ℕ, suc, ◌+◌, ◌<◌, ◌≤◌}
 use mathlib.Core.Path.{◌≡◌, refl, ap, ◌∙◌}
 use mathlib.Core.List.{List, ◌++◌}
 use native.Mathlib.Omega.{arith}
 use lib.Bits.{bit_or}
-use lib.ListN.{length, set, take, drop, length-append, length-set}
-use Rattle.buffer.specs.Field.{byte, put_word, zeros, with_part}
+use lib.ListN.{length, take, drop, length-append, length-set}
+use Rattle.buffer.specs.Field.{with_part}
 use Rattle.buffer.specs.Row.{with_member, union}
 use Rattle.buffer.proofs.Fields.{part_length}
 use Rattle.buffer.proofs.Bytewise.{bytewise_length}
-use Rattle.buffer.proofs.Patches.{put_lent, with_length, with_part_lem, with_here, with_next}
+use Rattle.buffer.proofs.Patches.{with_length, with_part_lem, with_here, with_next, put_back, part_before}
 use Rattle.board.specs.Board.{board_size, enter, merge_board}
 use Rattle.board.proofs.Length.{enter_length, merge_board-length}
 use Rattle.graph.specs.declared.Node.{Node}
 use Rattle.graph.specs.declared.Node.TheVariants.{Entry, Merge}
-use Rattle.store.specs.Layout.{node_size, row_size, block_size, entries_at, block_at, row_at, board_at, entry_node_bytes, merge_node_bytes, merge_node_code}
+use Rattle.store.specs.Layout.{node_size, row_size, block_size, entries_at, block_at, row_at, board_at, entry_node_bytes, merge_node_bytes}
 use Rattle.store.specs.Check.{row_part, board_part, merge_of_boards, entries_part}
 use Rattle.update.specs.Append.{entry_block, merge_block, with_entry, with_merge, node_with}
-
--- the nodes, from their first byte on
-pub entry_node_made : (node z a b c d : List ℕ) (p code strip operand : ℕ) → length node ≡ node_size → z ≡ zeros (length node)
-    → a ≡ set z 0 (byte code) → b ≡ set a 1 (byte strip) → c ≡ put_word b 2 operand → d ≡ put_word c 4 p → d ≡ entry_node_bytes p code strip operand
-entry_node_made node z a b c d p code strip operand l ez ea eb ec ed = rw (ed, ec, eb, ea, ez, l)
-
-pub merge_node_made : (node z a b c d : List ℕ) (p q l : ℕ) → length node ≡ node_size → z ≡ zeros (length node)
-    → a ≡ set z 0 (byte merge_node_code) → b ≡ put_word a 4 p → c ≡ put_word b 6 q → d ≡ put_word c 8 l → d ≡ merge_node_bytes p q l
-merge_node_made node z a b c d p q l long ez ea eb ec ed = rw (ed, ec, eb, ea, ez, long)
 
 pub node_long : (node : Node) (l : ℕ) → length (node_with node l) ≡ node_size
 node_long (Entry p code strip operand) l = refl
@@ -49,15 +40,19 @@ parent_put s n p lower fits e =
     let long : length (board_part s p) ≡ board_size = part_length s (board_at p) board_size (omega arith) in
     (e, ap (λ (u : List ℕ). board_part u n) e ∙ with_here s (board_part s p) (board_at n) (omega arith) board_size long)
 
--- a merge of copies of three boards, written where the board of version n was lent
-pub merged_put : (s : List ℕ) (n p q l : ℕ) {new base mine given : List ℕ} {at clashes : ℕ} → at ≡ board_at n
-    → (base ≡ board_part s l) × (mine ≡ board_part s p) × (given ≡ board_part s q)
-    → (new ≡ (merge_board base mine given).bytes) × (clashes ≡ (merge_board base mine given).clashes)
-    → (take at s ++ (new ++ drop (at + board_size - at) (drop at s)) ≡ with_part s (board_at n) (merge_of_boards s p q l).bytes)
-    × (clashes ≡ (merge_of_boards s p q l).clashes)
-merged_put s n p q l {new} {at = at} {clashes = clashes} place copied e =
-    let merged : (new ≡ (merge_of_boards s p q l).bytes) × (clashes ≡ (merge_of_boards s p q l).clashes) = rw (copied.0, copied.1, copied.2) at e in
-    (put_lent s new (merge_of_boards s p q l).bytes at (board_at n) board_size place merged.0 (merge_board-length (board_part s l) (board_part s p) (board_part s q)), merged.1)
+-- the board of a merge, put where its version's begins, of boards that stand before that place
+module _ (s : List ℕ) (n : ℕ) (fits : block_at (suc n) ≤ length s) where
+  board_before : (v : ℕ) → v < n → board_part (take (board_at n) s) v ≡ board_part s v
+  board_before v l = part_before s (board_at v) board_size (board_at n) (omega arith) (omega arith)
+
+  pub merged_put : (p q l : ℕ) → p < n → q < n → l < n → {new : List ℕ} {clashes : ℕ}
+      → (new ≡ (merge_board (board_part (take (board_at n) s) l) (board_part (take (board_at n) s) p) (board_part (take (board_at n) s) q)).bytes)
+      × (clashes ≡ (merge_board (board_part (take (board_at n) s) l) (board_part (take (board_at n) s) p) (board_part (take (board_at n) s) q)).clashes)
+      → (take (board_at n) s ++ (new ++ drop board_size (drop (board_at n) s)) ≡ with_part s (board_at n) (merge_of_boards s p q l).bytes)
+      × (clashes ≡ (merge_of_boards s p q l).clashes)
+  merged_put p q l i j k {new} {clashes} e =
+      let merged : (new ≡ (merge_of_boards s p q l).bytes) × (clashes ≡ (merge_of_boards s p q l).clashes) = rw (board_before p i, board_before q j, board_before l k) at e in
+      (rw merged.0 (put_back s (merge_of_boards s p q l).bytes (board_at n) board_size (merge_board-length (board_part s l) (board_part s p) (board_part s q))), merged.1)
 
 -- the row and the board of a lower version stay as they were
 module _ (s x : List ℕ) (n at v : ℕ) (lower : v < n) (behind : block_at n ≤ at) (fits : at + length x ≤ length s) where

@@ -10,8 +10,8 @@ ghost use Rattle.store.specs.Rules.{node_in_range};
 ghost use Rattle.store.specs.Check.{row_part, board_part, merge_of_boards, entries_part};
 ghost use Rattle.update.specs.Append.{with_entry, with_merge, appended, node_with};
 
-use board::{enter_board, merge_board, merge_board_counted};
-use buffer::{add_member, clear, copy, copy_within, put_extended, put_extended_union, put_word};
+use board::{enter_board, merge_board};
+use buffer::{add_member, clear, copy_within, put_extended, put_extended_union, put_word};
 use graph::{Node, Strip, Version};
 use store::nodes::{MERGE_NODE, NODE_BASE, NODE_GIVER, NODE_OPERAND, NODE_PARENT, NODE_STRIP};
 use store::places::{BOARD, ENTRIES, NODE, ROW, block_at, board_at, board_part, row_at};
@@ -64,7 +64,7 @@ fn write_node(bytes: &mut [u8], node: Node, base: Version)
     }
 }
 
-// Puts the node of version n into its block.
+// Puts the node of version n into its block, which is behind those that `Blocks` would count.
 fn put_node(s: &mut [u8], n: Version, node: Node, base: Version)
     requires { (n.0 < max_capacity) × (block_at (suc n.0) ≤ length s.old) }
     ensures { s.new ≡ with_part s.old (block_at n.0) (node_with node base.0) }
@@ -138,70 +138,21 @@ fn put_merge_row(s: &mut [u8], n: Version, p: Version, q: Version)
     put_extended_union(s, row_at(p), row_at(q), row_at(n), n.0);
 }
 
-// Copies the boards of a merge of q into p over the base l: two parts of one slice cannot be lent at once.
-fn copy_sides(
-    base: &mut [u8],
-    mine: &mut [u8],
-    given: &mut [u8],
-    s: &[u8],
-    p: Version,
-    q: Version,
-    l: Version,
-)
-    requires base_len { (length base.old ≡ board_size) × (length mine.old ≡ board_size) × (length given.old ≡ board_size) }
-    requires p_lt_max_capacity { (p.0 < max_capacity) × (q.0 < max_capacity) × (l.0 < max_capacity) }
-    requires p_in_bounds { (block_at (suc p.0) ≤ length s.now) × (block_at (suc q.0) ≤ length s.now) × (block_at (suc l.0) ≤ length s.now) }
-    ensures { (base.new ≡ board_part s.now l.0) × (mine.new ≡ board_part s.now p.0) × (given.new ≡ board_part s.now q.0) }
-{
-    copy(base, board_part(s, l));
-    copy(mine, board_part(s, p));
-    copy(given, board_part(s, q));
-}
-
-// Puts the board of a merge of q into p over the base l.
-fn put_merge_board(s: &mut [u8], n: Version, p: Version, q: Version, l: Version)
-    requires { (p.0 < n.0) × (q.0 < n.0) × (l.0 < n.0) × (n.0 < max_capacity) × (block_at (suc n.0) ≤ length s.old) }
-    ensures { s.new ≡ with_part s.old (board_at n.0) (merge_of_boards s.old p.0 q.0 l.0).bytes }
-{
-    let mut base = [0u8; BOARD];
-    let mut mine = [0u8; BOARD];
-    let mut given = [0u8; BOARD];
-    copy_sides(&mut base, &mut mine, &mut given, s, p, q, l);
-    let at = board_at(n);
-    let end = at + BOARD;
-    merge_board(&mut s[at..end], &base, &mine, &given);
-}
-
-// The same, and counts its clashes.
-fn put_merge_board_counted(s: &mut [u8], n: Version, p: Version, q: Version, l: Version) -> usize
+// Puts the board of a merge of q into p over the base l, and counts its clashes. The slice is split where the new board begins, so that none
+// of the three is copied first.
+fn put_merge_board(s: &mut [u8], n: Version, p: Version, q: Version, l: Version) -> usize
     requires { (p.0 < n.0) × (q.0 < n.0) × (l.0 < n.0) × (n.0 < max_capacity) × (block_at (suc n.0) ≤ length s.old) }
     ensures { (s.new ≡ with_part s.old (board_at n.0) (merge_of_boards s.old p.0 q.0 l.0).bytes) × (result ≡ (merge_of_boards s.old p.0 q.0 l.0).clashes) }
 {
-    let mut base = [0u8; BOARD];
-    let mut mine = [0u8; BOARD];
-    let mut given = [0u8; BOARD];
-    copy_sides(&mut base, &mut mine, &mut given, s, p, q, l);
-    let at = board_at(n);
-    let end = at + BOARD;
-    merge_board_counted(&mut s[at..end], &base, &mine, &given)
+    let (before, after) = s.split_at_mut(board_at(n));
+    let base = board_part(before, l);
+    let mine = board_part(before, p);
+    let given = board_part(before, q);
+    merge_board(&mut after[..BOARD], base, mine, given)
 }
 
-// Writes version n, a merge of version q into version p with the base l.
-fn append_merge(s: &mut [u8], n: Version, p: Version, q: Version, l: Version)
-    requires { (p.0 < n.0) × (q.0 < n.0) × (l.0 < n.0) × (n.0 < max_capacity) × (block_at (suc n.0) ≤ length s.old) }
-    ensures { s.new ≡ with_merge s.old n.0 p.0 q.0 l.0 }
-{
-    let node = Node::Merge {
-        receiver: p,
-        giver: q,
-    };
-    put_node(s, n, node, l);
-    put_merge_row(s, n, p, q);
-    put_merge_board(s, n, p, q, l);
-}
-
-// The same, and counts its clashes.
-pub fn append_merge_counted(s: &mut [u8], n: Version, p: Version, q: Version, l: Version) -> usize
+/// Writes version n, a merge of version q into version p with the base l, and counts its clashes.
+pub fn append_merge(s: &mut [u8], n: Version, p: Version, q: Version, l: Version) -> usize
     requires { (p.0 < n.0) × (q.0 < n.0) × (l.0 < n.0) × (n.0 < max_capacity) × (block_at (suc n.0) ≤ length s.old) }
     ensures { (s.new ≡ with_merge s.old n.0 p.0 q.0 l.0) × (result ≡ (merge_of_boards s.old p.0 q.0 l.0).clashes) }
 {
@@ -211,7 +162,7 @@ pub fn append_merge_counted(s: &mut [u8], n: Version, p: Version, q: Version, l:
     };
     put_node(s, n, node, l);
     put_merge_row(s, n, p, q);
-    put_merge_board_counted(s, n, p, q, l)
+    put_merge_board(s, n, p, q, l)
 }
 
 // Writes version n, whatever made it; of a merge, with its base.
@@ -227,6 +178,8 @@ pub fn append_version(s: &mut [u8], n: Version, node: Node, base: Version)
             strip,
             operand,
         } => append_entry(s, n, parent, code, strip, operand),
-        Node::Merge { receiver, giver } => append_merge(s, n, receiver, giver, base),
+        Node::Merge { receiver, giver } => {
+            append_merge(s, n, receiver, giver, base);
+        }
     }
 }

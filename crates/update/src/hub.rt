@@ -9,6 +9,7 @@ use buffer::put_word;
 use store::places::HUB;
 
 // Makes console 0 the hub of the room. Where it is, nothing changes.
+#[tactic(auto, using(store::proofs::Whole::whole_header, crate::proofs::HubStore::hub_store))]
 pub fn make_hub(s: &mut [u8])
     requires s_value { holds_store s.old ≡ true }
     requires s_value_2 { can_make_hub (room_in s.old) ≡ true }

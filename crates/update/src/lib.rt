@@ -1,4 +1,4 @@
-// Changes to the bytes of a store, each in place.
+// Changes to the bytes of a store, each in place. They take the bytes and no `Store`: between the writes of a change the bytes hold none.
 #![tactic(auto)]
 
 pub mod append;

@@ -1,4 +1,6 @@
 // The commands that make a version: an entry on a console's head, and a merge of one console into another.
+#![tactic(auto, using(store::proofs::Whole::whole_header, crate::proofs::GrownStore::free_small, crate::proofs::GrownStore::free_fits))]
+
 ghost use Rattle.std.specs.Prelude.{◌≡◌, true, false, ◌&&◌, ◌<◌};
 ghost use Rattle.buffer.specs.Field.{overwrite};
 ghost use Rattle.board.specs.Board.{strip_count};
@@ -9,12 +11,12 @@ ghost use Rattle.room.specs.Room.{present, head};
 ghost use Rattle.room.specs.Step.{behind, beside_hub, some_third_splits, grown, clash_count};
 ghost use Rattle.store.specs.Layout.{encode, room_in, holds_store};
 
-use crate::append::{append_entry, append_merge_counted};
+use crate::append::{append_entry, append_merge};
 use crate::commons::{join_commons, put_head};
 use buffer::put_word;
 use graph::{Console, Strip, Version};
-use query::{common_of, head_of, version_count};
-use store::places::{COUNT, field_of};
+use query::Store;
+use store::places::COUNT;
 
 // Makes an entry on a console's head.
 pub fn enter(s: &mut [u8], c: Console, code: usize, strip: Strip, operand: usize)
@@ -25,11 +27,12 @@ pub fn enter(s: &mut [u8], c: Console, code: usize, strip: Strip, operand: usize
     requires s_bound { version_count (room_in s.old).versions < (room_in s.old).settings.capacity }
     ensures { s.new ≡ overwrite (encode (grown (room_in s.old) c.0 (entry (head (room_in s.old) c.0) code strip.0 operand))) s.old }
 {
-    let n = Version(version_count(s));
-    let parent = head_of(s, c);
+    let store = Store::new(s);
+    let n = Version(store.version_count());
+    let parent = store.head_of(c);
     append_entry(s, n, parent, code, strip, operand);
     put_word(s, COUNT, n.0 + 1);
-    put_head(s, c, field_of(n));
+    put_head(s, c, Some(n));
 }
 
 // Merges console d into console c, and counts the clashes.
@@ -42,13 +45,14 @@ pub fn merge(s: &mut [u8], c: Console, d: Console) -> usize
     requires s_bound { version_count (room_in s.old).versions < (room_in s.old).settings.capacity }
     ensures { (s.new ≡ overwrite (encode (grown (room_in s.old) c.0 (merge (head (room_in s.old) c.0) (head (room_in s.old) d.0)))) s.old) × (result ≡ clash_count (room_in s.old) (Merge c d)) }
 {
-    let next = Version(version_count(s));
-    let receiver = head_of(s, c);
-    let giver = head_of(s, d);
-    let base = common_of(s, c, d);
-    let clashes = append_merge_counted(s, next, receiver, giver, base);
+    let store = Store::new(s);
+    let next = Version(store.version_count());
+    let receiver = store.head_of(c);
+    let giver = store.head_of(d);
+    let base = store.common_of(c, d);
+    let clashes = append_merge(s, next, receiver, giver, base);
     put_word(s, COUNT, next.0 + 1);
     join_commons(s, c, d);
-    put_head(s, c, field_of(next));
+    put_head(s, c, Some(next));
     clashes
 }

@@ -9,7 +9,7 @@ use crate::commons::put_head;
 use buffer::{clear, put_word};
 use graph::{Console, Version};
 use room::Settings;
-use store::places::{COUNT, field_of, row_at, store_size};
+use store::places::{COUNT, row_at, store_size};
 use store::settings::put_settings;
 
 // Writes the store of a fresh room over the front of a buffer.
@@ -23,7 +23,7 @@ pub fn open(s: &mut [u8], settings: Settings)
     clear(&mut s[..end]);
     put_settings(s, settings);
     put_word(s, COUNT, 1);
-    put_head(s, Console(0), field_of(Version(0)));
+    put_head(s, Console(0), Some(Version(0)));
     // version 0 is its own only ancestor
     s[row] = 1;
 }

@@ -1,13 +1,16 @@
--- `board::merge_board` meets its contract. The invariant of its loop is `Merging`: the first k strips are merged.
-use Rattle.board.proofs.Length.{merge_strip-length}
-use Rattle.board.proofs.Boards.{made_start, made_step, merging_finish}
+-- `board::merge_board` meets its contract. The invariant of its loop is `Counting`: the first k strips are merged and their clashes counted.
+use native.Mathlib.Omega.{arith}
+use Rattle.board.proofs.Boards.{counting_start, counting_step, counting_few, counting_finish}
 use Rattle.board.proofs.merge_board.Goals as goal
 
 pub loop-k-init : goal.loop-k-init
-loop-k-init c = made_start _ _ c.requires.0
+loop-k-init c = counting_start _ _ _ _ c.requires.0
+
+pub overflow_add-clashes : goal.overflow_add-clashes
+overflow_add-clashes c = omega (arith, counting_few _ c.loop-k.invariant c.merge_strip_at-clashes.ensures.1)
 
 pub loop-k-preserved : goal.loop-k-preserved
-loop-k-preserved c = made_step (merge_strip-length _ _ _ _) c.loop-k.invariant c.loop-k-test.true c.merge_strip_at.ensures.0
+loop-k-preserved c = counting_step c.loop-k.invariant c.loop-k-test.true c.merge_strip_at-clashes.ensures
 
 pub returns : goal.returns
-returns c = merging_finish _ _ _ c.loop-k.invariant c.loop-k-test.false
+returns c = counting_finish c.loop-k.invariant c.loop-k-test.false

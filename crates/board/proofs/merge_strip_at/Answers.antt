@@ -3,6 +3,4 @@ use Rattle.board.proofs.Boards.{strip_put}
 use Rattle.board.proofs.merge_strip_at.Goals as goal
 
 pub returns : goal.returns
-returns c = let a = c.args in
-    strip_put a.board.now a.l.now a.a.now a.b.now a.k
-    c.strip_of.ensures.0 c.strip_of-2.ensures.0 c.strip_of-3.ensures.0 c.merge_strip.ensures
+returns c = strip_put _ _ _ _ c.args.k c.strips.ensures.base c.strips.ensures.mine c.strips.ensures.given c.merge_strip.ensures

@@ -1,22 +1,31 @@
--- `pause::measure::heads_length` meets its contract. The loop's invariant is `Measured`: the sum is the length of the head records before c.
+-- `pause::measure::heads_length` meets its contract.
 use native.Mathlib.Omega.{arith}
+use Prim.Native.Nat.{ℕ}
+use mathlib.Core.Path.{refl, ◌∙◌}
+use lib.ListN.{length}
+use Rattle.std.proofs.Common.{rules}
+use Rattle.std.specs.List.{range_with_len}
+use Rattle.std.proofs.lemmas.Iterator.{YieldsList-from_range, YieldsList-from_map}
+use Rattle.std.proofs.lemmas.Iterator.Consumers.{sum_by_from_yields_List, fits_by_from_yields_list, YieldsList-at}
 use Rattle.command.specs.Code.{console_count}
-use Rattle.store.specs.Layout.{room_in}
-use Rattle.pause.proofs.Piled.{measured_none, measured_more, measured_all}
-use Rattle.pause.proofs.Pieces.{head_pieces_lem}
+use Rattle.pause.specs.Pieces.{head_piece}
+use Rattle.pause.proofs.Piled.{pieces_sum, pieces_short}
+use Rattle.pause.proofs.Pieces.{head_pieces_lem, head_piece_short}
 use Rattle.pause.proofs.measure.heads_length.Goals as goal
 
-pub loop-c-init : goal.loop-c-init
-loop-c-init c = measured_none (head_pieces_lem (room_in c.args.s.now)) console_count
-
-pub console_length-sum-requires : goal.console_length-sum-requires
-console_length-sum-requires c = record {
-  s_value = c.requires;
-  c_lt_console_count = omega arith;
-}
-
-pub loop-c-preserved : goal.loop-c-preserved
-loop-c-preserved c = measured_more (head_pieces_lem (room_in c.args.s.now)) c.loop-c.invariant c.loop-c-test.true c.console_length-sum.ensures.0 c.console_length-sum.ensures.1
-
 pub returns : goal.returns
-returns c = measured_all c.loop-c.invariant (omega arith)
+returns c =
+    let r = c.args.store.now in
+    let total = sum_by_from_yields_List (λ (k : ℕ). length (head_piece r k)) (range_with_len 0 console_count) c.map.result c.sum.result c.sum.ensures.ran
+    (YieldsList-from_map _ (λ (k : ℕ). length (head_piece r k)) (YieldsList-at c.map.ensures.source (YieldsList-from_range 0 console_count console_count refl refl)) c.map.ensures.closure (λ x r q k. search rules))
+    ∙ pieces_sum (head_pieces_lem r) 0 (head_piece r) (λ k. search rules) console_count in
+    (total, rw total (pieces_short (head_pieces_lem r) (head_piece_short r) console_count))
+
+pub sum-requires-clause-fits : goal.sum-requires-clause-fits
+sum-requires-clause-fits c =
+    let r = c.args.store.now in
+    let total = pieces_sum (head_pieces_lem r) 0 (head_piece r) (λ k. search rules) console_count in
+    let short = pieces_short (head_pieces_lem r) (head_piece_short r) console_count in
+    fits_by_from_yields_list (λ (k : ℕ). length (head_piece r k)) (range_with_len 0 console_count) c.map.result _
+    (YieldsList-from_map _ (λ (k : ℕ). length (head_piece r k)) (YieldsList-at c.map.ensures.source (YieldsList-from_range 0 console_count console_count refl refl)) c.map.ensures.closure (λ x r q k. search rules))
+    (omega arith)

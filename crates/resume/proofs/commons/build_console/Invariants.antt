@@ -5,7 +5,7 @@ use Rattle.resume.proofs.TableSteps.{Paired}
 use Rattle.resume.proofs.commons.build_console.Given as goal
 
 abbrev pub invariant-loop-k : goal.invariant-loop-k
-invariant-loop-k l = (l.k-end ≡ l.c.0) × Paired l.rows l.initial.header l.c.0 l.k l.header l.ok
+invariant-loop-k l = (l.k-end ≡ l.c.0) × Paired l.rows.0 l.initial.header l.c.0 l.k l.header l.ok
 
 abbrev pub decreases-loop-k : goal.decreases-loop-k
 decreases-loop-k l = l.k-end - l.k

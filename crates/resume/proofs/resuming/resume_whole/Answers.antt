@@ -1,26 +1,18 @@
--- `resume::resuming::resume_whole` meets its contract: 8, 9, or what the tests behind them say.
-use borrow.Author.Tests.{not-true, not-false}
-use mathlib.Core.Path.{sym, ◌∙◌}
-use Rattle.resume.specs.Content.{content_in}
-use Rattle.resume.proofs.Resumes.{no_capacity, out_of_range}
+-- `resume::resuming::resume_whole` meets its contract: 8, 9, or what is said of a tape in range.
+use mathlib.Core.Path.{◌≡◌, ap, ◌∙◌}
+use borrow.Author.Rules.{rules}
+use Rattle.std.specs.Prelude.{Err}
+use Rattle.refusal.specs.Answer.{answer_of}
+use Rattle.resume.proofs.Resumes.{range_refused, range_passed}
 use Rattle.resume.proofs.resuming.resume_whole.Goals as goal
 
-pub returns-then-not-settings_in_range : goal.returns-then-not-settings_in_range
-returns-then-not-settings_in_range c = let none = rw c.requires.settings_value.0 at (sym c.settings_in_range.ensures ∙ not-true _ c.if-not-settings_in_range.true-raw) in
-    no_capacity (content_in c.args.tape.now) c.args.store.now none
+pub returns-in_err-ranged : goal.returns-in_err-ranged
+returns-in_err-ranged c =
+    let told = range_refused c.args.tape c.of.ensures c.args.store.now c.in_err-ranged.field-0.0 (search rules) in
+    let e : c.from_residual.result ≡ Err c.in_err-ranged.field-0.0 = search rules in
+    (ap answer_of e ∙ told.0, told.1)
 
-pub returns-then-not-seen : goal.returns-then-not-seen
-returns-then-not-seen c = let seen = c.tape_in_range-seen in
-    let size = rw c.requires.settings_value.0 at (sym c.settings_in_range.ensures ∙ not-false _ c.if-not-settings_in_range.false-raw) in
-    out_of_range (content_in c.args.tape.now) c.args.store.now size (sym seen.ensures.0 ∙ not-true seen.result.ok c.if-not-seen.true)
-
-pub resume_ranged-requires : goal.resume_ranged-requires
-resume_ranged-requires c = let seen = c.tape_in_range-seen in
-    let p = c.requires.settings_value in
-    let size = rw p.0 at (sym c.settings_in_range.ensures ∙ not-false _ c.if-not-settings_in_range.false-raw) in
-    let ok = not-false seen.result.ok c.if-not-seen.false in
-    record {
-      tape_value = c.requires.tape_value;
-      settings_value = (p.0, p.1, seen.ensures.1 ok, p.2);
-      tape_value_2 = (size, sym seen.ensures.0 ∙ ok);
-    }
+pub returns : goal.returns
+returns c =
+    let same : c.in_ok-ranged.ranged ≡ c.args.tape = range_passed c.args.tape c.of.ensures (search rules) in
+    rw same at c.resume_ranged.ensures

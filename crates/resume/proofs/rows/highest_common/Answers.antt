@@ -1,11 +1,8 @@
 -- `resume::rows::highest_common` meets its contract. The loop's invariant: the rows share no member from byte `k` on.
 use mathlib.Core.Path.{◌≡◌}
 use native.Mathlib.Omega.{arith}
-use Rattle.resume.proofs.Highest.{above_start, above_more, above_found, above_all}
+use Rattle.resume.proofs.Highest.{above_more, above_found, above_all}
 use Rattle.resume.proofs.rows.highest_common.Goals as goal
-
-pub loop-k-init : goal.loop-k-init
-loop-k-init c = above_start _ _
 
 pub returns-then-x-ne0 : goal.returns-then-x-ne0
 returns-then-x-ne0 c = above_found c.loop-k.invariant c.loop-k-test.true c.top_bit.result c.top_bit.ensures.0 c.top_bit.ensures.1

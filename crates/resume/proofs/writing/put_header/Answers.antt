@@ -14,5 +14,5 @@ pub returns : goal.returns
 unfolding with_header
 returns c = let header = c.args.header.now in
     let table = part header commons_at commons_size in
-    put_lent c.put_word.new.s _ table commons_at commons_at commons_size refl c.copy.ensures (part_length header commons_at commons_size (omega arith))
+    put_lent c.put_word.new.s _ table commons_at commons_at commons_size refl c.copy_from_slice.ensures.after (part_length header commons_at commons_size (omega arith))
     ∙ ap (λ (s : List ℕ). with_part s commons_at table) c.put_word.ensures

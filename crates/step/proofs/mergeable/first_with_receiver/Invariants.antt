@@ -2,12 +2,11 @@
 use Prim.Native.Nat.{◌-◌}
 use Rattle.command.specs.Code.{console_count}
 use Rattle.room.specs.Mergeable.{pair_number}
-use Rattle.store.specs.Layout.{room_in}
 use Rattle.step.proofs.Search.{NoneSoFar}
 use Rattle.step.proofs.mergeable.first_with_receiver.Given as goal
 
 abbrev pub invariant-loop-giver : goal.invariant-loop-giver
-invariant-loop-giver l = NoneSoFar (pair_number (room_in l.s) l.receiver.0) l.giver
+invariant-loop-giver l = NoneSoFar (pair_number l.store l.receiver.0) l.giver
 
 abbrev pub decreases-loop-giver : goal.decreases-loop-giver
 decreases-loop-giver l = console_count - l.giver

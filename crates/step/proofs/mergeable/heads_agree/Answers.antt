@@ -1,26 +1,15 @@
--- `step::mergeable::heads_agree` meets its contract. The loop's invariant: the consoles before `c` agree with console 0.
-use native.Mathlib.Omega.{arith}
-use Rattle.graph.proofs.Passing.{passing_none, passing_again, passing_all, passing_fails}
+-- `step::mergeable::heads_agree` meets its contract.
+use mathlib.Core.Path.{refl, ◌∙◌}
+use Rattle.std.proofs.Common.{rules, tests}
+use Rattle.std.proofs.lemmas.Iterator.{YieldsList-from_range}
+use Rattle.std.proofs.lemmas.Iterator.Search.{all_from_yields_List}
 use Rattle.command.specs.Code.{console_count}
-use Rattle.room.specs.Mergeable.{heads_agree}
+use Rattle.room.specs.Mergeable.{agrees, heads_agree}
+use Rattle.graph.proofs.Ranges.{all_below}
 use Rattle.step.proofs.mergeable.heads_agree.Goals as goal
-
-pub agrees-requires : goal.agrees-requires
-agrees-requires c = record {
-  s_value = c.requires;
-  c_lt_console_count = omega arith;
-}
-
-pub returns-then-not-agrees : goal.returns-then-not-agrees
-unfolding heads_agree
-returns-then-not-agrees c = passing_fails console_count _ (omega arith) c.agrees.ensures c.if-not-agrees.true-raw
-
-pub loop-c-preserved : goal.loop-c-preserved
-loop-c-preserved c = passing_again c.loop-c.invariant (omega arith) c.agrees.ensures c.if-not-agrees.false-raw
 
 pub returns : goal.returns
 unfolding heads_agree
-returns c = passing_all c.loop-c.invariant (omega arith)
-
-pub loop-c-init : goal.loop-c-init
-loop-c-init c = passing_none _ _
+returns c =
+    all_from_yields_List (agrees c.args.store.now) _ _ c.all.result c.all.ensures.ran (YieldsList-from_range 0 console_count console_count refl refl) (λ x b q k. search (rules, tests))
+    ∙ all_below _ console_count

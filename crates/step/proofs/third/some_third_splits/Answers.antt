@@ -1,23 +1,14 @@
--- `step::third::some_third_splits` meets its contract. The loop's invariant: no console before `k` passes.
-use native.Mathlib.Omega.{arith}
-use Rattle.step.proofs.Search.{missed_none, missed_again, missed_found, missed_all}
+-- `step::third::some_third_splits` meets its contract.
+use mathlib.Core.Path.{refl, ◌∙◌}
+use Rattle.std.proofs.Common.{rules, tests}
+use Rattle.std.proofs.lemmas.Iterator.{YieldsList-from_range}
+use Rattle.std.proofs.lemmas.Iterator.Search.{any_from_yields_List}
+use Rattle.command.specs.Code.{console_count}
+use Rattle.room.specs.Step.{splits}
+use Rattle.graph.proofs.Ranges.{any_below}
 use Rattle.step.proofs.third.some_third_splits.Goals as goal
 
-pub splits_at-requires : goal.splits_at-requires
-splits_at-requires c = record {
-  s_value = c.requires.s_value;
-  c_lt_console_count = omega arith;
-  c_value = c.requires.c_value;
-}
-
-pub returns-then-splits_at : goal.returns-then-splits_at
-returns-then-splits_at c = missed_found _ (omega arith) c.splits_at.ensures c.if-splits_at.true
-
-pub loop-k-preserved : goal.loop-k-preserved
-loop-k-preserved c = missed_again c.loop-k.invariant (omega arith) c.splits_at.ensures c.if-splits_at.false
-
 pub returns : goal.returns
-returns c = missed_all c.loop-k.invariant (omega arith)
-
-pub loop-k-init : goal.loop-k-init
-loop-k-init c = missed_none _
+returns c =
+    any_from_yields_List (splits c.args.store.now c.args.c.0 c.args.d.0) _ _ c.any.result c.any.ensures.ran (YieldsList-from_range 0 console_count console_count refl refl) (λ x b q k. search (rules, tests))
+    ∙ any_below _ console_count

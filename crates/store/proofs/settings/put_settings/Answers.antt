@@ -5,6 +5,7 @@ use Rattle.buffer.specs.Field.{word}
 use Rattle.buffer.proofs.Laid.{laid_one, laid_more}
 use Rattle.buffer.proofs.Patches.{word_part}
 use Rattle.store.specs.Layout.{capacity_at, hub_at, settings_end, hub_number}
+use Rattle.store.proofs.SettingsBytes.{flag_number}
 use Rattle.store.proofs.settings.put_settings.Goals as goal
 
 pub returns : goal.returns
@@ -13,4 +14,4 @@ returns c = let a = c.args in
     (refl, c.put_word.ensures ∙ word_part a.s.now capacity_at a.settings.capacity (omega arith)) in
     let hub = word_part c.put_word.new.s hub_at (hub_number a.settings.hub) (omega (arith, capacity.kept)) in
     (laid_more {end = settings_end} (word (hub_number a.settings.hub)) capacity (omega arith)
-    (refl, c.put_word-2.ensures ∙ rw c.hub_number.ensures hub)).put.1
+    (refl, c.put_word-2.ensures ∙ rw (c.from.ensures ∙ flag_number a.settings.hub) hub)).put.1

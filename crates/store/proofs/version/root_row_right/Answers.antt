@@ -2,4 +2,4 @@
 use Rattle.store.proofs.version.root_row_right.Goals as goal
 
 pub returns : goal.returns
-returns c = rw c.row_part.ensures.0 at c.is_extended.ensures
+returns c = rw c.row.ensures.0 at c.is_extended.ensures

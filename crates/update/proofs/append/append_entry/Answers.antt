@@ -3,12 +3,6 @@ use native.Mathlib.Omega.{arith}
 use Rattle.update.proofs.Appended.{entry_appended}
 use Rattle.update.proofs.append.append_entry.Goals as goal
 
-pub put_entry_board-requires : goal.put_entry_board-requires
-put_entry_board-requires c = record {
-  p_lt_n = omega arith;
-  strip_lt_strip_count = c.requires.strip_lt_strip_count;
-}
-
 pub returns : goal.returns
 returns c = let a = c.args in
     entry_appended a.s.now a.n.0 (omega arith) a.p.0 a.code a.strip.0 a.operand (omega arith) _ _ _ _

@@ -8,7 +8,7 @@ loop-k-init c = others_none _ _ _
 
 pub loop-k-preserved : goal.loop-k-preserved
 loop-k-preserved c = let inv = c.loop-k.invariant in
-    others_again inv (omega arith) (λ nc. rw c.joined_field-field.ensures (joined_ahead inv _ (omega arith) (omega arith) nc)) c.put_other.ensures
+    others_again inv (omega arith) (λ nc. rw c.joined_field-common.ensures (joined_ahead inv _ (omega arith) (omega arith) nc)) c.put_other.ensures
 
 pub returns : goal.returns
 returns c = others_all c.loop-k.invariant (omega arith)
