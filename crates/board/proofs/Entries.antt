@@ -6,6 +6,7 @@ use mathlib.Core.Bool.{Bool, true, false, cond}
 use mathlib.Core.List.{List, [], ◌∷◌, ◌++◌}
 use native.Mathlib.Nat.{zero-add, suc-add}
 use native.Mathlib.Omega.{arith}
+use borrow.Author.Tests.{ne_eqb}
 use lib.Bits.{bit_or}
 use lib.Dec.{eqb}
 use lib.ListN.{length, set, take, drop, length-set}
@@ -18,6 +19,13 @@ use Rattle.buffer.proofs.Writes.{put_length}
 use Rattle.board.specs.Board.{strip_size, level_at, heading_at, marks_at, calls_at, alerts_at, flag_at, mark_bit, without, enter, other_strips}
 use Rattle.board.proofs.Boards.{strip}
 use Rattle.board.proofs.Length.{enter_length}
+
+-- a code that is no entry's changes nothing
+pub enter_none : (code k x : ℕ) (s : List ℕ) → (code ≡ 2 → ⊥) → (code ≡ 3 → ⊥) → (code ≡ 4 → ⊥) → (code ≡ 5 → ⊥) → (code ≡ 6 → ⊥)
+    → (code ≡ 7 → ⊥) → (code ≡ 8 → ⊥) → enter code k x s ≡ s
+unfolding enter
+enter_none code k x s b c d e f g h =
+    simp (ne_eqb code 2 b, ne_eqb code 3 c, ne_eqb code 4 d, ne_eqb code 5 e, ne_eqb code 6 f, ne_eqb code 7 g, ne_eqb code 8 h)
 
 -- a store behind a seam
 set_right : (p q : List ℕ) (i x : ℕ) → set (p ++ q) (length p + i) x ≡ p ++ set q i x

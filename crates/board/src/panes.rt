@@ -8,7 +8,7 @@ ghost use Rattle.board.specs.Pane.{student_strip, student_pane, pane_of};
 use crate::{
     ALERTS, CALLS, FLAG, HEADING, LEVEL, MARKS, STRIP_COUNT, STRIP_SIZE, Viewer, strip_of,
 };
-use buffer::{put_word, word_at};
+use buffer::{copy, put_word, word_at};
 
 // Of the 16 bits of a field, those that a student sees: all, marks 0 to 7, or none.
 const ALL: usize = 0xFFFF;
@@ -63,7 +63,7 @@ pub fn show_board(pane: &mut [u8], board: &[u8], viewer: Viewer)
     ensures { pane.new ≡ pane_of viewer board.now }
 {
     match viewer {
-        Viewer::Instructor => pane.copy_from_slice(board),
+        Viewer::Instructor => copy(pane, board),
         Viewer::Student => show_student(pane, board),
     }
 }

@@ -7,6 +7,17 @@ use crate::{Cell, HEADING, HEADING_ENTRY, LEVEL, LEVEL_ENTRY, STRIP_SIZE};
 use buffer::word_at;
 use graph::Strip;
 
+/// How many such cells there are.
+pub const CELL_COUNT: usize = 2;
+
+/// The cell of a number.
+pub fn cell_of(number: usize) -> Cell
+    requires { number < cell_count }
+    ensures { (result ≡ cell_of number) × (cell_number result ≡ number) }
+{
+    Cell::of(number).unwrap_or(Cell::Heading)
+}
+
 impl Cell {
     /// The cell of a number, where there is one.
     pub fn of(number: usize) -> Option<Cell>

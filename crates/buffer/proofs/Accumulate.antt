@@ -15,6 +15,7 @@ use Rattle.std.specs.List.{fold, zip}
 use Rattle.laws.proofs.Logic.{and_l, and_r, and_i, bool_ext}
 use Rattle.buffer.specs.Field.{same, all_zero}
 use Rattle.buffer.specs.Row.{bytewise}
+use Rattle.buffer.proofs.Bytewise.{bytewise_length, bytewise_at}
 use Rattle.buffer.proofs.Compare.{same_more}
 
 or_none : (a b : ℕ) → eqb (bit_or a b) 0 ≡ eqb a 0 && eqb b 0
@@ -94,3 +95,13 @@ compared_more {s} {t} {acc} {i} {d} c h e =
 
 pub compared_all : {s t : List ℕ} {acc i : ℕ} → Compared s t acc i → length s ≤ i → eqb acc 0 ≡ same s t
 compared_all {s} {t} {acc} {i} c h = c.found ∙ ap₂ same (take_all i s h) (take_all i t (omega arith))
+
+-- the same where the second list is two rows put together byte by byte
+module _ (f : ℕ → ℕ → ℕ) (s p q : List ℕ) (first : length s ≡ length p) (second : length s ≡ length q) where
+  pub paired_none : Compared s (bytewise f p q) 0 0
+  paired_none = compared_none s (bytewise f p q) (omega (arith, bytewise_length f p q (omega arith)))
+
+  pub paired_more : {acc i : ℕ} → Compared s (bytewise f p q) acc i → i < length s
+      → Compared s (bytewise f p q) (bit_or acc (bit_xor (get_or s i 0) (f (get_or p i 0) (get_or q i 0)))) (i + 1)
+  paired_more {acc} {i} c h =
+      compared_more c h (ap (bit_xor (get_or s i 0)) (bytewise_at f p q i (omega arith) (omega arith)))

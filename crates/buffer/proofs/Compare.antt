@@ -1,4 +1,4 @@
--- The test that two lists of bytes are the same: over lists put end to end and one byte further.
+-- The test that two lists of bytes are the same: over lists put end to end and one byte further; and zero bytes as such a test.
 -- Assumes nothing.
 use mathlib.Core.Path.{◌≡◌, refl, sym, ap, ap₂, ◌∙◌}
 use mathlib.Core.Bool.{Bool, ◌&&◌, and_assoc, and-true}
@@ -10,7 +10,7 @@ use native.Mathlib.Omega.{arith}
 use lib.Dec.{eqb}
 use lib.ListN.{length, get_or, take}
 use lib.Seq.{take-suc, length-take-le}
-use Rattle.buffer.specs.Field.{same}
+use Rattle.buffer.specs.Field.{same, all_zero, zeros}
 
 pub same_append : (a b : List ℕ) (x y : List ℕ) → length a ≡ length b → same (a ++ x) (b ++ y) ≡ same a b && same x y
 unfolding same
@@ -30,3 +30,8 @@ module _ (s t : List ℕ) (i : ℕ) (left : i < length s) (right : i < length t)
   same_more =
       rw add-one
       (ap₂ same (take-suc s i 0 left) (take-suc t i 0 right) ∙ same_append (take i s) (take i t) _ _ firsts ∙ simp and-true)
+
+pub zero_same : (s : List ℕ) → all_zero s ≡ same s (zeros (length s))
+unfolding same all_zero
+zero_same [] = refl
+zero_same (x ∷ s) = ap (λ (t : Bool). eqb x 0 && t) (zero_same s)

@@ -139,6 +139,17 @@ pub fn none_from(s: &[u8], n: usize) -> bool
     (byte >> (n % 8) == 0) & is_zero(&s[at + 1..])
 }
 
+/// Writes src over dst. A loop, as std's `copy_from_slice` of lent buffers that may overlap for all that the compiler knows becomes a call of
+/// `memmove`, which a program that links the archive would have to bring along.
+pub fn copy(dst: &mut [u8], src: &[u8])
+    requires { length dst.old ≡ length src.now }
+    ensures { dst.new ≡ src.now }
+{
+    for i in 0..src.len() {
+        dst[i] = src[i];
+    }
+}
+
 /// Copies n bytes of s to a place behind them.
 #[tactic(auto, using(crate::proofs::Patches::pasted))]
 pub fn copy_within(s: &mut [u8], from: usize, to: usize, n: usize)

@@ -12,7 +12,7 @@ use Rattle.board.specs.Board.{level_entry, alert_off_entry}
 use Rattle.std.specs.Prelude.{Option, Some, None}
 use Rattle.command.specs.declared.Kind.{Kind}
 use Rattle.command.specs.declared.Kind.TheVariants as kind_is
-use Rattle.command.specs.Code.{fork_command, merge_command, fast_forward_command, leave_command, make_hub_command, is_entry_code, kind_of}
+use Rattle.command.specs.Code.{fork_command, merge_command, fast_forward_command, leave_command, make_hub_command, is_entry_code, kind_of, kind_refusal}
 use Rattle.command.proofs.Limits.{within_false, each_entry}
 
 abbrev pub Says : ℕ → Option Kind → Type 0
@@ -42,3 +42,8 @@ pub kind_none : (code : ℕ) → alert_off_entry < code → code ≢ fork_comman
 unfolding kind_of
 kind_none code high fork merge forward leave hub =
     rw (ne_eqb code fork_command fork, within_false level_entry alert_off_entry code (λ p q. omega arith), ne_eqb code merge_command merge, ne_eqb code fast_forward_command forward, ne_eqb code leave_command leave, ne_eqb code make_hub_command hub)
+
+-- the refusal of a kind, where there is one, is 1
+pub kind_one : (k : Option Kind) → (kind_refusal k ≡ 0 → ⊥) → kind_refusal k ≡ 1
+kind_one None h = refl
+kind_one (Some k) h = absurd (h refl)

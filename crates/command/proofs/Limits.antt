@@ -6,13 +6,17 @@ use mathlib.Core.Bool.{Bool, true, false, cond, ◌&&◌}
 use native.Mathlib.Omega.{arith}
 use native.Mathlib.Decide.{ℕ_discrete}
 use lib.Dec.{eqb, leb, ltb}
-use borrow.Author.Tests.{eqb-true, leb-true, ltb-true}
-use Rattle.laws.proofs.Logic.{and_l, and_r, refuted}
+use borrow.Author.Tests.{eqb-true, leb-true, ltb-true, le-leb}
+use mathlib.Core.Logic.{◌≢◌}
+use Rattle.laws.proofs.Logic.{and_l, and_r, and_i, refuted}
 use Rattle.board.specs.Board.{strip_count, mark_count}
 use Rattle.command.specs.Code.{within, is_entry_code, is_strip, is_operand}
 
 pub within_true : (low high x : ℕ) → within low high x ≡ true → (low ≤ x) × (x ≤ high)
 within_true low high x h = (leb-true low x (and_l _ _ h), leb-true x high (and_r (leb low x) _ h))
+
+pub within_i : (low high x : ℕ) → low ≤ x → x ≤ high → within low high x ≡ true
+within_i low high x p q = and_i _ _ (le-leb low x p) (le-leb x high q)
 
 pub within_false : (low high x : ℕ) → (low ≤ x → x ≤ high → ⊥) → within low high x ≡ false
 within_false low high x h = refuted _ (λ t. h (within_true low high x t).0 (within_true low high x t).1)
@@ -33,6 +37,9 @@ each P low (suc n) x h p q =
 -- below and above the code 01, at which a match over the codes begins
 pub below_one : (x : ℕ) → x < 1 → x ≡ 0
 below_one x l = omega arith
+
+pub above_one : (x : ℕ) → 1 ≤ x → x ≢ 1 → 2 ≤ x
+above_one x l ne = omega arith
 
 -- what holds of the codes 02 to 08 holds of every code that makes an entry
 pub each_entry : (P : ℕ → Type 0) → P 2 → P 3 → P 4 → P 5 → P 6 → P 7 → P 8 → (code : ℕ) → is_entry_code code ≡ true → P code

@@ -15,7 +15,6 @@ use Rattle.command.specs.declared.Kind.TheVariants as kind_is
 use Rattle.command.specs.declared.Operands.{Operands}
 use Rattle.command.specs.declared.Command.{Command}
 use Rattle.std.specs.Prelude.{Option, Some, None, Ok, Err}
-use Rattle.command.specs.declared.Command.TheVariants.{MakeHub}
 use Rattle.command.specs.Code.{console_count, is_entry_code, kind_of, kind_refusal, is_console, is_strip, is_operand}
 use Rattle.command.specs.Decode.{code_in, operands_in, two_console_tests, entry_number_tests, leave_number_tests, code_tests, command_refusal, command_of, decoded_by, decode}
 use Rattle.command.specs.Decoding.{TwoConsoles, InRange}
@@ -44,9 +43,9 @@ leaving_console o h =
     let three = none_applies _ refl h in
     (ltb-true _ _ (not-false _ three.0), omega (arith, eqb-false o.first 0 three.1.0))
 
--- the command of a code and its operands, by its kind; where there is none, one without operands stands in
+-- the command of a code and its operands, by its kind; where there is none what a fast-forward gives
 abbrev pub command_by : Option Kind → ℕ → Operands → Command
-command_by None code o = MakeHub
+command_by None code o = command_of kind_is.FastForward code o
 command_by (Some k) code o = command_of k code o
 
 in_range_lem : (k : Option Kind) (code : ℕ) (o : Operands) → Says code k → kind_refusal k ≡ 0 → first_refusal (code_tests k code o) ≡ 0
@@ -62,6 +61,10 @@ in_range_lem None code o e z h = absurd (omega arith)
 -- the command at the front of a list of bytes, by its code
 abbrev pub command_in : List ℕ → Command
 command_in s = command_by (kind_of (code_in s)) (code_in s) (operands_in s)
+
+-- it is of any bytes: where the code is no command's, one of two consoles that makes no version
+pub command_unknown : (s : List ℕ) → kind_of (code_in s) ≡ None → command_in s ≡ command_of kind_is.FastForward (code_in s) (operands_in s)
+command_unknown s e = rw e refl
 
 -- where the code is no command's, it is refused with 1
 kind_missing : (s : List ℕ) → kind_of (code_in s) ≡ None → command_refusal s ≡ 1

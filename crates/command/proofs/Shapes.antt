@@ -1,6 +1,6 @@
 -- The shapes of codes: a command's code has one, and every shape is narrow.
 -- Assumes nothing.
-use Prim.Native.Nat.{ℕ, ◌<◌}
+use Prim.Native.Nat.{ℕ, ◌+◌, ◌≤◌, ◌<◌}
 use mathlib.Core.Path.{◌≡◌, refl}
 use mathlib.Core.Bool.{true}
 use mathlib.Core.Logic.{◌≢◌}
@@ -13,7 +13,7 @@ use Rattle.command.specs.declared.Kind.{Kind}
 use Rattle.command.specs.declared.Kind.TheVariants as kind_is
 use Rattle.std.specs.Prelude.{Option, Some, None}
 use Rattle.command.specs.declared.Widths.{Widths}
-use Rattle.command.specs.Code.{within, fork_command, merge_command, fast_forward_command, leave_command, make_hub_command, start_record, entry_record, merge_record, head_record, end_record, hub_record, kind_of, kind_refusal, shape_of, shape_refusal}
+use Rattle.command.specs.Code.{within, fork_command, merge_command, fast_forward_command, leave_command, make_hub_command, start_record, entry_record, merge_record, head_record, end_record, hub_record, kind_of, kind_refusal, widths, shape_of, shape_refusal, length_of}
 use Rattle.command.specs.Decode.{is_command_code}
 use Rattle.command.specs.Decoding.{narrow}
 use Rattle.command.proofs.Limits.{within_false, each_entry}
@@ -71,3 +71,9 @@ narrow_shape code =
     (either narrow (eqb code head_record) (λ h. omega arith)
     (either narrow (eqb code end_record) (λ h. omega arith)
     (either narrow (eqb code hub_record) (λ h. omega arith) tt))))))))))))
+
+-- what a length and narrow widths say of a known shape
+pub known_fits : {shape : Option Widths} {a b c d n : ℕ} → shape ≡ widths a b c d → narrow shape × (length_of shape ≤ n)
+    → narrow (widths a b c d) × (1 + a + b + c + d ≤ n)
+unfolding length_of
+known_fits e h = rw e at h

@@ -7,8 +7,8 @@ use mathlib.Core.Bool.{Bool, true, false, not, ◌&&◌}
 use mathlib.Core.List.{List, [], ◌∷◌, ◌++◌}
 use native.Mathlib.Omega.{arith}
 use lib.Dec.{eqb}
-use borrow.Author.Tests.{ne_eqb, eqb-false}
-use Rattle.laws.proofs.Logic.{and_l, and_r, not_e, cond_false}
+use borrow.Author.Tests.{eq-eqb, ne_eqb, eqb-false}
+use Rattle.laws.proofs.Logic.{and_l, and_r, not_e, cond_true, cond_false}
 use Rattle.refusal.specs.Refusal.{◌when◌, first_refusal, first_of}
 
 -- a refusal whose case is there is given, and one whose case is not leaves the later ones
@@ -62,10 +62,18 @@ first_append [] b h = refl
 first_append ((number, true) ∷ later) b h = rw (not_e (eqb number 0) (and_l (not (eqb number 0)) (numbered later) h))
 first_append ((number, false) ∷ later) b h = first_append later b (and_r (not (eqb number 0)) (numbered later) h)
 
+-- three tests one after the other
+pub first_three : (x y z : ℕ × Bool) → numbered (x ∷ []) ≡ true → numbered (y ∷ []) ≡ true
+    → first_of (first_refusal (x ∷ [])) (first_of (first_refusal (y ∷ [])) (first_refusal (z ∷ []))) ≡ first_refusal (x ∷ y ∷ z ∷ [])
+first_three x y z h k = rw (← first_append (y ∷ []) (z ∷ []) k) (sym (first_append (x ∷ []) (y ∷ z ∷ []) h))
+
 -- what the first group gives is given; where it gives none, the second group's is
 module _ (a b : List (ℕ × Bool)) (h : numbered a ≡ true) (n : ℕ) (e : n ≡ first_refusal a) where
   pub first_given : n ≢ 0 → n ≡ first_refusal (a ++ b)
   first_given given = e ∙ sym (first_append a b h ∙ cond_false _ _ _ (ne_eqb (first_refusal a) 0 (rw e at given)))
+
+  pub first_later : n ≡ 0 → first_refusal b ≡ first_refusal (a ++ b)
+  first_later none = sym (first_append a b h ∙ cond_true _ _ _ (eq-eqb (first_refusal a) 0 (sym e ∙ none)))
 
 -- where neither of two is given, none is
 pub first_none : (a b : ℕ) → first_of a b ≡ 0 → (a ≡ 0) × (b ≡ 0)

@@ -32,6 +32,9 @@ module _ (t : Content) (rise : consoles_rise t.heads ≡ true) (named : heads_na
   diagonal : Diagonal (room_of t) header
   diagonal = subst (Diagonal (room_of t)) (sym made) (heads_diagonal t rise named)
 
+  pub heads_long : length header ≡ header_size
+  heads_long = diagonal.long
+
   module _ (small : version_count t.versions ≤ max_capacity) where
     pub heads_low : (k : ℕ) → k < console_count → common_in header k k ≤ max_capacity
     heads_low k l = omega (arith, diagonal_read small diagonal k l, diagonal.named k l)

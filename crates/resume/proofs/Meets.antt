@@ -21,9 +21,10 @@ use Rattle.graph.proofs.Below.{highest_of, highest_some}
 use Rattle.graph.proofs.Ancestor.{ancestor_below, ancestor_le}
 use Rattle.graph.proofs.Meet.{Meet, meet_is, meet_found}
 use Rattle.store.specs.Layout.{row_size, head_from}
+use Rattle.store.specs.Rules.{is_base}
 use Rattle.store.proofs.Lineage.{lineage, meet_lineage, lineage_meet}
 use Rattle.room.specs.Sound.{max_capacity}
-use Rattle.resume.specs.Rows.{highest_common, RowsOf, field_when, meet_field}
+use Rattle.resume.specs.Rows.{highest_common, own_row, RowsOf, field_when, meet_field}
 
 highest_ext : (n : ℕ) (f g : ℕ → Bool) → ((k : ℕ) → k < n → f k ≡ g k) → highest_below n f ≡ highest_below n g
 unfolding highest_below
@@ -84,7 +85,16 @@ pub base_shown : {t : List ℕ} {g : Graph} → RowsOf t g → version_count g �
     → serves_as_base p q (head_from (meet_field t p q)) ≡ merge_has_base g (merge p q)
 base_shown r small p q a b = ap (serves_as_base p q) (meet_shown r small p q a b)
 
--- what the code finds where two versions serve as parents of a merge
+-- what the code finds, step by step
+pub field_told : (t : List ℕ) (u v : ℕ) {p q m : List ℕ} {h : ℕ} {b : Bool} → p ≡ own_row t u → q ≡ own_row t v → h ≡ highest_common p q → m ≡ own_row t h
+    → b ≡ same m (intersection p q) → field_when b h ≡ meet_field t u v
+unfolding meet_field
+field_told t u v {p} {q} {m} {h} {b} e f k n s = rw (s, n, k, e, f)
+
 pub serves_when : (b : Bool) (h p q : ℕ) → not (eqb h p) && not (eqb h q) && b ≡ serves_as_base p q (head_from (field_when b h))
 serves_when true h p q = and-true (not (eqb h p) && not (eqb h q))
 serves_when false h p q = and-false (not (eqb h p) && not (eqb h q))
+
+pub base_told : (t : List ℕ) (p q : ℕ) {mine given base : List ℕ} {h : ℕ} {b : Bool} → mine ≡ own_row t p → given ≡ own_row t q
+    → h ≡ highest_common mine given → base ≡ own_row t h → b ≡ is_base h p q base mine given → b ≡ serves_as_base p q (head_from (meet_field t p q))
+base_told t p q {h = h} e f k n s = s ∙ serves_when _ h p q ∙ ap (λ x. serves_as_base p q (head_from x)) (field_told t p q e f k n refl)

@@ -2,22 +2,24 @@
 -- Assumes nothing.
 use Prim.Native.Nat.{ℕ, zero, suc, ◌+◌, ◌-◌, ◌≤◌, ◌<◌}
 use mathlib.Core.Path.{◌≡◌, refl, sym, ◌∙◌, ap, ap₂}
-use mathlib.Core.Bool.{true, false, ◌&&◌, and-true, and_comm}
+use mathlib.Core.Bool.{Bool, true, false, ◌&&◌, and-true, and_assoc, and_comm}
 use mathlib.Core.List.{List, [], ◌∷◌}
 use mathlib.Core.Option.{some}
 use native.Mathlib.Omega.{arith}
 use lib.Dec.{ltb}
 use lib.ListN.{length, drop}
+use borrow.Author.Tests.{le-leb, lt-leb}
 use Rattle.laws.proofs.Logic.{clash, refuted, and_l, and_r, and_i, and_pairs}
 use Rattle.graph.specs.declared.Node.{Node}
 use Rattle.graph.specs.declared.Node.TheVariants.{Entry, Merge}
 use Rattle.graph.specs.Graph.{Graph, version_count, every_version, parents_lower}
 use Rattle.graph.proofs.Ancestor.{every_new}
 use Rattle.command.specs.Code.{is_entry_code, is_strip, is_operand}
+use Rattle.room.specs.declared.Settings.{Settings}
 use Rattle.room.specs.Sound.{entry_in_range}
 use Rattle.store.specs.Rules.{node_in_range}
 use Rattle.tape.specs.Record.{record_in}
-use Rattle.tape.specs.Tape.{Content, content_of, consoles_rise, heads_named}
+use Rattle.tape.specs.Tape.{Content, content_of, consoles_rise, heads_named, in_range}
 use Rattle.tape.specs.Reader.{place_after, node_on, head_on, first_versions, first_heads, start_length, head_place}
 use Rattle.buffer.proofs.Parts.{Bytes}
 use Rattle.std.specs.Prelude.{Option as Found, Some, None}
@@ -122,3 +124,17 @@ module _ (tape : List ℕ) (t : Content) (bytes : Bytes tape) (says : content_of
           sym (and_pairs (rising earlier) (heads_named t.versions earlier) (console_follows (last_console earlier) c) (ltb v (version_count t.versions)))
               ∙ and_i _ _ a.built.1 (sym head_tested ∙ tested),
         )
+
+-- the tests together
+pub all_tests : (t : Content) (settings : Settings) (versions-ok heads-ok : Bool) → settings ≡ t.settings → length t.versions < settings.capacity
+    → versions-ok ≡ versions_in_range t.versions → heads-ok ≡ (consoles_rise t.heads && heads_named t.versions t.heads)
+    → versions-ok && heads-ok ≡ in_range t
+all_tests t settings v h c l ve he =
+    let size = ap (λ (x : Settings). x.capacity) c in
+    rw (ve, he, le-leb (version_count t.versions) t.settings.capacity (omega arith))
+    (sym (and_assoc (versions_in_range t.versions) (consoles_rise t.heads) (heads_named t.versions t.heads)))
+
+pub too_many_versions : (t : Content) (settings : Settings) → settings ≡ t.settings → settings.capacity ≤ length t.versions → false ≡ in_range t
+too_many_versions t settings c l =
+    let size = ap (λ (x : Settings). x.capacity) c in
+    rw (lt-leb (version_count t.versions) t.settings.capacity (omega arith))

@@ -80,6 +80,9 @@ module _ (t : Content) (sound : sound_room (room_of t) ≡ true) (old : List ℕ
     large : header_size ≤ length old
     large = let f = fits in omega arith
 
+    pub header_fits : header_size ≤ length now
+    header_fits = let h = large in let l = now_long in omega arith
+
     -- behind and before the table, and but for the count
     outside : (k : ℕ) → (commons_at ≤ k → k < commons_end → ⊥) → get_or final k 0 ≡ get_or counted k 0
     outside k a =

@@ -1,7 +1,9 @@
 // The ancestry rows of a tape's versions in an array of their own, one behind the other, and what they have in common.
 ghost use Rattle.std.specs.Prelude.{◌≡◌, true, ◌*◌, ◌/◌, ◌^◌, ◌<◌, ◌≤◌, length};
+ghost use Rattle.std.specs.Int.Bits.{bit_and};
 ghost use Rattle.buffer.specs.Field.{zeros, with_part};
 ghost use Rattle.buffer.specs.Row.{with_member, union};
+ghost use Rattle.buffer.specs.Word.{long_word};
 ghost use Rattle.graph.specs.Graph.{serves_as_base};
 ghost use Rattle.room.specs.Sound.{max_capacity};
 ghost use Rattle.store.specs.Layout.{row_size, head_from};
@@ -19,24 +21,35 @@ use store::rules::is_base;
 // The bytes of the rows of all the versions that a store can hold.
 const ROWS: usize = ROW * MAX_CAPACITY;
 
-// The highest bit of a byte that is not 0.
-fn top_bit(x: u8) -> usize
+// The highest bit of a word that is not 0.
+fn top_bit(x: u64) -> usize
     requires { 0 < x }
-    ensures { (result < 8) × (x / 2 ^ result ≡ 1) }
+    ensures { (result < 64) × (x / 2 ^ result ≡ 1) }
 {
     x.ilog2() as usize
 }
 
+// The members that two rows of eight bytes have in common, as the bits of a word.
+fn common_word(p: &[u8; 8], q: &[u8; 8]) -> u64
+    ensures { result ≡ bit_and (long_word p.now) (long_word q.now) }
+{
+    u64::from_le_bytes(*p) & u64::from_le_bytes(*q)
+}
+
 // The highest version that two rows have in common; 0 where there is none, as the definition says, which a base is made by.
+// A word of 64 versions at a time: where a tape has 16 heads, 120 pairs of rows are gone through, most of them from the top down to the few
+// versions that there are.
 fn highest_common(p: &[u8], q: &[u8]) -> Version
     requires p_len { length p.now ≡ row_size }
     requires q_len { length q.now ≡ row_size }
     ensures { (result.0 ≡ highest_common p.now q.now) × (result.0 < max_capacity) }
 {
-    for k in (0..ROW).rev() {
-        let x = p[k] & q[k];
+    let (words, _) = p.as_chunks::<8>();
+    let (others, _) = q.as_chunks::<8>();
+    for k in (0..ROW / 8).rev() {
+        let x = common_word(&words[k], &others[k]);
         if x != 0 {
-            return Version(8 * k + top_bit(x));
+            return Version(64 * k + top_bit(x));
         }
     }
     Version(0)

@@ -17,7 +17,7 @@ use Rattle.refusal.specs.Refusal.{first_refusal}
 use Rattle.refusal.proofs.Refusals.{none_applies}
 use Rattle.room.specs.Room.{Room, present}
 use Rattle.room.specs.Sound.{can_make_hub}
-use Rattle.room.specs.Step.{absent, behind, beside_hub, some_third_splits, other_descends, some_other_descends, version_free, merge_tests, fast_forward_tests, state_tests, step_refusal}
+use Rattle.room.specs.Step.{absent, behind, beside_hub, some_third_splits, other_descends, some_other_descends, version_free, receiver_giver_tests, merge_tests, fast_forward_tests, state_tests, step_refusal}
 
 -- one of two consoles is the hub, where the room has one
 abbrev pub Through : Room → ℕ → ℕ → Type 0
@@ -83,6 +83,10 @@ may_take r a b both through ahead =
       through = through;
       ahead = ahead;
     }
+
+-- both ask for it by their first three tests
+pub take_passes : (r : Room) (a b : ℕ) → first_refusal (receiver_giver_tests r a b) ≡ 0 → MayTake r a b
+take_passes r a b h = let t = none_applies _ refl h in may_take r a b t.0 t.1.0 t.1.1.0
 
 -- a fast-forward, and that the receiver is behind the giver
 pub forward_passes : (r : Room) (a b : ℕ) → first_refusal (fast_forward_tests r a b) ≡ 0 → MayTake r a b × (behind r a b ≡ true)

@@ -6,6 +6,7 @@ use mathlib.Core.Logic.{◌⊎◌, inl, inr}
 use mathlib.Core.Bool.{Bool, true, false, cond, not, ◌&&◌, ◌||◌, and_comm}
 use mathlib.Core.List.{[], ◌∷◌}
 use native.Mathlib.Omega.{arith}
+use native.Mathlib.Decide.{ℕ_discrete}
 use borrow.Author.Tests.{eqb-true, eq-eqb, ne_eqb, eqb-false, not-false}
 use lib.Dec.{eqb}
 use Rattle.laws.proofs.Logic.{clash, decide, either, refuted, implies_i, implies_e, or_none_l, or_none_r}
@@ -101,6 +102,13 @@ module _ (r : Room) (c d : ℕ) where
       let may = merge_asks h in
       rw (may.take.giver, may.take.receiver, and_comm (beside_hub r d) (beside_hub r c) ∙ may.take.through, may.back, may.take.ahead, splits_either_way r c d may.unsplit)
 
+  -- a number of ten bits
+  pair_small : c < console_count → d < console_count → pair_number r c d < 1024
+  unfolding pair_number
+  pair_small l m =
+      either (λ x. x < 1024) (eqb c d) (λ _. omega arith)
+      (either (λ x. x < 1024) (can_merge r c d) (λ _. omega arith) (either (λ x. x < 1024) (can_fast_forward r c d) (λ _. omega arith) (omega arith)))
+
   -- a pair has a number by its merge or by its fast-forward
   pub numbered_by : (pair_number r c d ≡ 0 → ⊥) → (c ≡ d → ⊥) × ((can_merge r c d ≡ true) ⊎ (can_fast_forward r c d ≡ true))
   numbered_by given = (
@@ -173,6 +181,15 @@ module _ (r : Room) where
   pub none_answered : first_pair r ≡ 0 → {agree : Bool} → heads_agree r ≡ agree → mergeable r ≡ number_of (cond agree all_agree stuck)
   unfolding mergeable
   none_answered none e = rw (none, e)
+
+  pub mergeable_small : mergeable r < 1024
+  mergeable_small =
+      elim (ℕ_discrete (first_pair r) 0) [
+        | yes none ↦ rw (none_answered none refl) (either (λ v. number_of v < 1024) (heads_agree r) (λ _. omega arith) (omega arith))
+        | no given ↦
+            let pair = pair_found given in
+            omega (arith, pair_answered given, pair.numbered, pair_small r pair.receiver pair.giver pair.receiver_console pair.giver_console)
+      ]
 
   -- every head is console 0's
   pub agree_heads : heads_agree r ≡ true → (c : ℕ) → c < console_count → present r c ≡ true → head r c ≡ head r 0

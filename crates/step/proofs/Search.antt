@@ -1,14 +1,37 @@
--- The invariant of loops over the consoles that stop at the first number that is not 0.
+-- The invariants of loops over the consoles.
 -- Assumes nothing.
 use Prim.Native.Nat.{ℕ, ◌+◌, ◌≤◌, ◌<◌}
-use mathlib.Core.Path.{◌≡◌, sym, ◌∙◌, ap}
+use mathlib.Core.Path.{◌≡◌, refl, sym, ◌∙◌, ap}
+use mathlib.Core.Bool.{Bool, true, false}
+use native.Mathlib.Numerals.{add-one}
 use native.Mathlib.Omega.{arith}
 use native.Mathlib.Decide.{ℕ_discrete}
-use Rattle.graph.specs.Below.{first_nonzero}
-use Rattle.graph.proofs.Below.{first_none, first_is}
+use Rattle.laws.proofs.Logic.{or_none}
+use Rattle.graph.specs.Below.{some_below, first_nonzero}
+use Rattle.graph.proofs.Below.{some_of, first_none, first_is}
 use Rattle.command.specs.Code.{console_count}
 
--- there was none before n
+-- For one that asks whether some console passes a test, and stops where it does: none before n did.
+pub record Missed (f : ℕ → Bool) (n : ℕ) : Type 0 where
+  pub within : n ≤ console_count
+  pub told : some_below n f ≡ false
+
+pub missed_none : (f : ℕ → Bool) → Missed f 0
+unfolding some_below
+missed_none f = record { within = omega arith; told = refl }
+
+module _ {f : ℕ → Bool} {n : ℕ} (o : Missed f n) where
+  pub missed_again : {b : Bool} → n < console_count → b ≡ f n → b ≡ false → Missed f (n + 1)
+  unfolding some_below
+  missed_again l e fails = record { within = omega arith; told = rw add-one (or_none _ _ o.told (sym e ∙ fails)) }
+
+  pub missed_all : console_count ≤ n → false ≡ some_below console_count f
+  missed_all l = let w = o.within in let e : n ≡ console_count = omega arith in sym (rw e at o.told)
+
+pub missed_found : (f : ℕ → Bool) {n : ℕ} {b : Bool} → n < console_count → b ≡ f n → b ≡ true → true ≡ some_below console_count f
+missed_found f {n} l e passes = sym (some_of console_count f n l (sym e ∙ passes))
+
+-- For one that stops at the first number that is not 0: there was none before n.
 pub record NoneSoFar (f : ℕ → ℕ) (n : ℕ) : Type 0 where
   pub within : n ≤ console_count
   pub none : (k : ℕ) → k < n → f k ≡ 0

@@ -7,8 +7,39 @@ use mathlib.Core.List.{List}
 use native.Mathlib.Omega.{arith}
 use native.Mathlib.Decide.{ℕ_discrete}
 use native.Mathlib.Numerals.{add-one}
-use Rattle.laws.proofs.Logic.{and_r, and_i, and_none, clash, refuted}
-use Rattle.store.specs.Check.{root_right, version_right, versions_right}
+use lib.Dec.{ltb}
+use borrow.Author.Tests.{ltb-true}
+use Rattle.laws.proofs.Logic.{and_l, and_r, and_i, and_none, clash, refuted}
+use Rattle.board.specs.Board.{strip_count}
+use Rattle.graph.specs.declared.Version.{Version}
+use Rattle.graph.specs.declared.Strip.{Strip}
+use Rattle.graph.specs.declared.Node.{Node}
+use Rattle.graph.specs.declared.Node.TheVariants.{Entry, Merge}
+use Rattle.store.specs.Layout.{node_in}
+use Rattle.store.specs.Rules.{entry_ranges, both_below, node_in_range}
+use Rattle.store.specs.Check.{root_right, node_parts, version_right, versions_right}
+
+-- the numbers of a version in range, where it is an entry and where it is a merge
+pub entry_ranged : {v : ℕ} {node : Node} {p : Version} {code : ℕ} {strip : Strip} {operand : ℕ} → node ≡ Entry p code strip operand → node_in_range v node ≡ true
+    → (p.0 < v) × (strip.0 < strip_count)
+entry_ranged {v} {p = p} {code = code} {strip = strip} {operand = operand} e h =
+    let t : entry_ranges v p.0 code strip.0 operand ≡ true = rw e at h in
+    (ltb-true p.0 v (search (and_l, and_r)), ltb-true strip.0 strip_count (search (and_l, and_r)))
+
+pub merge_ranged : {v : ℕ} {node : Node} {p q : Version} → node ≡ Merge p q → node_in_range v node ≡ true → (p.0 < v) × (q.0 < v)
+merge_ranged {v} {p = p} {q = q} e h =
+    let t : both_below v p.0 q.0 ≡ true = rw e at h in
+    (ltb-true p.0 v (and_l (ltb p.0 v) (ltb q.0 v) t), ltb-true q.0 v (and_r (ltb p.0 v) (ltb q.0 v) t))
+
+-- a version whose numbers are in their ranges is right by its parts, and another is wrong
+module _ (s : List ℕ) (v : ℕ) (node : Node) (e : node ≡ node_in s v) (r : Bool) (er : r ≡ node_in_range v node) where
+  pub version_told : r ≡ true → (o : Bool) → o ≡ node_parts s v node → o ≡ version_right s v
+  unfolding version_right
+  version_told t o h = rw (← e, sym er ∙ t) h
+
+  pub version_refused : r ≡ false → false ≡ version_right s v
+  unfolding version_right
+  version_refused f = rw (← e, sym er ∙ f)
 
 -- the versions, one by one
 fails : (s : List ℕ) (k n : ℕ) → k ≤ n → versions_right s k ≡ false → versions_right s n ≡ false

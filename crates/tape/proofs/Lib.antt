@@ -5,5 +5,6 @@ pub mod Reading
 pub mod Written
 pub mod RoundTrip
 pub mod Places
+pub mod Sorts
 pub mod Scans
 pub mod Located

@@ -7,7 +7,7 @@ use room::Settings;
 use std::marker::Model;
 
 /// A whole tape; its value is what it says.
-#[derive(Drop)]
+#[derive(Clone, Drop)]
 pub struct WholeTape<'a> {
     pub(crate) bytes: &'a [u8],
     pub(crate) settings: Settings,

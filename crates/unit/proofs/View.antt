@@ -1,6 +1,6 @@
 -- A view and the store that it lies in: what holds where it is not refused, what it shows and where, and the claim about it.
 -- Assumes nothing.
-use Prim.Native.Nat.{ℕ, ◌+◌, ◌≤◌, ◌<◌}
+use Prim.Native.Nat.{ℕ, ◌+◌, ◌^◌, ◌≤◌, ◌<◌}
 use mathlib.Core.Path.{◌≡◌, refl, sym, ◌∙◌, ap, subst}
 use mathlib.Core.Logic.{◌≢◌}
 use mathlib.Core.Bool.{Bool, true, false, cond, not}
@@ -20,12 +20,18 @@ use Rattle.room.proofs.Lengths.{board_of-length}
 use Rattle.room.proofs.Steps.{common_self}
 use Rattle.store.specs.Layout.{board_at, encode, room_in, holds_store}
 use Rattle.store.proofs.RoundTrip.{room_over, holds_over, holds_sound}
-use Rattle.store.proofs.Whole.{whole_sound, whole_block}
+use Rattle.store.proofs.Whole.{whole_sound, whole_small, whole_block}
 use Rattle.query.proofs.Answers.{head_answer, board_answer}
 use Rattle.unit.specs.Calls.{Outcome, buffer_tests, console_state_tests, console_tests, board_shown, pane_outcome, chosen, is_choice, view_tests, view_part, view_at_reply, view_address, view_refusal_reply}
 use Rattle.unit.specs.View.{view_of, refused_view, shown_view, Told, AsPaused, Viewed}
 use Rattle.unit.proofs.Answered.{Allowed, pair_answered}
 use Rattle.unit.proofs.RoundTrip.{pause_allowed, store_over, paused_resumes}
+
+-- a buffer lies where its first byte does, and so does the empty part that a refused view is; in `room_view` the check finds it by itself
+address_front : (pointer : ℕ × ℕ) → pointer ≡ address_of pointer 0
+address_front pointer =
+    let front : pointer.1 ≡ 0 + pointer.1 = omega arith in
+    λ i. (pointer.0, front i)
 
 -- what holds where a view is not refused
 pub view_allowed : (live frozen : List ℕ) (console choice : ℕ) {n : ℕ} → n ≡ first_refusal (view_tests live frozen console choice) → n ≡ 0
@@ -41,6 +47,9 @@ view_allowed live frozen console choice e z =
 module _ (store : List ℕ) (console : ℕ) (a : Allowed store console console) where
   head_low : head (room_in store) console < version_count (room_in store).versions
   head_low = rw (head_answer store a.held console a.first).0 at (head_answer store a.held console a.first).1
+
+  pub place_low : board_at (head (room_in store) console) < 2 ^ 32
+  place_low = omega (arith, whole_small store a.held, head_low)
 
   board_inside : board_at (head (room_in store) console) + board_size ≤ length store
   board_inside = omega (arith, whole_block store a.held (head (room_in store) console) head_low)

@@ -5,8 +5,8 @@ use mathlib.Core.Path.{◌≡◌, refl, ap, ◌∙◌}
 use mathlib.Core.List.{List, ◌++◌}
 use native.Mathlib.Omega.{arith}
 use lib.Bits.{bit_or}
-use lib.ListN.{length, take, drop, length-append, length-set}
-use Rattle.buffer.specs.Field.{with_part}
+use lib.ListN.{length, set, take, drop, length-append, length-set}
+use Rattle.buffer.specs.Field.{byte, put_word, zeros, with_part}
 use Rattle.buffer.specs.Row.{with_member, union}
 use Rattle.buffer.proofs.Fields.{part_length}
 use Rattle.buffer.proofs.Bytewise.{bytewise_length}
@@ -15,9 +15,18 @@ use Rattle.board.specs.Board.{board_size, enter, merge_board}
 use Rattle.board.proofs.Length.{enter_length, merge_board-length}
 use Rattle.graph.specs.declared.Node.{Node}
 use Rattle.graph.specs.declared.Node.TheVariants.{Entry, Merge}
-use Rattle.store.specs.Layout.{node_size, row_size, block_size, entries_at, block_at, row_at, board_at, entry_node_bytes, merge_node_bytes}
+use Rattle.store.specs.Layout.{node_size, row_size, block_size, entries_at, block_at, row_at, board_at, entry_node_bytes, merge_node_bytes, merge_node_code}
 use Rattle.store.specs.Check.{row_part, board_part, merge_of_boards, entries_part}
 use Rattle.update.specs.Append.{entry_block, merge_block, with_entry, with_merge, node_with}
+
+-- the nodes, from their first byte on
+pub entry_node_made : (node z a b c d : List ℕ) (p code strip operand : ℕ) → length node ≡ node_size → z ≡ zeros (length node)
+    → a ≡ set z 0 (byte code) → b ≡ set a 1 (byte strip) → c ≡ put_word b 2 operand → d ≡ put_word c 4 p → d ≡ entry_node_bytes p code strip operand
+entry_node_made node z a b c d p code strip operand l ez ea eb ec ed = rw (ed, ec, eb, ea, ez, l)
+
+pub merge_node_made : (node z a b c d : List ℕ) (p q l : ℕ) → length node ≡ node_size → z ≡ zeros (length node)
+    → a ≡ set z 0 (byte merge_node_code) → b ≡ put_word a 4 p → c ≡ put_word b 6 q → d ≡ put_word c 8 l → d ≡ merge_node_bytes p q l
+merge_node_made node z a b c d p q l long ez ea eb ec ed = rw (ed, ec, eb, ea, ez, long)
 
 pub node_long : (node : Node) (l : ℕ) → length (node_with node l) ≡ node_size
 node_long (Entry p code strip operand) l = refl

@@ -165,7 +165,7 @@ pub fn append_merge(s: &mut [u8], n: Version, p: Version, q: Version, l: Version
     put_merge_board(s, n, p, q, l)
 }
 
-// Writes version n, whatever made it; of a merge, with its base.
+// Writes version n, whatever made it; of a merge, with its base. The clashes of a merge are let go.
 pub fn append_version(s: &mut [u8], n: Version, node: Node, base: Version)
     requires n_lt_max_capacity { (n.0 < max_capacity) × (block_at (suc n.0) ≤ length s.old) }
     requires node_value { (node_in_range n.0 node ≡ true) × (base.0 < n.0) }
@@ -179,7 +179,9 @@ pub fn append_version(s: &mut [u8], n: Version, node: Node, base: Version)
             operand,
         } => append_entry(s, n, parent, code, strip, operand),
         Node::Merge { receiver, giver } => {
-            append_merge(s, n, receiver, giver, base);
+            put_node(s, n, node, base);
+            put_merge_row(s, n, receiver, giver);
+            put_merge_board(s, n, receiver, giver, base);
         }
     }
 }
